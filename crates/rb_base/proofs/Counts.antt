@@ -1,9 +1,6 @@
 -- How many of a list pass a test.
-use Rattle.std.proofs.Common.{◌≡◌, ℕ, ◌+◌, ◌<◌, ◌≤◌, Bool, true, false, cond, not, ◌||◌, List, [], ◌∷◌, ◌++◌, length, map, take, get_or, refl, ap, arith}
+use Rattle.std.proofs.{Common.{◌≡◌, ℕ, ◌+◌, ◌<◌, ◌≤◌, Bool, true, false, cond, not, ◌||◌, List, [], ◌∷◌, ◌++◌, length, map, take, get_or, refl, ap, arith}, lemmas.List.take_more, lemmas.List.Elements.{All-head, All-tail}, lemmas.List.Recursion.is_count_by}
 use Rattle.std.specs.Prelude.{count_by, All}
-use Rattle.std.proofs.lemmas.List.{take_more}
-use Rattle.std.proofs.lemmas.List.Elements.{All-head, All-tail}
-use Rattle.std.proofs.lemmas.List.Recursion.{is_count_by}
 use Rattle.rb_base.specs.Counting.{count_if}
 
 -- one item counts at most once

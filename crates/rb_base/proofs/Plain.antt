@@ -1,9 +1,6 @@
 -- Tests, numbers, options and lists: what std has no name for.
-use Rattle.std.proofs.Common.{◌≡◌, ℕ, zero, suc, max, ◌+◌, ◌*◌, ◌<◌, ◌≤◌, ◌⊎◌, Bool, true, false, cond, not, ◌||◌, ◌&&◌, ◌==◌, nat_lt, if◌then◌else◌, List, [], ◌∷◌, ◌++◌, length, take, filter, slice_get, Option, Some, None, is_some, option_map, Result, Ok, Err, OnErr, inl, inr, refl, sym, ◌∙◌, ap, arith}
-use Rattle.std.specs.List.{last_or, range_with_len}
-use Rattle.std.specs.Option.{option_or}
-use Rattle.std.proofs.lemmas.Bool.{or_cases}
-use Rattle.std.proofs.lemmas.Bool.Decides.{nat_tests}
+use Rattle.std.proofs.{Common.{◌≡◌, ℕ, zero, suc, max, ◌+◌, ◌*◌, ◌<◌, ◌≤◌, ◌⊎◌, Bool, true, false, cond, not, ◌||◌, ◌&&◌, ◌==◌, nat_lt, if◌then◌else◌, List, [], ◌∷◌, ◌++◌, length, take, filter, slice_get, Option, Some, None, is_some, option_map, Result, Ok, Err, OnErr, inl, inr, refl, sym, ◌∙◌, ap, arith}, lemmas.Bool.or_cases, lemmas.Bool.Decides.nat_tests}
+use Rattle.std.specs.{List.{last_or, range_with_len}, Option.option_or}
 use Rattle.rb_base.specs.Counting.{numbers}
 
 -- ---- tests

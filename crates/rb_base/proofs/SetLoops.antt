@@ -1,9 +1,7 @@
 -- Sets that grow by one number after the other: of the numbers below k, those that pass a test.
-use Rattle.std.proofs.Common.{◌≡◌, ℕ, ◌+◌, ◌<◌, Bool, true, false, ◌||◌, ◌&&◌, ◌==◌, nat_lt, inl, inr, refl, sym, ◌∙◌, ap, arith}
-use Rattle.std.proofs.lemmas.Bool.{cases_order, le-ltb, lt-ltb}
+use Rattle.std.proofs.{Common.{◌≡◌, ℕ, ◌+◌, ◌<◌, Bool, true, false, ◌||◌, ◌&&◌, ◌==◌, nat_lt, inl, inr, refl, sym, ◌∙◌, ap, arith}, lemmas.Bool.{cases_order, le-ltb, lt-ltb}}
 use Rattle.rb_base.specs.Nodes.{has, set_of}
-use Rattle.rb_base.proofs.Plain.{eq_self}
-use Rattle.rb_base.proofs.Sets.{eq_other, has-set_of, has_none, is_set_of, same_set_of}
+use Rattle.rb_base.proofs.{Plain.eq_self, Sets.{eq_other, has-set_of, has_none, is_set_of, same_set_of}}
 
 -- the numbers below k that pass
 abbrev pub passing_below : ℕ → (ℕ → Bool) → ℕ

@@ -1,18 +1,8 @@
 -- How many nodes sets have.
-use Rattle.std.proofs.Common.{◌≡◌, ℕ, zero, suc, ◌+◌, ◌/◌, ◌%◌, ◌^◌, ◌<◌, ◌≤◌, Bool, true, false, cond, not, ◌||◌, ◌&&◌, ◌==◌, nat_lt, count_ones, inl, inr, refl, sym, ◌∙◌, ap, add-one, arith}
-use Rattle.std.specs.Int.{bit_at}
-use Rattle.std.specs.Int.Count.{ones_step}
-use Rattle.std.specs.List.{range_with_len}
-use Rattle.std.proofs.lemmas.Bool.{cases_lt, le-ltb, lt-ltb}
-use Rattle.std.proofs.lemmas.Bool.Decides.{nat_tests}
-use Rattle.std.proofs.lemmas.List.FromFn.{length-range_with_len}
-use Rattle.std.proofs.lemmas.Nat.{ones_le_self}
-use Rattle.std.proofs.lemmas.Nat.Bits.{bit_at-lt, bit_at-suc, bit_at_lowest}
-use Rattle.rb_base.specs.Counting.{count_if, numbers}
-use Rattle.rb_base.specs.Nodes.{has, set_of, size}
-use Rattle.rb_base.proofs.Counts.{count_if-le_length, count_if-same}
-use Rattle.rb_base.proofs.Plain.{eq_self}
-use Rattle.rb_base.proofs.Sets.{eq_other, has-set_of, has_none, same_set_of}
+use Rattle.std.proofs.{Common.{◌≡◌, ℕ, zero, suc, ◌+◌, ◌/◌, ◌%◌, ◌^◌, ◌<◌, ◌≤◌, Bool, true, false, cond, not, ◌||◌, ◌&&◌, ◌==◌, nat_lt, count_ones, inl, inr, refl, sym, ◌∙◌, ap, add-one, arith}, lemmas.Bool.{cases_lt, le-ltb, lt-ltb}, lemmas.Bool.Decides.nat_tests, lemmas.List.FromFn.length-range_with_len, lemmas.Nat.ones_le_self, lemmas.Nat.Bits.{bit_at-lt, bit_at-suc, bit_at_lowest}}
+use Rattle.std.specs.{Int.bit_at, Int.Count.ones_step, List.range_with_len}
+use Rattle.rb_base.specs.{Counting.{count_if, numbers}, Nodes.{has, set_of, size}}
+use Rattle.rb_base.proofs.{Counts.{count_if-le_length, count_if-same}, Plain.eq_self, Sets.{eq_other, has-set_of, has_none, same_set_of}}
 
 abbrev one_if : Bool → ℕ
 one_if b = cond b 1 0

@@ -1,11 +1,6 @@
 -- Sets of nodes: what is in a set that a test makes, and when two sets are one.
-use Rattle.std.proofs.Common.{◌≡◌, ◌≢◌, ℕ, min, max, zero, suc, ◌+◌, ◌-◌, ◌*◌, ◌/◌, ◌%◌, ◌^◌, ◌<◌, ◌≤◌, ◌⊎◌, Bool, true, false, cond, not, ◌||◌, ◌&&◌, ◌==◌, nat_lt, bit_and, bit_or, w16, inl, inr, refl, sym, ◌∙◌, ap, add-zero, arith}
+use Rattle.std.proofs.{Common.{◌≡◌, ◌≢◌, ℕ, min, max, zero, suc, ◌+◌, ◌-◌, ◌*◌, ◌/◌, ◌%◌, ◌^◌, ◌<◌, ◌≤◌, ◌⊎◌, Bool, true, false, cond, not, ◌||◌, ◌&&◌, ◌==◌, nat_lt, bit_and, bit_or, w16, inl, inr, refl, sym, ◌∙◌, ap, add-zero, arith}, lemmas.Bool.{cases_lt, cases_order, le-ltb, lt-ltb}, lemmas.Bool.Decides.nat_tests, lemmas.Nat.{and_le_l, and_le_r, or_lt}, lemmas.Nat.Bits.{bit_at-lt, bit_at-suc, bit_at_lowest, bit_at-pow_other, bit_at-pow_same, bit_at-trailing_zeros, bit_at-zero, bit_at_above, bit_at_and, bit_at_cat_high, bit_at_cat_low, bit_at_clear_other, bit_at_clear_same, bit_at_not, bit_at_ones, bit_at_ones_above, bit_at_or, bit_at_set_other, bit_at_set_same, same_from_bits_below}, Math.Pow.pow_mono}
 use Rattle.std.specs.Int.{bit_at, trailing_zeros}
-use Rattle.std.proofs.lemmas.Bool.{cases_lt, cases_order, le-ltb, lt-ltb}
-use Rattle.std.proofs.lemmas.Bool.Decides.{nat_tests}
-use Rattle.std.proofs.lemmas.Nat.{and_le_l, and_le_r, or_lt}
-use Rattle.std.proofs.lemmas.Nat.Bits.{bit_at-lt, bit_at-suc, bit_at_lowest, bit_at-pow_other, bit_at-pow_same, bit_at-trailing_zeros, bit_at-zero, bit_at_above, bit_at_and, bit_at_cat_high, bit_at_cat_low, bit_at_clear_other, bit_at_clear_same, bit_at_not, bit_at_ones, bit_at_ones_above, bit_at_or, bit_at_set_other, bit_at_set_same, same_from_bits_below}
-use Rattle.std.proofs.Math.Pow.{pow_mono}
 use Rattle.rb_base.specs.Nodes.{TakesFirst, has, set_below, set_of}
 use Rattle.rb_base.proofs.Plain.{and-false, and-same, and-true, eq_self, more-differs, or-false, or-true}
 

@@ -1,6 +1,5 @@
 -- Numbers in order, and how many of a list pass a test.
-use Rattle.std.specs.Prelude.{ℕ, ◌+◌, Bool, List, [], ◌∷◌, cond}
-use Rattle.std.specs.List.{range_with_len}
+use Rattle.std.specs.{Prelude.{ℕ, ◌+◌, Bool, List, [], ◌∷◌, cond}, List.range_with_len}
 
 -- the numbers below n, in order
 abbrev pub numbers : ℕ → List ℕ

@@ -1,7 +1,6 @@
 -- The kinds of node, and sets of nodes of one kind. A set is the number whose bit i says whether
 -- node i is in it.
-use Rattle.std.specs.Prelude.{ℕ, zero, suc, ◌≡◌, ◌+◌, ◌^◌, ◌<◌, Bool, true, false, ◌==◌, ◌&&◌, not, cond, if◌then◌else◌}
-use Rattle.std.specs.Int.{bit_at}
+use Rattle.std.specs.{Prelude.{ℕ, zero, suc, ◌≡◌, ◌+◌, ◌^◌, ◌<◌, Bool, true, false, ◌==◌, ◌&&◌, not, cond, if◌then◌else◌}, Int.bit_at}
 use Rattle.rb_base.specs.Counting.{count_if, numbers}
 
 -- a bus interface unit, or a redundancy management unit

@@ -1,19 +1,13 @@
 -- A side before its first frame.
 use Rattle.std.proofs.Common.{◌≡◌, ℕ, ◌+◌, Option, None, List, [], refl, ◌∙◌, ap}
-use Rattle.rb_base.specs.Sizes.{Sizes}
-use Rattle.rb_base.specs.declared.values.Heard.{Heard}
-use Rattle.rb_rules.specs.Goodness.{Scenario}
-use Rattle.rb_rules.specs.WorldStep.{first_world}
-use Rattle.rb_world_book.specs.declared.turn.Turn.TheVariants as shown
+use Rattle.rb_base.specs.{Sizes.Sizes, declared.values.Heard.Heard}
+use Rattle.rb_rules.specs.{Goodness.Scenario, WorldStep.first_world}
 use Rattle.rb_run.proofs.Opened.{just-opened}
 use Rattle.rb_world.specs.Worlds.{KeptWorld, Stands}
 use Rattle.rb_group.specs.declared.voters.Which.TheVariants.{Most}
-use Rattle.rb_group_run.specs.declared.asked.Scope.{Scope}
-use Rattle.rb_group_run.specs.declared.ports.Ports.{Ports}
-use Rattle.rb_group_run.specs.Holding.{HoldsFrame, IsScopeOf}
-use Rattle.rb_bridge.specs.Holding.{HoldValues}
-use Rattle.rb_bridge.specs.declared.passing.Terms.{Terms}
-use Rattle.rb_bridge.specs.Sides.{HasOpened}
+use Rattle.rb_group_run.specs.{declared.asked.Scope.Scope, declared.ports.Ports.Ports, Holding.{HoldsFrame, IsScopeOf}}
+use Rattle.rb_bridge.specs.{Holding.HoldValues, declared.passing.Terms.Terms, Sides.HasOpened}
+use Rattle.rb_world_book.specs.declared.turn.Turn.TheVariants as shown
 
 pub has-opened : (sc : Scenario) (members slot : ℕ) (world : KeptWorld) (ports : Ports) (values : List (Option Heard)) (scope : Scope) (terms : Terms) → Stands world (first_world sc) → world.bus ≡ sc
     → IsScopeOf sc scope → terms ≡ record { asked = record { which = Most; members = members }; slot = scope.shape.bius + slot; frames = scope.frames }

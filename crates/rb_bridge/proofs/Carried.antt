@@ -1,15 +1,9 @@
 -- What is handed over by what a frame's records tell is what the bridge carries to that bank.
-use Rattle.std.proofs.Common.{◌≡◌, ℕ, ◌+◌, List, map, filter, ap}
-use Rattle.std.proofs.Math.Path.{fun_ext}
+use Rattle.std.proofs.{Common.{◌≡◌, ℕ, ◌+◌, List, map, filter, ap}, Math.Path.fun_ext}
 use Rattle.rb_base.specs.Nodes.Side.{Biu}
-use Rattle.rb_rules.specs.Book.{Record}
-use Rattle.rb_rules.specs.Goodness.{is_good}
-use Rattle.rb_rules.specs.Ports.{HandIn}
+use Rattle.rb_rules.specs.{Book.Record, Goodness.is_good, Ports.HandIn}
 use Rattle.rb_group.specs.Portions.{port_deliveries}
-use Rattle.rb_rules_bridge.specs.declared.bank.Bank.{Bank}
-use Rattle.rb_rules_bridge.specs.declared.bank.Pair.{Pair}
-use Rattle.rb_rules_bridge.specs.Bridges.{Bridge, across, biu_on, bus_on, carried_slot}
-use Rattle.rb_rules_bridge.specs.Crossings.{Hands, carried_to, hand_in_of, records_on, value_in, value_told, word_of}
+use Rattle.rb_rules_bridge.specs.{declared.bank.Bank.Bank, declared.bank.Pair.Pair, Bridges.{Bridge, across, biu_on, bus_on, carried_slot}, Crossings.{Hands, carried_to, hand_in_of, records_on, value_in, value_told, word_of}}
 use Rattle.rb_bridge.proofs.Handed.{handed_for}
 
 pub carries-over : (b : Bridge) (hands : Hands) (bank : Bank) (frame : ℕ) (records : List Record)

@@ -1,29 +1,16 @@
 -- Both sides, and what is said of them, from frame to frame.
-use Rattle.std.proofs.Common.{◌≡◌, ℕ, suc, ◌+◌, ◌-◌, ◌<◌, ◌≤◌, All, Bool, true, false, is_some, get_or, Option, Some, None, Result, option_map, List, [], ◌++◌, append_assoc, refl, sym, ◌∙◌, ap, subst, arith}
-use Rattle.std.specs.Io.KnownBytes.{Appends}
-use Rattle.std.specs.Option.{option_or}
-use Rattle.std.proofs.lemmas.Bool.{false≢true}
-use Rattle.rb_rules.specs.Goodness.{Scenario}
-use Rattle.rb_rules.specs.Ports.{HandIn}
-use Rattle.rb_world_book.specs.Records.{record_of}
-use Rattle.rb_world_book.specs.declared.turn.Turn.{Turn}
+use Rattle.std.proofs.{Common.{◌≡◌, ℕ, suc, ◌+◌, ◌-◌, ◌<◌, ◌≤◌, All, Bool, true, false, is_some, get_or, Option, Some, None, Result, option_map, List, [], ◌++◌, append_assoc, refl, sym, ◌∙◌, ap, subst, arith}, lemmas.Bool.false≢true}
+use Rattle.std.specs.{Io.KnownBytes.Appends, Option.option_or}
+use Rattle.rb_rules.specs.{Goodness.Scenario, Ports.HandIn}
+use Rattle.rb_world_book.specs.{Records.record_of, declared.turn.Turn.Turn}
 use Rattle.rb_outside.specs.Bytes.{AppendsPart}
 use Rattle.rb_outside.proofs.Known.{appends_join, appends_none, part_join, part_widens}
 use Rattle.rb_report.specs.Report.{end_text}
-use Rattle.rb_run.specs.declared.ending.Ending.TheVariants as ending
 use Rattle.rb_world.specs.Nexts.{is_last}
-use Rattle.rb_bridge.specs.Running.{IsUnderWay}
-use Rattle.rb_rules_bridge.specs.declared.bank.Bank.{Bank}
-use Rattle.rb_rules_bridge.specs.declared.bank.Bank.TheVariants.{Left, Right}
-use Rattle.rb_rules_bridge.specs.declared.bank.Pair.{Pair}
-use Rattle.rb_rules_bridge.specs.Bridges.{Bridge, IsBridge, IsHead, biu_on, bus_on}
-use Rattle.rb_rules_bridge.specs.Texts.{Break, break_at, break_from, break_of, bridge_text, frame_text, text_from, text_with}
-use Rattle.rb_bridge.specs.declared.side.Side.{Side}
-use Rattle.rb_bridge.specs.declared.telling.Breach.{Breach}
-use Rattle.rb_bridge.specs.Sides.{BeforeFrame, GivesAll, RunsOut, drive_of}
-use Rattle.rb_bridge.specs.Crossing.{ArePlain, AreReady, AreThrough, BreaksOff, BridgeRun, Crosses, CrossesAll, CrossesPart, FindBoth, GiveAll, GiveSome, GoThrough, MayCross, WritesAll, WritesPart, run_after, run_of, shown, told_text}
-use Rattle.rb_bridge.proofs.Opened.{all-are-some, gives-all}
-use Rattle.rb_bridge.proofs.Told.{finds}
+use Rattle.rb_bridge.specs.{Running.IsUnderWay, declared.side.Side.Side, declared.telling.Breach.Breach, Sides.{BeforeFrame, GivesAll, RunsOut, drive_of}, Crossing.{ArePlain, AreReady, AreThrough, BreaksOff, BridgeRun, Crosses, CrossesAll, CrossesPart, FindBoth, GiveAll, GiveSome, GoThrough, MayCross, WritesAll, WritesPart, run_after, run_of, shown, told_text}}
+use Rattle.rb_rules_bridge.specs.{declared.bank.Bank.Bank, declared.bank.Bank.TheVariants.{Left, Right}, declared.bank.Pair.Pair, Bridges.{Bridge, IsBridge, IsHead, biu_on, bus_on}, Texts.{Break, break_at, break_from, break_of, bridge_text, frame_text, text_from, text_with}}
+use Rattle.rb_bridge.proofs.{Opened.{all-are-some, gives-all}, Told.finds}
+use Rattle.rb_run.specs.declared.ending.Ending.TheVariants as ending
 
 -- What is known of a bridge.
 

@@ -1,45 +1,19 @@
 -- A side that was handed the words of the other one, and whose next frame has begun.
-use Rattle.std.proofs.Common.{◌≡◌, ℕ, ◌+◌, ◌<◌, ◌==◌, ◌||◌, max, nat_lt, Bool, true, false, if◌then◌else◌, inl, inr, Option, Some, None, List, [], ◌∷◌, ◌++◌, filter, map, refl, sym, ◌∙◌, ap, subst, arith}
-use Rattle.std.proofs.lemmas.Bool.{ltb-true}
-use Rattle.std.proofs.lemmas.Bool.Decides.{nat_tests}
+use Rattle.std.proofs.{Common.{◌≡◌, ℕ, ◌+◌, ◌<◌, ◌==◌, ◌||◌, max, nat_lt, Bool, true, false, if◌then◌else◌, inl, inr, Option, Some, None, List, [], ◌∷◌, ◌++◌, filter, map, refl, sym, ◌∙◌, ap, subst, arith}, lemmas.Bool.ltb-true, lemmas.Bool.Decides.nat_tests}
 use Rattle.std.specs.Option.{option_to_list}
-use Rattle.rb_base.specs.Nodes.Side.{Biu}
-use Rattle.rb_base.specs.declared.values.Heard.{Heard}
-use Rattle.rb_rules.specs.Book.{Record}
-use Rattle.rb_rules.specs.Book.Record.{Frame, Slot, Ended, Breach}
-use Rattle.rb_rules.specs.Goodness.{Scenario, is_good}
-use Rattle.rb_rules.specs.Rounds.{records_of}
-use Rattle.rb_rules.specs.WorldStep.{World, frame_in}
-use Rattle.rb_world_book.specs.Records.{record_of}
-use Rattle.rb_world_book.specs.declared.turn.Turn.{Turn}
+use Rattle.rb_base.specs.{Nodes.Side.Biu, declared.values.Heard.Heard}
+use Rattle.rb_rules.specs.{Book.Record, Book.Record.{Frame, Slot, Ended, Breach}, Goodness.{Scenario, is_good}, Rounds.records_of, WorldStep.{World, frame_in}}
+use Rattle.rb_world_book.specs.{Records.record_of, declared.turn.Turn.Turn}
 use Rattle.rb_group.specs.Portions.{port_deliveries}
 use Rattle.rb_run.specs.Turns.{records_in}
 use Rattle.rb_run.proofs.Texts.{records-more}
-use Rattle.rb_world.specs.Nexts.{is_last}
-use Rattle.rb_world.specs.Worlds.{KeptWorld, Stands}
-use Rattle.rb_group_run.specs.declared.ports.Ports.{Ports}
-use Rattle.rb_group_run.specs.Holding.{HoldsFrame}
-use Rattle.rb_group_run.specs.Replies.{frame_of, frame_or, reached}
+use Rattle.rb_world.specs.{Nexts.is_last, Worlds.{KeptWorld, Stands}}
+use Rattle.rb_group_run.specs.{declared.ports.Ports.Ports, Holding.HoldsFrame, Replies.{frame_of, frame_or, reached}}
 use Rattle.rb_group_run.proofs.Held.{none_further, reached_more}
-use Rattle.rb_rules_bridge.specs.declared.bank.Bank.{Bank}
-use Rattle.rb_rules_bridge.specs.declared.bank.Pair.{Pair}
-use Rattle.rb_rules_bridge.specs.Bridges.{Bridge, IsBridge, across, biu_on, bus_on, carried_slot}
-use Rattle.rb_rules_bridge.specs.Crossings.{hands_up_to, records_on, value_in, value_told}
-use Rattle.rb_rules_bridge.specs.Texts.{Break, break_told}
+use Rattle.rb_rules_bridge.specs.{declared.bank.Bank.Bank, declared.bank.Pair.Pair, Bridges.{Bridge, IsBridge, across, biu_on, bus_on, carried_slot}, Crossings.{hands_up_to, records_on, value_in, value_told}, Texts.{Break, break_told}}
 use Rattle.rb_laws_bridge.specs.Laws.{BeginsOrEnds, ends_run, frame_told}
-use Rattle.rb_bridge.specs.Holding.{HoldValues}
-use Rattle.rb_bridge.specs.declared.passing.Passage.{Passage}
-use Rattle.rb_bridge.specs.declared.passing.Terms.{Terms}
-use Rattle.rb_bridge.specs.Handing.{with_words}
-use Rattle.rb_bridge.specs.Passing.{HoldsPassage, is_over}
-use Rattle.rb_bridge.specs.Running.{IsUnderWay}
-use Rattle.rb_bridge.proofs.FramesTold.{passed-tells}
-use Rattle.rb_bridge.proofs.Handed.{handed_for}
-use Rattle.rb_bridge.proofs.UnderWay.{handed-over, latest-more}
-use Rattle.rb_bridge.specs.declared.side.Side.{Side}
-use Rattle.rb_bridge.specs.Sides.{AfterFrame, BeforeFrame, IsInStep, TurnsOver, break_by, drive_of}
-use Rattle.rb_bridge.proofs.SidesHanded.{AreHanded, are-handed, begins-next, frames-on, handed-next}
-use Rattle.rb_bridge.proofs.SidesPassed.{over-some}
+use Rattle.rb_bridge.specs.{Holding.HoldValues, declared.passing.Passage.Passage, declared.passing.Terms.Terms, Handing.with_words, Passing.{HoldsPassage, is_over}, Running.IsUnderWay, declared.side.Side.Side, Sides.{AfterFrame, BeforeFrame, IsInStep, TurnsOver, break_by, drive_of}}
+use Rattle.rb_bridge.proofs.{FramesTold.passed-tells, Handed.handed_for, UnderWay.{handed-over, latest-more}, SidesHanded.{AreHanded, are-handed, begins-next, frames-on, handed-next}, SidesPassed.over-some}
 
 -- A frame begins.
 

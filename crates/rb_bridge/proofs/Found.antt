@@ -1,22 +1,11 @@
 -- What receivers find, as it is written.
-use Rattle.std.proofs.Common.{◌≡◌, ℕ, zero, suc, List, ◌++◌, Option, Some, None, option_map, refl, sym, ◌∙◌, ap, subst}
-use Rattle.std.specs.Io.KnownBytes.{Appends}
-use Rattle.std.proofs.Math.Path.{fun_ext}
-use Rattle.std.specs.List.{flat_map}
+use Rattle.std.proofs.{Common.{◌≡◌, ℕ, zero, suc, List, ◌++◌, Option, Some, None, option_map, refl, sym, ◌∙◌, ap, subst}, Math.Path.fun_ext}
+use Rattle.std.specs.{Io.KnownBytes.Appends, List.flat_map}
 use Rattle.rb_base.specs.Counting.{numbers}
-use Rattle.rb_group.specs.Groups.{group_value}
-use Rattle.rb_group.specs.declared.voters.Which.TheVariants.{Most}
+use Rattle.rb_group.specs.{Groups.group_value, declared.voters.Which.TheVariants.Most}
 use Rattle.rb_outside.proofs.Known.{appends_none}
-use Rattle.rb_rules_bridge.specs.declared.bank.Bank.{Bank}
-use Rattle.rb_rules_bridge.specs.declared.bank.Bank.TheVariants.{Left, Right}
-use Rattle.rb_rules_bridge.specs.Bridges.{Bridge, bus_on, members_on}
-use Rattle.rb_rules_bridge.specs.Crossings.{crossing_value}
-use Rattle.rb_rules_bridge.specs.Texts.{frame_text, receiver_text, receivers_text, side_breach_text}
-use Rattle.rb_bridge.specs.Receivers.{receiver_by, receivers_by}
-use Rattle.rb_bridge.specs.Refusals.{bank_of}
-use Rattle.rb_bridge.specs.declared.side.Side.{Side}
-use Rattle.rb_bridge.specs.declared.telling.Breach.{Breach}
-use Rattle.rb_bridge.specs.Crossing.{Finds, shown, told_text}
+use Rattle.rb_rules_bridge.specs.{declared.bank.Bank.Bank, declared.bank.Bank.TheVariants.{Left, Right}, Bridges.{Bridge, bus_on, members_on}, Crossings.crossing_value, Texts.{frame_text, receiver_text, receivers_text, side_breach_text}}
+use Rattle.rb_bridge.specs.{Receivers.{receiver_by, receivers_by}, Refusals.bank_of, declared.side.Side.Side, declared.telling.Breach.Breach, Crossing.{Finds, shown, told_text}}
 
 -- the lines of what the receivers found are those of the bridge
 pub found-lines : (b : Bridge) (bank : Bank) (frame : ℕ) (s : Side) → (is : Finds b bank frame s)

@@ -1,37 +1,21 @@
 -- What the turns of a plain drive tell of a frame that is over is all that the run tells of it.
-use Rattle.std.proofs.Common.{◌≡◌, ℕ, ◌<◌, ◌≤◌, ◌==◌, ◌||◌, max, nat_lt, Bool, true, false, inl, inr, if◌then◌else◌, Option, Some, None, List, [], ◌∷◌, ◌++◌, append_assoc, refl, sym, ◌∙◌, ap, subst, arith}
-use Rattle.std.proofs.lemmas.Bool.{cases_lt, ltb-true}
-use Rattle.std.proofs.lemmas.Bool.Decides.{nat_tests}
-use Rattle.std.proofs.lemmas.Grind.{flat_map-append}
-use Rattle.std.proofs.lemmas.List.{append-nil}
+use Rattle.std.proofs.{Common.{◌≡◌, ℕ, ◌<◌, ◌≤◌, ◌==◌, ◌||◌, max, nat_lt, Bool, true, false, inl, inr, if◌then◌else◌, Option, Some, None, List, [], ◌∷◌, ◌++◌, append_assoc, refl, sym, ◌∙◌, ap, subst, arith}, lemmas.Bool.{cases_lt, ltb-true}, lemmas.Bool.Decides.nat_tests, lemmas.Grind.flat_map-append, lemmas.List.append-nil}
 use Rattle.std.specs.Option.{option_or, option_to_list}
 use Rattle.rb_base.specs.declared.values.Place.{Place}
 use Rattle.rb_base.proofs.Plain.{option_or-none}
-use Rattle.rb_rules.specs.declared.cause.Cause.{Cause}
-use Rattle.rb_rules.specs.Book.{Record}
-use Rattle.rb_rules.specs.Book.Record.{Frame, Slot, Ended, Breach}
-use Rattle.rb_rules.specs.Goodness.{Scenario}
-use Rattle.rb_rules.specs.Ports.{HandIn}
-use Rattle.rb_rules.specs.Rounds.{records_of}
-use Rattle.rb_world_book.specs.Records.{record_of}
-use Rattle.rb_world_book.specs.declared.turn.Turn.{Turn}
-use Rattle.rb_world_book.specs.declared.turn.Turn.TheVariants as shown
+use Rattle.rb_rules.specs.{declared.cause.Cause.Cause, Book.Record, Book.Record.{Frame, Slot, Ended, Breach}, Goodness.Scenario, Ports.HandIn, Rounds.records_of}
+use Rattle.rb_world_book.specs.{Records.record_of, declared.turn.Turn.Turn}
 use Rattle.rb_group.specs.Portions.{deliveries_in, port_deliveries, told_of}
 use Rattle.rb_run.specs.Turns.{records_in}
-use Rattle.rb_run.proofs.Plain.{records-back}
-use Rattle.rb_run.proofs.Texts.{records-more}
-use Rattle.rb_world.specs.Nexts.{is_last}
-use Rattle.rb_world.specs.Worlds.{KeptWorld}
+use Rattle.rb_run.proofs.{Plain.records-back, Texts.records-more}
+use Rattle.rb_world.specs.{Nexts.is_last, Worlds.KeptWorld}
 use Rattle.rb_group_run.specs.Replies.{frame_of, reached}
-use Rattle.rb_rules_bridge.specs.declared.bank.Bank.{Bank}
-use Rattle.rb_rules_bridge.specs.declared.bank.Bank.TheVariants.{Left}
-use Rattle.rb_rules_bridge.specs.Texts.{Break, break_in, break_told}
+use Rattle.rb_rules_bridge.specs.{declared.bank.Bank.Bank, declared.bank.Bank.TheVariants.Left, Texts.{Break, break_in, break_told}}
 use Rattle.rb_laws_bridge.specs.Laws.{TellAll, frame_told}
-use Rattle.rb_laws_bridge.proofs.Breaks.{break_in-append}
-use Rattle.rb_laws_bridge.proofs.Ordered.{told-in-order}
-use Rattle.rb_bridge.specs.Passing.{is_over}
-use Rattle.rb_bridge.specs.Running.{AreNotLast, IsUnderWay}
+use Rattle.rb_laws_bridge.proofs.{Breaks.break_in-append, Ordered.told-in-order}
+use Rattle.rb_bridge.specs.{Passing.is_over, Running.{AreNotLast, IsUnderWay}}
 use Rattle.rb_bridge.proofs.UnderWay.{first-given, whole-given}
+use Rattle.rb_world_book.specs.declared.turn.Turn.TheVariants as shown
 
 -- turns that end nothing tell no breach
 pub no-break : (bank : Bank) (frame : ℕ) (turns : List Turn) → AreNotLast turns → break_in bank frame (records_in turns) ≡ None

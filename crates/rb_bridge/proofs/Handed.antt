@@ -1,16 +1,9 @@
 -- Words that are handed over one after another, and what a frame is handed by them.
-use Rattle.std.proofs.Common.{◌≡◌, ℕ, ◌+◌, ◌<◌, Bool, true, false, cond, Option, Some, None, List, [], ◌∷◌, ◌++◌, filter, map, take, length, get_or, append_assoc, refl, sym, ◌∙◌, ap, subst}
-use Rattle.std.proofs.lemmas.List.{append-nil, take_more}
-use Rattle.rb_base.specs.Nodes.Side.{Biu}
-use Rattle.rb_base.specs.declared.values.Heard.{Heard}
-use Rattle.rb_rules.specs.Goodness.{Scenario, is_good}
-use Rattle.rb_rules.specs.Ports.{HandIn, with_state}
-use Rattle.rb_rules.specs.WorldStep.{World, frame_in, hand}
+use Rattle.std.proofs.{Common.{◌≡◌, ℕ, ◌+◌, ◌<◌, Bool, true, false, cond, Option, Some, None, List, [], ◌∷◌, ◌++◌, filter, map, take, length, get_or, append_assoc, refl, sym, ◌∙◌, ap, subst}, lemmas.List.{append-nil, take_more}}
+use Rattle.rb_base.specs.{Nodes.Side.Biu, declared.values.Heard.Heard}
+use Rattle.rb_rules.specs.{Goodness.{Scenario, is_good}, Ports.{HandIn, with_state}, WorldStep.{World, frame_in, hand}}
 use Rattle.rb_world.specs.Worlds.{KeptWorld, Stands}
-use Rattle.rb_rules_bridge.specs.declared.bank.Bank.{Bank}
-use Rattle.rb_rules_bridge.specs.declared.bank.Pair.{Pair}
-use Rattle.rb_rules_bridge.specs.Bridges.{across, biu_on}
-use Rattle.rb_rules_bridge.specs.Crossings.{word_of}
+use Rattle.rb_rules_bridge.specs.{declared.bank.Bank.Bank, declared.bank.Pair.Pair, Bridges.{across, biu_on}, Crossings.word_of}
 use Rattle.rb_bridge.specs.Handing.{with_words}
 
 pub words-append : (sc : Scenario) (bank : Bank) (told : ℕ → Option Heard) (ps qs : List Pair) (w : World)

@@ -1,13 +1,9 @@
 -- The BIUs of some pairs.
-use Rattle.std.proofs.Common.{◌≡◌, ℕ, ◌+◌, ◌<◌, ◌==◌, ◌||◌, List, [], get_or, length, take, sym, ◌∙◌, ap, arith}
-use Rattle.std.proofs.lemmas.List.Folds.{list_any_more}
+use Rattle.std.proofs.{Common.{◌≡◌, ℕ, ◌+◌, ◌<◌, ◌==◌, ◌||◌, List, [], get_or, length, take, sym, ◌∙◌, ap, arith}, lemmas.List.Folds.list_any_more}
 use Rattle.std.specs.List.{list_any}
 use Rattle.rb_base.specs.Nodes.{has, set_of}
-use Rattle.rb_base.proofs.Plain.{eq-either_way}
-use Rattle.rb_base.proofs.Sets.{has-set_of, has_none, is_set_of, same_set_of}
-use Rattle.rb_rules_bridge.specs.declared.bank.Bank.{Bank}
-use Rattle.rb_rules_bridge.specs.declared.bank.Pair.{Pair}
-use Rattle.rb_rules_bridge.specs.Bridges.{biu_on}
+use Rattle.rb_base.proofs.{Plain.eq-either_way, Sets.{has-set_of, has_none, is_set_of, same_set_of}}
+use Rattle.rb_rules_bridge.specs.{declared.bank.Bank.Bank, declared.bank.Pair.Pair, Bridges.biu_on}
 
 pub no-members : (bank : Bank) (m : ℕ) → m ≡ 0 → m ≡ set_of (λ i. list_any (λ pair. biu_on bank pair == i) [])
 no-members bank m none = none ∙ is_set_of 0 (λ i. list_any (λ pair. biu_on bank pair == i) []) (omega arith) (λ i lt. has_none i)

@@ -1,14 +1,9 @@
 -- What is kept, with more told.
-use Rattle.std.proofs.Common.{◌≡◌, ℕ, ◌+◌, ◌<◌, ◌==◌, ◌&&◌, Bool, true, false, if◌then◌else◌, Option, Some, None, List, [], ◌∷◌, ◌++◌, take, length, get_or, refl, sym, ◌∙◌, ap}
+use Rattle.std.proofs.{Common.{◌≡◌, ℕ, ◌+◌, ◌<◌, ◌==◌, ◌&&◌, Bool, true, false, if◌then◌else◌, Option, Some, None, List, [], ◌∷◌, ◌++◌, take, length, get_or, refl, sym, ◌∙◌, ap}, lemmas.Grind.flat_map-append, lemmas.List.{append-nil, take_more}}
 use Rattle.std.specs.Option.{option_or, option_to_list}
-use Rattle.std.proofs.lemmas.Grind.{flat_map-append}
-use Rattle.std.proofs.lemmas.List.{append-nil, take_more}
-use Rattle.rb_base.specs.declared.values.Delivery.{Delivery}
-use Rattle.rb_base.specs.declared.values.Heard.{Heard}
+use Rattle.rb_base.specs.{declared.values.Delivery.Delivery, declared.values.Heard.Heard}
 use Rattle.rb_base.proofs.Plain.{eq_self, option_or-if, option_or-none}
-use Rattle.rb_rules.specs.declared.record.SlotLine.{SlotLine}
-use Rattle.rb_rules.specs.Book.{Record}
-use Rattle.rb_rules.specs.Book.Record.{Frame, Slot, Ended, Breach}
+use Rattle.rb_rules.specs.{declared.record.SlotLine.SlotLine, Book.Record, Book.Record.{Frame, Slot, Ended, Breach}}
 use Rattle.rb_group.specs.Portions.{deliveries_in, line_told, port_deliveries, told_of}
 use Rattle.rb_rules_bridge.specs.Crossings.{value_in, value_told}
 use Rattle.rb_laws_bridge.proofs.Told.{value_in-append}

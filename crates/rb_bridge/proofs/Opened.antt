@@ -1,26 +1,11 @@
 -- A side before its first frame, and one whose drive was asked for all turns.
-use Rattle.std.proofs.Common.{◌≡◌, ℕ, ◌+◌, ◌^◌, ◌<◌, Bool, true, false, Option, List, [], ◌∷◌, ◌++◌, length, append_assoc, length-append, refl, sym, ◌∙◌, ap, subst, arith}
-use Rattle.std.proofs.lemmas.List.{append-nil}
-use Rattle.rb_rules.specs.Goodness.{Scenario}
-use Rattle.rb_rules.specs.Ports.{HandIn}
-use Rattle.rb_rules.specs.Rounds.{records_of}
-use Rattle.rb_rules.specs.WorldStep.{World}
-use Rattle.rb_world_book.specs.Records.{record_of}
-use Rattle.rb_world_book.specs.declared.turn.Turn.{Turn}
-use Rattle.rb_world.specs.declared.ties.Ties.TheVariants.{First}
-use Rattle.rb_world.specs.Driving.{GoesAlike, Tells}
-use Rattle.rb_world.specs.Nexts.{GoesToNext, is_last}
-use Rattle.rb_world.specs.Worlds.{KeptWorld, Stands}
-use Rattle.rb_rules_bridge.specs.declared.bank.Bank.{Bank}
-use Rattle.rb_rules_bridge.specs.declared.bank.Bank.TheVariants.{Left, Right}
-use Rattle.rb_rules_bridge.specs.Bridges.{Bridge, bus_on, members_on, slot_on}
-use Rattle.rb_rules_bridge.specs.Crossings.{hands_on, hands_up_to}
-use Rattle.rb_bridge.specs.Passing.{HoldsPassage}
-use Rattle.rb_bridge.specs.Running.{IsUnderWay}
-use Rattle.rb_bridge.proofs.UnderWay.{begins, few-turns, goes}
-use Rattle.rb_bridge.specs.declared.side.Side.{Side}
-use Rattle.rb_bridge.specs.Sides.{BeforeFrame, GivesAll, GivesSome, HasOpened, RunsOut, drive_of}
-use Rattle.rb_bridge.proofs.Told.{all-given-of}
+use Rattle.std.proofs.{Common.{◌≡◌, ℕ, ◌+◌, ◌^◌, ◌<◌, Bool, true, false, Option, List, [], ◌∷◌, ◌++◌, length, append_assoc, length-append, refl, sym, ◌∙◌, ap, subst, arith}, lemmas.List.append-nil}
+use Rattle.rb_rules.specs.{Goodness.Scenario, Ports.HandIn, Rounds.records_of, WorldStep.World}
+use Rattle.rb_world_book.specs.{Records.record_of, declared.turn.Turn.Turn}
+use Rattle.rb_world.specs.{declared.ties.Ties.TheVariants.First, Driving.{GoesAlike, Tells}, Nexts.{GoesToNext, is_last}, Worlds.{KeptWorld, Stands}}
+use Rattle.rb_rules_bridge.specs.{declared.bank.Bank.Bank, declared.bank.Bank.TheVariants.{Left, Right}, Bridges.{Bridge, bus_on, members_on, slot_on}, Crossings.{hands_on, hands_up_to}}
+use Rattle.rb_bridge.specs.{Passing.HoldsPassage, Running.IsUnderWay, declared.side.Side.Side, Sides.{BeforeFrame, GivesAll, GivesSome, HasOpened, RunsOut, drive_of}}
+use Rattle.rb_bridge.proofs.{UnderWay.{begins, few-turns, goes}, Told.all-given-of}
 
 -- Before the first frame.
 

@@ -1,28 +1,16 @@
 -- A frame of which some turns have been given.
-use Rattle.std.proofs.Common.{◌≡◌, ℕ, ◌+◌, ◌^◌, ◌<◌, ◌≤◌, ◌||◌, max, nat_lt, Bool, true, false, Option, Some, None, List, [], ◌∷◌, ◌++◌, length, append_assoc, refl, sym, ◌∙◌, ap, subst, arith, length-append}
-use Rattle.std.proofs.lemmas.Bool.Decides.{nat_tests}
-use Rattle.std.proofs.lemmas.List.{append-nil}
+use Rattle.std.proofs.{Common.{◌≡◌, ℕ, ◌+◌, ◌^◌, ◌<◌, ◌≤◌, ◌||◌, max, nat_lt, Bool, true, false, Option, Some, None, List, [], ◌∷◌, ◌++◌, length, append_assoc, refl, sym, ◌∙◌, ap, subst, arith, length-append}, lemmas.Bool.Decides.nat_tests, lemmas.List.append-nil}
 use Rattle.std.specs.Option.{option_to_list}
 use Rattle.rb_base.specs.declared.values.Heard.{Heard}
-use Rattle.rb_rules.specs.Book.{Record}
-use Rattle.rb_rules.specs.Goodness.{Scenario}
-use Rattle.rb_rules.specs.Ports.{HandIn}
-use Rattle.rb_world_book.specs.Records.{record_of}
-use Rattle.rb_world_book.specs.declared.turn.Turn.{Turn}
+use Rattle.rb_rules.specs.{Book.Record, Goodness.Scenario, Ports.HandIn}
+use Rattle.rb_world_book.specs.{Records.record_of, declared.turn.Turn.Turn}
 use Rattle.rb_run.specs.Turns.{records_in}
 use Rattle.rb_run.proofs.Texts.{records-more}
-use Rattle.rb_world.specs.Nexts.{is_last}
-use Rattle.rb_world.specs.Worlds.{KeptWorld}
-use Rattle.rb_group_run.specs.declared.ports.Ports.{Ports}
-use Rattle.rb_group_run.specs.Holding.{HoldsFrame}
-use Rattle.rb_group_run.specs.Replies.{frame_of, reached}
+use Rattle.rb_world.specs.{Nexts.is_last, Worlds.KeptWorld}
+use Rattle.rb_group_run.specs.{declared.ports.Ports.Ports, Holding.HoldsFrame, Replies.{frame_of, reached}}
 use Rattle.rb_group_run.proofs.Held.{reached_more}
 use Rattle.rb_rules_bridge.specs.Crossings.{value_told}
-use Rattle.rb_bridge.specs.Holding.{HoldValues}
-use Rattle.rb_bridge.specs.declared.passing.Passage.{Passage}
-use Rattle.rb_bridge.specs.declared.passing.Terms.{Terms}
-use Rattle.rb_bridge.specs.Passing.{HoldsPassage, PassesFrame, is_over}
-use Rattle.rb_bridge.specs.Running.{IsUnderWay}
+use Rattle.rb_bridge.specs.{Holding.HoldValues, declared.passing.Passage.Passage, declared.passing.Terms.Terms, Passing.{HoldsPassage, PassesFrame, is_over}, Running.IsUnderWay}
 use Rattle.rb_bridge.proofs.UnderWay.{few-turns}
 
 -- What is kept.

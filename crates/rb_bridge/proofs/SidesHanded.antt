@@ -1,41 +1,18 @@
 -- What a side is handed, and with what its next frame begins.
-use Rattle.std.proofs.Common.{◌≡◌, ℕ, suc, ◌+◌, ◌<◌, ◌≤◌, ◌==◌, ◌||◌, nat_lt, max, Bool, true, false, cond, if◌then◌else◌, inl, inr, Option, Some, None, List, [], ◌∷◌, ◌++◌, filter, map, refl, sym, ◌∙◌, ap, subst, arith}
-use Rattle.std.proofs.lemmas.Bool.{ltb-true}
-use Rattle.std.proofs.lemmas.Bool.Decides.{nat_tests}
-use Rattle.std.proofs.lemmas.List.{append-nil}
-use Rattle.rb_base.specs.Nodes.Side.{Biu}
-use Rattle.rb_base.specs.declared.values.Heard.{Heard}
-use Rattle.rb_base.specs.declared.values.Place.{Place}
-use Rattle.rb_rules.specs.declared.cause.Cause.{Cause}
-use Rattle.rb_rules.specs.Book.{Record}
-use Rattle.rb_rules.specs.Book.Record.{Frame, Slot, Ended, Breach}
-use Rattle.rb_rules.specs.Goodness.{Scenario, is_good}
-use Rattle.rb_rules.specs.Ports.{HandIn}
-use Rattle.rb_rules.specs.Rounds.{records_of}
-use Rattle.rb_rules.specs.WorldStep.{World, frame_in}
-use Rattle.rb_world_book.specs.Records.{record_of}
-use Rattle.rb_world_book.specs.declared.turn.Turn.{Turn}
+use Rattle.std.proofs.{Common.{◌≡◌, ℕ, suc, ◌+◌, ◌<◌, ◌≤◌, ◌==◌, ◌||◌, nat_lt, max, Bool, true, false, cond, if◌then◌else◌, inl, inr, Option, Some, None, List, [], ◌∷◌, ◌++◌, filter, map, refl, sym, ◌∙◌, ap, subst, arith}, lemmas.Bool.ltb-true, lemmas.Bool.Decides.nat_tests, lemmas.List.append-nil}
+use Rattle.rb_base.specs.{Nodes.Side.Biu, declared.values.Heard.Heard, declared.values.Place.Place}
+use Rattle.rb_rules.specs.{declared.cause.Cause.Cause, Book.Record, Book.Record.{Frame, Slot, Ended, Breach}, Goodness.{Scenario, is_good}, Ports.HandIn, Rounds.records_of, WorldStep.{World, frame_in}}
+use Rattle.rb_world_book.specs.{Records.record_of, declared.turn.Turn.Turn}
 use Rattle.rb_group.specs.Portions.{port_deliveries}
 use Rattle.rb_run.specs.Turns.{records_in}
-use Rattle.rb_world.specs.Nexts.{is_last}
-use Rattle.rb_world.specs.Worlds.{KeptWorld}
+use Rattle.rb_world.specs.{Nexts.is_last, Worlds.KeptWorld}
 use Rattle.rb_group_run.specs.Replies.{frame_of, reached}
-use Rattle.rb_rules_bridge.specs.declared.bank.Bank.{Bank}
-use Rattle.rb_rules_bridge.specs.declared.bank.Bank.TheVariants.{Left, Right}
-use Rattle.rb_rules_bridge.specs.declared.bank.Pair.{Pair}
-use Rattle.rb_rules_bridge.specs.Bridges.{Bridge, IsBridge, across, biu_on, bus_on, carried_slot}
-use Rattle.rb_rules_bridge.specs.Crossings.{carried_to, hand_in_of, hands_on, hands_up_to, records_on, value_told}
-use Rattle.rb_rules_bridge.specs.Texts.{Break, break_told}
+use Rattle.rb_rules_bridge.specs.{declared.bank.Bank.Bank, declared.bank.Bank.TheVariants.{Left, Right}, declared.bank.Pair.Pair, Bridges.{Bridge, IsBridge, across, biu_on, bus_on, carried_slot}, Crossings.{carried_to, hand_in_of, hands_on, hands_up_to, records_on, value_told}, Texts.{Break, break_told}}
 use Rattle.rb_laws_bridge.specs.Laws.{AreUpTo, BeginsOrEnds, ends_run, frame_told}
 use Rattle.rb_laws_bridge.proofs.Beginnings.{begins-or-ends}
 use Rattle.rb_laws_events.proofs.EveryWorld.{hand-none}
-use Rattle.rb_bridge.specs.Handing.{with_words}
-use Rattle.rb_bridge.specs.Passing.{is_over}
-use Rattle.rb_bridge.specs.Running.{AreNotLast, IsUnderWay}
-use Rattle.rb_bridge.proofs.Carried.{carries-over}
-use Rattle.rb_bridge.proofs.FramesTold.{breaks-late, no-break, one-frame, records-are-first}
-use Rattle.rb_bridge.proofs.Handed.{IsHanded, handed_for, words-handed}
-use Rattle.rb_bridge.specs.Sides.{break_by}
+use Rattle.rb_bridge.specs.{Handing.with_words, Passing.is_over, Running.{AreNotLast, IsUnderWay}, Sides.break_by}
+use Rattle.rb_bridge.proofs.{Carried.carries-over, FramesTold.{breaks-late, no-break, one-frame, records-are-first}, Handed.{IsHanded, handed_for, words-handed}}
 
 -- Whatever the last turn was.
 

@@ -1,26 +1,14 @@
 -- A side that has gone through a frame.
 use Rattle.std.proofs.Common.{◌≡◌, ℕ, ◌<◌, ◌≤◌, ◌||◌, nat_lt, Bool, true, false, Option, Some, None, List, [], ◌∷◌, ◌++◌, refl, sym, ◌∙◌, ap, subst, arith}
-use Rattle.rb_rules.specs.Book.{Record}
-use Rattle.rb_rules.specs.Ports.{HandIn}
-use Rattle.rb_rules.specs.Rounds.{records_of}
-use Rattle.rb_world_book.specs.Records.{record_of}
-use Rattle.rb_world_book.specs.declared.turn.Turn.{Turn}
+use Rattle.rb_rules.specs.{Book.Record, Ports.HandIn, Rounds.records_of}
+use Rattle.rb_world_book.specs.{Records.record_of, declared.turn.Turn.Turn}
 use Rattle.rb_run.specs.Turns.{records_in}
-use Rattle.rb_world.specs.Nexts.{is_last}
-use Rattle.rb_world.specs.Worlds.{KeptWorld}
+use Rattle.rb_world.specs.{Nexts.is_last, Worlds.KeptWorld}
 use Rattle.rb_group_run.specs.Replies.{frame_of}
-use Rattle.rb_rules_bridge.specs.declared.bank.Bank.{Bank}
-use Rattle.rb_rules_bridge.specs.Bridges.{Bridge, bus_on}
-use Rattle.rb_rules_bridge.specs.Crossings.{hands_of, hands_on, hands_up_to, records_on}
-use Rattle.rb_rules_bridge.specs.Texts.{break_in}
+use Rattle.rb_rules_bridge.specs.{declared.bank.Bank.Bank, Bridges.{Bridge, bus_on}, Crossings.{hands_of, hands_on, hands_up_to, records_on}, Texts.break_in}
 use Rattle.rb_laws_bridge.proofs.Handed.{frames-go-by-the-earlier}
-use Rattle.rb_bridge.specs.declared.passing.Passage.{Passage}
-use Rattle.rb_bridge.specs.declared.passing.Terms.{Terms}
-use Rattle.rb_bridge.specs.Passing.{HoldsPassage, IsOnItsWay, PassesFrame, is_over}
-use Rattle.rb_bridge.specs.Running.{AreNotLast, IsUnderWay}
+use Rattle.rb_bridge.specs.{declared.passing.Passage.Passage, declared.passing.Terms.Terms, Passing.{HoldsPassage, IsOnItsWay, PassesFrame, is_over}, Running.{AreNotLast, IsUnderWay}, declared.side.Side.Side, Sides.{AfterFrame, BeforeFrame, HasStopped, IsInStep, IsUp, break_by, drive_of}}
 use Rattle.rb_bridge.proofs.FramesTold.{passed-tells}
-use Rattle.rb_bridge.specs.declared.side.Side.{Side}
-use Rattle.rb_bridge.specs.Sides.{AfterFrame, BeforeFrame, HasStopped, IsInStep, IsUp, break_by, drive_of}
 
 -- Turns beyond a frame.
 

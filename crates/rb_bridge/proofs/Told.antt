@@ -1,38 +1,16 @@
 -- What a side has told: its turns, what its receivers find, and its breach.
 use Rattle.std.proofs.Common.{◌≡◌, ℕ, ◌<◌, ◌≤◌, ◌==◌, Bool, true, false, if◌then◌else◌, Option, Some, None, option_map, List, [], ◌∷◌, ◌++◌, refl, sym, ◌∙◌, ap, subst, arith}
 use Rattle.std.specs.Option.{option_or}
-use Rattle.rb_rules.specs.Book.{Record}
-use Rattle.rb_rules.specs.Book.Record.{Frame, Slot, Ended, Breach}
-use Rattle.rb_rules.specs.Goodness.{Scenario}
-use Rattle.rb_rules.specs.Ports.{HandIn}
-use Rattle.rb_rules.specs.Rounds.{records_of}
-use Rattle.rb_world_book.specs.Records.{record_of}
-use Rattle.rb_world_book.specs.declared.turn.Turn.{Turn}
-use Rattle.rb_group.specs.Groups.{group_value}
-use Rattle.rb_group.specs.Portions.{port_deliveries}
-use Rattle.rb_group.specs.declared.voters.Which.TheVariants.{Most}
+use Rattle.rb_rules.specs.{Book.Record, Book.Record.{Frame, Slot, Ended, Breach}, Goodness.Scenario, Ports.HandIn, Rounds.records_of}
+use Rattle.rb_world_book.specs.{Records.record_of, declared.turn.Turn.Turn}
+use Rattle.rb_group.specs.{Groups.group_value, Portions.port_deliveries, declared.voters.Which.TheVariants.Most}
 use Rattle.rb_run.specs.Turns.{records_in}
-use Rattle.rb_world.specs.Nexts.{is_last}
-use Rattle.rb_world.specs.Worlds.{KeptWorld}
-use Rattle.rb_group_run.specs.declared.asked.Asked.{Asked}
-use Rattle.rb_group_run.specs.Holding.{HoldPortions}
-use Rattle.rb_rules_bridge.specs.declared.bank.Bank.{Bank}
-use Rattle.rb_rules_bridge.specs.declared.bank.Bank.TheVariants.{Left, Right}
-use Rattle.rb_rules_bridge.specs.Bridges.{Bridge, IsBridge, bus_on, members_on}
-use Rattle.rb_rules_bridge.specs.Crossings.{hands_of, hands_up_to, records_on}
-use Rattle.rb_rules_bridge.specs.Texts.{Break, break_in}
+use Rattle.rb_world.specs.{Nexts.is_last, Worlds.KeptWorld}
+use Rattle.rb_group_run.specs.{declared.asked.Asked.Asked, Holding.HoldPortions}
+use Rattle.rb_rules_bridge.specs.{declared.bank.Bank.Bank, declared.bank.Bank.TheVariants.{Left, Right}, Bridges.{Bridge, IsBridge, bus_on, members_on}, Crossings.{hands_of, hands_up_to, records_on}, Texts.{Break, break_in}}
 use Rattle.rb_laws_bridge.proofs.Handed.{frames-go-by-the-earlier}
-use Rattle.rb_bridge.specs.declared.passing.Terms.{Terms}
-use Rattle.rb_bridge.specs.Passing.{is_over}
-use Rattle.rb_bridge.specs.Running.{IsUnderWay}
-use Rattle.rb_bridge.proofs.FramesTold.{passed-tells}
-use Rattle.rb_bridge.proofs.UnderWay.{first-given, whole-given}
-use Rattle.rb_bridge.specs.declared.side.Side.{Side}
-use Rattle.rb_bridge.specs.declared.telling.Breach.{Breach as Found}
-use Rattle.rb_bridge.specs.Sides.{AfterFrame, AreGivenOf, BeforeFrame, GivesAll, GivesSome, break_by, drive_of}
-use Rattle.rb_bridge.specs.Crossing.{ArePlain, BridgeRun, Finds, GivesAllOn, GoThrough, shown}
-use Rattle.rb_bridge.proofs.SidesPassed.{over-some}
-use Rattle.rb_bridge.proofs.Whole.{after-crossed, before-crossed, breach-crossed}
+use Rattle.rb_bridge.specs.{declared.passing.Terms.Terms, Passing.is_over, Running.IsUnderWay, declared.side.Side.Side, declared.telling.Breach.Breach as Found, Sides.{AfterFrame, AreGivenOf, BeforeFrame, GivesAll, GivesSome, break_by, drive_of}, Crossing.{ArePlain, BridgeRun, Finds, GivesAllOn, GoThrough, shown}}
+use Rattle.rb_bridge.proofs.{FramesTold.passed-tells, UnderWay.{first-given, whole-given}, SidesPassed.over-some, Whole.{after-crossed, before-crossed, breach-crossed}}
 
 -- Turns.
 

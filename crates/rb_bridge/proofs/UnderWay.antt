@@ -1,33 +1,17 @@
 -- A run to which states are handed, turn by turn.
-use Rattle.std.proofs.Common.{◌≡◌, ℕ, ◌^◌, ◌<◌, Bool, true, false, Option, Some, None, option_and_then, List, [], ◌∷◌, ◌++◌, length, map, refl, sym, ap, ◌∙◌, subst, arith, length-append}
-use Rattle.std.proofs.lemmas.List.{length-map, map-append}
+use Rattle.std.proofs.{Common.{◌≡◌, ℕ, ◌^◌, ◌<◌, Bool, true, false, Option, Some, None, option_and_then, List, [], ◌∷◌, ◌++◌, length, map, refl, sym, ap, ◌∙◌, subst, arith, length-append}, lemmas.List.{length-map, map-append}}
 use Rattle.rb_base.proofs.Plain.{last_or-append}
-use Rattle.rb_rules.specs.Book.{Record}
-use Rattle.rb_rules.specs.Goodness.{Scenario}
-use Rattle.rb_rules.specs.Lawful.{IsLawful}
-use Rattle.rb_rules.specs.Ports.{HandIn}
-use Rattle.rb_rules.specs.Rounds.{records_of}
-use Rattle.rb_rules.specs.WorldStep.{IsPrefix, World, frame_in}
-use Rattle.rb_world_book.specs.Records.{record_of}
-use Rattle.rb_world_book.specs.declared.turn.Turn.{Turn}
-use Rattle.rb_world_book.specs.declared.turn.Turn.TheVariants as shown
+use Rattle.rb_rules.specs.{Book.Record, Goodness.Scenario, Lawful.IsLawful, Ports.HandIn, Rounds.records_of, WorldStep.{IsPrefix, World, frame_in}}
+use Rattle.rb_world_book.specs.{Records.record_of, declared.turn.Turn.Turn}
 use Rattle.rb_laws_events.proofs.EventsHold.{events-hold}
-use Rattle.rb_run.specs.declared.ending.Ending.{Ending}
-use Rattle.rb_run.specs.Runs.{HasGivenNothing, end_at}
-use Rattle.rb_run.specs.Turns.{turn_of}
-use Rattle.rb_run.proofs.Bounds.{few-records}
-use Rattle.rb_run.proofs.UnderWay.{ends-last, no-record, not-over, record-is, same-record, tells-more, tells-none, turn-is}
-use Rattle.rb_world.specs.declared.ties.Ties.TheVariants.{First}
-use Rattle.rb_world.specs.Driving.{GoesAlike, Tells, bare}
-use Rattle.rb_world.specs.Nexts.{GoesToNext, is_last}
-use Rattle.rb_world.specs.Numbering.{GoesInRounds, IsNextRecord}
-use Rattle.rb_world.specs.declared.last.Last.{Last}
-use Rattle.rb_world.specs.declared.last.Last.TheVariants as last
-use Rattle.rb_world.specs.Worlds.{KeptWorld, Stands, last_of}
-use Rattle.rb_world.proofs.LastTurn.{reached-gave}
-use Rattle.rb_world.proofs.Numbered.{alike-in-rounds, alike-last, next-in-rounds}
+use Rattle.rb_run.specs.{declared.ending.Ending.Ending, Runs.{HasGivenNothing, end_at}, Turns.turn_of}
+use Rattle.rb_run.proofs.{Bounds.few-records, UnderWay.{ends-last, no-record, not-over, record-is, same-record, tells-more, tells-none, turn-is}}
+use Rattle.rb_world.specs.{declared.ties.Ties.TheVariants.First, Driving.{GoesAlike, Tells, bare}, Nexts.{GoesToNext, is_last}, Numbering.{GoesInRounds, IsNextRecord}, declared.last.Last.Last, Worlds.{KeptWorld, Stands, last_of}}
+use Rattle.rb_world.proofs.{LastTurn.reached-gave, Numbered.{alike-in-rounds, alike-last, next-in-rounds}}
 use Rattle.rb_bridge.specs.Running.{AreNotLast, IsUnderWay, latest}
 use Rattle.rb_bridge.proofs.Handed.{IsHanded}
+use Rattle.rb_world_book.specs.declared.turn.Turn.TheVariants as shown
+use Rattle.rb_world.specs.declared.last.Last.TheVariants as last
 
 -- The start.
 

@@ -1,46 +1,21 @@
 -- What a side has given is the first part of its bus's run with all that the bridge carries.
-use Rattle.std.proofs.Common.{◌≡◌, ℕ, ◌+◌, ◌<◌, ◌≤◌, ◌==◌, max, Bool, true, false, if◌then◌else◌, inl, inr, Option, Some, None, List, [], ◌∷◌, ◌++◌, append_assoc, refl, sym, ◌∙◌, ap, subst, arith}
-use Rattle.std.proofs.lemmas.Bool.{cases_lt, eqb-true}
+use Rattle.std.proofs.{Common.{◌≡◌, ℕ, ◌+◌, ◌<◌, ◌≤◌, ◌==◌, max, Bool, true, false, if◌then◌else◌, inl, inr, Option, Some, None, List, [], ◌∷◌, ◌++◌, append_assoc, refl, sym, ◌∙◌, ap, subst, arith}, lemmas.Bool.{cases_lt, eqb-true}}
 use Rattle.std.specs.Option.{option_to_list}
-use Rattle.rb_base.specs.declared.values.Heard.{Heard}
-use Rattle.rb_base.specs.declared.values.Place.{Place}
-use Rattle.rb_rules.specs.declared.cause.Cause.{Cause}
-use Rattle.rb_rules.specs.Book.{Record}
-use Rattle.rb_rules.specs.Book.Record.{Frame, Slot, Ended, Breach}
-use Rattle.rb_rules.specs.Goodness.{Scenario}
-use Rattle.rb_rules.specs.Lawful.{IsLawful}
-use Rattle.rb_rules.specs.Ports.{HandIn}
-use Rattle.rb_rules.specs.Rounds.{records_of}
-use Rattle.rb_rules.specs.WorldStep.{IsPrefix, World, frame_in, hand}
-use Rattle.rb_rules.specs.WorldStep.Choice.{Hand}
+use Rattle.rb_base.specs.{declared.values.Heard.Heard, declared.values.Place.Place}
+use Rattle.rb_rules.specs.{declared.cause.Cause.Cause, Book.Record, Book.Record.{Frame, Slot, Ended, Breach}, Goodness.Scenario, Lawful.IsLawful, Ports.HandIn, Rounds.records_of, WorldStep.{IsPrefix, World, frame_in, hand}, WorldStep.Choice.Hand}
 use Rattle.rb_laws_events.proofs.EventsHold.{events-hold}
-use Rattle.rb_world_book.specs.Records.{record_of}
-use Rattle.rb_world_book.specs.declared.turn.Turn.{Turn}
+use Rattle.rb_world_book.specs.{Records.record_of, declared.turn.Turn.Turn}
 use Rattle.rb_run.specs.Turns.{records_in}
-use Rattle.rb_run.proofs.Plain.{records-back}
-use Rattle.rb_run.proofs.Texts.{records-more}
-use Rattle.rb_world.specs.Nexts.{is_last}
-use Rattle.rb_world.specs.Worlds.{IsReached, KeptWorld}
+use Rattle.rb_run.proofs.{Plain.records-back, Texts.records-more}
+use Rattle.rb_world.specs.{Nexts.is_last, Worlds.{IsReached, KeptWorld}}
 use Rattle.rb_world.proofs.Turns.{reached-more}
 use Rattle.rb_group_run.specs.Replies.{frame_of, reached}
 use Rattle.rb_group_run.proofs.Held.{reached_more}
-use Rattle.rb_rules_bridge.specs.declared.bank.Bank.{Bank}
-use Rattle.rb_rules_bridge.specs.declared.bank.Pair.{Pair}
-use Rattle.rb_rules_bridge.specs.Bridges.{Bridge, IsBridge, across, biu_on, bus_on, carried_slot}
-use Rattle.rb_rules_bridge.specs.Crossings.{hands_of, hands_on, hands_up_to, records_on, value_told, word_of}
-use Rattle.rb_rules_bridge.specs.Texts.{Break, break_told}
+use Rattle.rb_rules_bridge.specs.{declared.bank.Bank.Bank, declared.bank.Pair.Pair, Bridges.{Bridge, IsBridge, across, biu_on, bus_on, carried_slot}, Crossings.{hands_of, hands_on, hands_up_to, records_on, value_told, word_of}, Texts.{Break, break_told}}
 use Rattle.rb_laws_bridge.specs.Laws.{AreFirstOf, AreUpTo, BeginsOrEnds, ends_run, frame_told}
 use Rattle.rb_laws_bridge.proofs.Stayed.{first-crossed}
-use Rattle.rb_bridge.specs.declared.passing.Terms.{Terms}
-use Rattle.rb_bridge.specs.Handing.{with_words}
-use Rattle.rb_bridge.specs.Passing.{is_over}
-use Rattle.rb_bridge.specs.Running.{AreNotLast, IsUnderWay}
-use Rattle.rb_bridge.proofs.FramesTold.{breaks-late, no-break, one-frame}
-use Rattle.rb_bridge.proofs.UnderWay.{first-given, latest-more, whole-given}
-use Rattle.rb_bridge.specs.declared.side.Side.{Side}
-use Rattle.rb_bridge.specs.Sides.{AfterFrame, BeforeFrame, HasStopped, IsInStep, break_by, drive_of}
-use Rattle.rb_bridge.proofs.SidesHanded.{AreHanded, are-handed, begins-next, handed-next, reached-there}
-use Rattle.rb_bridge.proofs.SidesPassed.{over-some}
+use Rattle.rb_bridge.specs.{declared.passing.Terms.Terms, Handing.with_words, Passing.is_over, Running.{AreNotLast, IsUnderWay}, declared.side.Side.Side, Sides.{AfterFrame, BeforeFrame, HasStopped, IsInStep, break_by, drive_of}}
+use Rattle.rb_bridge.proofs.{FramesTold.{breaks-late, no-break, one-frame}, UnderWay.{first-given, latest-more, whole-given}, SidesHanded.{AreHanded, are-handed, begins-next, handed-next, reached-there}, SidesPassed.over-some}
 
 -- Records up to a frame.
 

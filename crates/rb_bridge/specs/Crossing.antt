@@ -1,27 +1,15 @@
 -- Both buses of a bridge, from frame to frame.
-use Rattle.std.specs.Prelude.{ℕ, ◌≡◌, ◌+◌, ◌<◌, Bool, true, false, Option, Some, None, List, Result, IfOk, OnErr}
-use Rattle.std.specs.Io.KnownBytes.{Appends}
+use Rattle.std.specs.{Prelude.{ℕ, ◌≡◌, ◌+◌, ◌<◌, Bool, true, false, Option, Some, None, List, Result, IfOk, OnErr}, Io.KnownBytes.Appends}
 use Rattle.rb_base.specs.declared.values.Delivery.{Delivery}
-use Rattle.rb_world_book.specs.Records.{record_of}
-use Rattle.rb_world_book.specs.declared.turn.Turn.{Turn}
+use Rattle.rb_world_book.specs.{Records.record_of, declared.turn.Turn.Turn}
 use Rattle.rb_outside.specs.Bytes.{AppendsPart}
 use Rattle.rb_run.specs.declared.ending.Ending.{Ending}
-use Rattle.rb_run.specs.declared.ending.Ending.TheVariants as ending
 use Rattle.rb_world.specs.Nexts.{is_last}
-use Rattle.rb_group.specs.Groups.{group_value}
-use Rattle.rb_group.specs.declared.voters.Which.TheVariants.{Most}
+use Rattle.rb_group.specs.{Groups.group_value, declared.voters.Which.TheVariants.Most}
 use Rattle.rb_group_run.specs.Holding.{HoldPortions, IsScopeOf}
-use Rattle.rb_bridge.specs.Passing.{IsOnItsWay}
-use Rattle.rb_rules_bridge.specs.declared.bank.Bank.{Bank}
-use Rattle.rb_rules_bridge.specs.declared.bank.Bank.TheVariants.{Left, Right}
-use Rattle.rb_rules_bridge.specs.declared.bank.Pair.{Pair}
-use Rattle.rb_rules_bridge.specs.Bridges.{Bridge, IsBridge, bus_on, members_on, slot_on}
-use Rattle.rb_rules_bridge.specs.Crossings.{crossing_value}
-use Rattle.rb_rules_bridge.specs.Texts.{Break, break_at, break_of, bridge_text, frame_text, side_breach_text}
-use Rattle.rb_bridge.specs.Refusals.{bank_of}
-use Rattle.rb_bridge.specs.declared.side.Side.{Side}
-use Rattle.rb_bridge.specs.declared.telling.Breach.{Breach}
-use Rattle.rb_bridge.specs.Sides.{AfterFrame, AreUnbroken, BeforeFrame, Driven, GivesAll, GivesSome, HasOpened, drive_of}
+use Rattle.rb_bridge.specs.{Passing.IsOnItsWay, Refusals.bank_of, declared.side.Side.Side, declared.telling.Breach.Breach, Sides.{AfterFrame, AreUnbroken, BeforeFrame, Driven, GivesAll, GivesSome, HasOpened, drive_of}}
+use Rattle.rb_rules_bridge.specs.{declared.bank.Bank.Bank, declared.bank.Bank.TheVariants.{Left, Right}, declared.bank.Pair.Pair, Bridges.{Bridge, IsBridge, bus_on, members_on, slot_on}, Crossings.crossing_value, Texts.{Break, break_at, break_of, bridge_text, frame_text, side_breach_text}}
+use Rattle.rb_run.specs.declared.ending.Ending.TheVariants as ending
 
 -- What is said.
 

@@ -1,12 +1,8 @@
 -- What is handed to a bus as a frame begins, pair by pair.
 use Rattle.std.specs.Prelude.{ℕ, Option, List, [], ◌∷◌}
 use Rattle.rb_base.specs.declared.values.Heard.{Heard}
-use Rattle.rb_rules.specs.Goodness.{Scenario}
-use Rattle.rb_rules.specs.WorldStep.{World, hand}
-use Rattle.rb_rules_bridge.specs.declared.bank.Bank.{Bank}
-use Rattle.rb_rules_bridge.specs.declared.bank.Pair.{Pair}
-use Rattle.rb_rules_bridge.specs.Bridges.{across, biu_on}
-use Rattle.rb_rules_bridge.specs.Crossings.{word_of}
+use Rattle.rb_rules.specs.{Goodness.Scenario, WorldStep.{World, hand}}
+use Rattle.rb_rules_bridge.specs.{declared.bank.Bank.Bank, declared.bank.Pair.Pair, Bridges.{across, biu_on}, Crossings.word_of}
 
 -- the world of the bus on a bank after each pair has handed over the word of its BIU across the
 -- bridge, by what was told of that one

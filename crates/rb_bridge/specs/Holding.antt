@@ -1,9 +1,7 @@
 -- The values of one slot of a frame, as they are kept turn by turn.
 use Rattle.std.specs.Prelude.{ℕ, ◌≡◌, ◌<◌, ◌==◌, ◌&&◌, if◌then◌else◌, Option, Some, None, List, [], ◌∷◌, get_or, length}
 use Rattle.rb_base.specs.declared.values.Heard.{Heard}
-use Rattle.rb_rules.specs.declared.record.SlotLine.{SlotLine}
-use Rattle.rb_rules.specs.Book.{Record}
-use Rattle.rb_rules.specs.Book.Record.{Frame, Slot, Ended, Breach}
+use Rattle.rb_rules.specs.{declared.record.SlotLine.SlotLine, Book.Record, Book.Record.{Frame, Slot, Ended, Breach}}
 
 -- the value that a BIU delivered by the lines of a slot, its first
 abbrev pub value_by : List SlotLine → ℕ → Option Heard

@@ -1,20 +1,12 @@
 -- A bus of a bridge in one frame: what is kept of it, and how far its run is taken.
 use Rattle.std.specs.Prelude.{ℕ, ◌≡◌, ◌||◌, nat_lt, Bool, true, false, Option, Some, None, List, [], ◌∷◌, ◌++◌}
-use Rattle.rb_rules.specs.Book.{Record}
-use Rattle.rb_rules.specs.Goodness.{Scenario}
-use Rattle.rb_rules.specs.Ports.{HandIn}
-use Rattle.rb_world_book.specs.Records.{record_of}
-use Rattle.rb_world_book.specs.declared.turn.Turn.{Turn}
+use Rattle.rb_rules.specs.{Book.Record, Goodness.Scenario, Ports.HandIn}
+use Rattle.rb_world_book.specs.{Records.record_of, declared.turn.Turn.Turn}
 use Rattle.rb_run.specs.Turns.{records_in}
-use Rattle.rb_world.specs.Nexts.{is_last}
-use Rattle.rb_world.specs.Worlds.{KeptWorld}
-use Rattle.rb_group_run.specs.Holding.{HoldsFrame}
-use Rattle.rb_group_run.specs.Replies.{frame_of}
+use Rattle.rb_world.specs.{Nexts.is_last, Worlds.KeptWorld}
+use Rattle.rb_group_run.specs.{Holding.HoldsFrame, Replies.frame_of}
 use Rattle.rb_rules_bridge.specs.Crossings.{value_told}
-use Rattle.rb_bridge.specs.Holding.{HoldValues}
-use Rattle.rb_bridge.specs.declared.passing.Passage.{Passage}
-use Rattle.rb_bridge.specs.declared.passing.Terms.{Terms}
-use Rattle.rb_bridge.specs.Running.{AreNotLast, IsUnderWay}
+use Rattle.rb_bridge.specs.{Holding.HoldValues, declared.passing.Passage.Passage, declared.passing.Terms.Terms, Running.{AreNotLast, IsUnderWay}}
 
 -- what is kept of a frame is what these records tell of it
 pub record HoldsPassage (terms : Terms) (frame : ℕ) (records : List Record) (p : Passage) : Type 0 where

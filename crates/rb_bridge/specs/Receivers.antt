@@ -1,12 +1,8 @@
 -- What is said of a bus of a bridge in a frame.
-use Rattle.std.specs.Prelude.{ℕ, if◌then◌else◌, List, []}
-use Rattle.std.specs.List.{flat_map}
-use Rattle.rb_base.specs.Counting.{numbers}
-use Rattle.rb_base.specs.Nodes.Side.{Biu}
-use Rattle.rb_base.specs.declared.values.Heard.{Heard}
+use Rattle.std.specs.{Prelude.{ℕ, if◌then◌else◌, List, []}, List.flat_map}
+use Rattle.rb_base.specs.{Counting.numbers, Nodes.Side.Biu, declared.values.Heard.Heard}
 use Rattle.rb_rules.specs.Goodness.{Scenario, is_good}
-use Rattle.rb_rules_bridge.specs.declared.bank.Bank.{Bank}
-use Rattle.rb_rules_bridge.specs.Texts.{cross_text, last_data_slot}
+use Rattle.rb_rules_bridge.specs.{declared.bank.Bank.Bank, Texts.{cross_text, last_data_slot}}
 
 -- the line of a BIU, if it is good in the last data slot of the frame, with the value that it finds
 abbrev pub receiver_by : Scenario → ℕ → Bank → (ℕ → Heard) → ℕ → List ℕ

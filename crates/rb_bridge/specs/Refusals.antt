@@ -1,9 +1,7 @@
 -- The lines of a bridge by their arguments, and the refusals of a bridge.
-use Rattle.std.specs.Prelude.{ℕ, ◌≡◌, ◌-◌, ◌≤◌, Bool, true, false, List, [], ◌∷◌, Option, codes, is_some, slice_index_or}
-use Rattle.std.specs.Fmt.{decimal}
+use Rattle.std.specs.{Prelude.{ℕ, ◌≡◌, ◌-◌, ◌≤◌, Bool, true, false, List, [], ◌∷◌, Option, codes, is_some, slice_index_or}, Fmt.decimal}
 use Rattle.rb_report.specs.Report.{Refusal, last_field, line_of, rule, rule_with_number}
-use Rattle.rb_rules_bridge.specs.declared.bank.Bank.{Bank}
-use Rattle.rb_rules_bridge.specs.declared.bank.Bank.TheVariants.{Left, Right}
+use Rattle.rb_rules_bridge.specs.{declared.bank.Bank.Bank, declared.bank.Bank.TheVariants.{Left, Right}}
 
 -- the bank that an argument names
 abbrev pub bank_of : Bool → Bank

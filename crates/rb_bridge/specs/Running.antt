@@ -1,16 +1,9 @@
 -- A run of a bus to which states are handed, some of whose turns have been given.
-use Rattle.std.specs.Prelude.{⊤, ◌≡◌, Bool, true, false, Option, None, option_and_then, List, [], ◌∷◌, map}
-use Rattle.std.specs.List.{last_or}
-use Rattle.rb_rules.specs.Book.{Record}
-use Rattle.rb_rules.specs.Goodness.{Scenario}
-use Rattle.rb_rules.specs.Ports.{HandIn}
-use Rattle.rb_rules.specs.WorldStep.{World, frame_in}
-use Rattle.rb_world_book.specs.Records.{record_of}
-use Rattle.rb_world_book.specs.declared.turn.Turn.{Turn}
+use Rattle.std.specs.{Prelude.{⊤, ◌≡◌, Bool, true, false, Option, None, option_and_then, List, [], ◌∷◌, map}, List.last_or}
+use Rattle.rb_rules.specs.{Book.Record, Goodness.Scenario, Ports.HandIn, WorldStep.{World, frame_in}}
+use Rattle.rb_world_book.specs.{Records.record_of, declared.turn.Turn.Turn}
 use Rattle.rb_run.specs.Turns.{TellsAll, turn_of}
-use Rattle.rb_world.specs.Driving.{bare}
-use Rattle.rb_world.specs.Nexts.{is_last}
-use Rattle.rb_world.specs.Worlds.{KeptWorld, Stands}
+use Rattle.rb_world.specs.{Driving.bare, Nexts.is_last, Worlds.{KeptWorld, Stands}}
 
 -- the record that the last turn is
 abbrev pub latest : List Turn → Option Record

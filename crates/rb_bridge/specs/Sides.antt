@@ -1,29 +1,14 @@
 -- One bus of a bridge, from frame to frame.
 use Rattle.std.specs.Prelude.{ℕ, ◌≡◌, ◌+◌, ◌<◌, Bool, true, false, Option, None, Some, List, [], ◌∷◌, ◌++◌, map}
-use Rattle.rb_rules.specs.Book.{Record}
-use Rattle.rb_rules.specs.Goodness.{Scenario}
-use Rattle.rb_rules.specs.Ports.{HandIn}
-use Rattle.rb_rules.specs.Rounds.{records_of}
-use Rattle.rb_rules.specs.WorldStep.{IsPrefix}
-use Rattle.rb_world_book.specs.Records.{record_of}
-use Rattle.rb_world_book.specs.declared.turn.Turn.{Turn}
-use Rattle.rb_world_book.specs.declared.turn.Turn.TheVariants as shown
-use Rattle.rb_run.specs.Runs.{HasGivenNothing}
-use Rattle.rb_run.specs.Turns.{TellsAll, records_in, turn_of}
-use Rattle.rb_world.specs.Driving.{bare}
-use Rattle.rb_world.specs.Nexts.{is_last}
+use Rattle.rb_rules.specs.{Book.Record, Goodness.Scenario, Ports.HandIn, Rounds.records_of, WorldStep.IsPrefix}
+use Rattle.rb_world_book.specs.{Records.record_of, declared.turn.Turn.Turn}
+use Rattle.rb_run.specs.{Runs.HasGivenNothing, Turns.{TellsAll, records_in, turn_of}}
+use Rattle.rb_world.specs.{Driving.bare, Nexts.is_last}
 use Rattle.rb_group.specs.declared.voters.Which.TheVariants.{Most}
 use Rattle.rb_group_run.specs.Holding.{IsScopeOf}
-use Rattle.rb_bridge.specs.declared.passing.Passage.{Passage}
-use Rattle.rb_bridge.specs.declared.passing.Terms.{Terms}
-use Rattle.rb_bridge.specs.Passing.{HoldsPassage, is_over}
-use Rattle.rb_bridge.specs.Running.{AreNotLast, IsUnderWay}
-use Rattle.rb_rules_bridge.specs.declared.bank.Bank.{Bank}
-use Rattle.rb_rules_bridge.specs.declared.bank.Bank.TheVariants.{Left, Right}
-use Rattle.rb_rules_bridge.specs.Bridges.{Bridge, bus_on, carried_slot, members_on}
-use Rattle.rb_rules_bridge.specs.Crossings.{hands_of, hands_on, hands_up_to, records_on}
-use Rattle.rb_rules_bridge.specs.Texts.{Break, break_in, break_told}
-use Rattle.rb_bridge.specs.declared.side.Side.{Side}
+use Rattle.rb_bridge.specs.{declared.passing.Passage.Passage, declared.passing.Terms.Terms, Passing.{HoldsPassage, is_over}, Running.{AreNotLast, IsUnderWay}, declared.side.Side.Side}
+use Rattle.rb_rules_bridge.specs.{declared.bank.Bank.Bank, declared.bank.Bank.TheVariants.{Left, Right}, Bridges.{Bridge, bus_on, carried_slot, members_on}, Crossings.{hands_of, hands_on, hands_up_to, records_on}, Texts.{Break, break_in, break_told}}
+use Rattle.rb_world_book.specs.declared.turn.Turn.TheVariants as shown
 
 -- What a side is.
 

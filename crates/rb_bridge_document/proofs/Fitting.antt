@@ -1,22 +1,11 @@
 -- A document that fits two lawful buses says a bridge.
-use Rattle.std.proofs.Common.{◌≡◌, ℕ, pos, negsuc, ◌<◌, ◌≤◌, ◌==◌, ◌&&◌, ◌||◌, nat_le, All, Bool, true, false, not, List, [], ◌∷◌, length, map, get_or, eqb, Option, Some, None, refl, sym, ap, ◌∙◌, arith}
+use Rattle.std.proofs.{Common.{◌≡◌, ℕ, pos, negsuc, ◌<◌, ◌≤◌, ◌==◌, ◌&&◌, ◌||◌, nat_le, All, Bool, true, false, not, List, [], ◌∷◌, length, map, get_or, eqb, Option, Some, None, refl, sym, ap, ◌∙◌, arith}, lemmas.Bool.{and_from, and_parts, eq-eqb, eqb-true, leb-true, ltb-true}, lemmas.List.Elements.{All-cons, All-nil}, lemmas.Option.same_Some}
 use Rattle.std.specs.List.{AllByRecursion, IsDistinct, list_any}
-use Rattle.std.proofs.lemmas.Bool.{and_from, and_parts, eq-eqb, eqb-true, leb-true, ltb-true}
-use Rattle.std.proofs.lemmas.List.Elements.{All-cons, All-nil}
-use Rattle.std.proofs.lemmas.Option.{same_Some}
 use Rattle.toml.specs.Data.{Data, string, integer, float, boolean, datetime, array, table, Items, no_items, item, Members, at, get_member}
-use Rattle.rb_rules.specs.Entries.{IsListed}
-use Rattle.rb_rules.specs.Goodness.{Scenario}
-use Rattle.rb_rules.specs.Lawful.{IsLawful}
-use Rattle.rb_scenario_document.specs.Forms.{has_unknown, has_wrong, lacks}
-use Rattle.rb_scenario_document.specs.Values.{number_at, number_or}
-use Rattle.rb_scenario_document.specs.Walk.{every_item, length_of}
-use Rattle.rb_rules_bridge.specs.declared.bank.Bank.{Bank}
-use Rattle.rb_rules_bridge.specs.declared.bank.Bank.TheVariants.{Left, Right}
-use Rattle.rb_rules_bridge.specs.declared.bank.Pair.{Pair}
-use Rattle.rb_rules_bridge.specs.Bridges.{Bridge, IsBridge, IsHead, biu_on, bus_on, slot_on}
-use Rattle.rb_bridge_document.specs.Acceptance.{AreListed}
-use Rattle.rb_bridge_document.specs.Documents.{are_apart, bridge_fields, bridge_of, has_bridge_form, has_slot, is_below, is_head, is_in_range, joins, pair_in, pair_items, pairs_in, slot_key, when}
+use Rattle.rb_rules.specs.{Entries.IsListed, Goodness.Scenario, Lawful.IsLawful}
+use Rattle.rb_scenario_document.specs.{Forms.{has_unknown, has_wrong, lacks}, Values.{number_at, number_or}, Walk.{every_item, length_of}}
+use Rattle.rb_rules_bridge.specs.{declared.bank.Bank.Bank, declared.bank.Bank.TheVariants.{Left, Right}, declared.bank.Pair.Pair, Bridges.{Bridge, IsBridge, IsHead, biu_on, bus_on, slot_on}}
+use Rattle.rb_bridge_document.specs.{Acceptance.AreListed, Documents.{are_apart, bridge_fields, bridge_of, has_bridge_form, has_slot, is_below, is_head, is_in_range, joins, pair_in, pair_items, pairs_in, slot_key, when}}
 
 number-below : (count : ℕ) (o : Option Data) → is_below count o ≡ true → number_or 0 o < count
 number-below count None h = cc

@@ -3,15 +3,10 @@ use Rattle.std.specs.Prelude.{⊤, ℕ, ◌≡◌, ◌≢◌, true, false, List,
 use Rattle.toml.specs.Data.{Members}
 use Rattle.rb_rules.specs.Entries.{IsListed}
 use Rattle.rb_scenario_entries.specs.declared.refusal.Refusal.{Refusal}
+use Rattle.rb_scenario.specs.{declared.scenario.Scenario.Scenario as Accepted, Acceptance.{IsAccepted, IsDocument, IsRefused, as_scenario}}
+use Rattle.rb_rules_bridge.specs.{declared.bank.Bank.Bank, Bridges.{Bridge, bus_on}}
+use Rattle.rb_bridge_document.specs.{declared.bridge.Bridge.Bridge as Kept, declared.refusal.BridgeRefusal.BridgeRefusal, declared.refusal.BridgeRefusal.TheVariants.{BridgeToml, BridgeForm, LeftRefused, RightRefused, BridgeRange, OutOfMemory}, Documents.{bridge_of, has_bridge_form, is_in_range, text_at}}
 use Rattle.rb_scenario_entries.specs.declared.refusal.Refusal.TheVariants as scenario
-use Rattle.rb_scenario.specs.declared.scenario.Scenario.{Scenario as Accepted}
-use Rattle.rb_scenario.specs.Acceptance.{IsAccepted, IsDocument, IsRefused, as_scenario}
-use Rattle.rb_rules_bridge.specs.declared.bank.Bank.{Bank}
-use Rattle.rb_rules_bridge.specs.Bridges.{Bridge, bus_on}
-use Rattle.rb_bridge_document.specs.declared.bridge.Bridge.{Bridge as Kept}
-use Rattle.rb_bridge_document.specs.declared.refusal.BridgeRefusal.{BridgeRefusal}
-use Rattle.rb_bridge_document.specs.declared.refusal.BridgeRefusal.TheVariants.{BridgeToml, BridgeForm, LeftRefused, RightRefused, BridgeRange, OutOfMemory}
-use Rattle.rb_bridge_document.specs.Documents.{bridge_of, has_bridge_form, is_in_range, text_at}
 
 -- the texts at both keys are those of scenarios that are accepted
 pub record SaysBuses (t : Members) (left right : Accepted) : Type 0 where

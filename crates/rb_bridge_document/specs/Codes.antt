@@ -1,8 +1,7 @@
 -- The numbers by which the refusals of a bridge are printed.
 use Rattle.std.specs.Prelude.{ℕ, Option, Some, None}
 use Rattle.rb_scenario_entries.specs.Codes.{code_of as scenario_code_of}
-use Rattle.rb_bridge_document.specs.declared.refusal.BridgeRefusal.{BridgeRefusal}
-use Rattle.rb_bridge_document.specs.declared.refusal.BridgeRefusal.TheVariants.{BridgeToml, BridgeForm, LeftRefused, RightRefused, BridgeRange, OutOfMemory}
+use Rattle.rb_bridge_document.specs.{declared.refusal.BridgeRefusal.BridgeRefusal, declared.refusal.BridgeRefusal.TheVariants.{BridgeToml, BridgeForm, LeftRefused, RightRefused, BridgeRange, OutOfMemory}}
 
 -- the code of a refusal; out of memory has none
 abbrev pub code_of : BridgeRefusal → Option ℕ

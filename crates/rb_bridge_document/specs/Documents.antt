@@ -1,18 +1,10 @@
 -- What the document of a bridge says: the texts of two scenarios, pairs of BIUs, and which data
 -- slot of each bus is carried over.
-use Rattle.std.specs.Prelude.{ℕ, pos, ◌==◌, nat_le, nat_lt, Bool, true, false, not, ◌&&◌, List, [], ◌∷◌, Option, Some, None, codes, get_or, if◌then◌else◌}
-use Rattle.std.specs.List.{list_any}
+use Rattle.std.specs.{Prelude.{ℕ, pos, ◌==◌, nat_le, nat_lt, Bool, true, false, not, ◌&&◌, List, [], ◌∷◌, Option, Some, None, codes, get_or, if◌then◌else◌}, List.list_any}
 use Rattle.toml.specs.Data.{Data, string, integer, array, Items, no_items, item, Members, at, get_member}
 use Rattle.rb_rules.specs.Goodness.{Scenario}
-use Rattle.rb_scenario_document.specs.declared.fields.Form.TheVariants.{Integer, Text, Pairs}
-use Rattle.rb_scenario_document.specs.Fields.{Entry}
-use Rattle.rb_scenario_document.specs.Forms.{has_unknown, has_wrong, lacks}
-use Rattle.rb_scenario_document.specs.Values.{number_at, number_or, pair_of}
-use Rattle.rb_scenario_document.specs.Walk.{every_item, length_of}
-use Rattle.rb_rules_bridge.specs.declared.bank.Bank.{Bank}
-use Rattle.rb_rules_bridge.specs.declared.bank.Bank.TheVariants.{Left, Right}
-use Rattle.rb_rules_bridge.specs.declared.bank.Pair.{Pair}
-use Rattle.rb_rules_bridge.specs.Bridges.{Bridge, biu_on}
+use Rattle.rb_scenario_document.specs.{declared.fields.Form.TheVariants.{Integer, Text, Pairs}, Fields.Entry, Forms.{has_unknown, has_wrong, lacks}, Values.{number_at, number_or, pair_of}, Walk.{every_item, length_of}}
+use Rattle.rb_rules_bridge.specs.{declared.bank.Bank.Bank, declared.bank.Bank.TheVariants.{Left, Right}, declared.bank.Pair.Pair, Bridges.{Bridge, biu_on}}
 
 -- Keys and forms.
 

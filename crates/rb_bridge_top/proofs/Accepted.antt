@@ -1,19 +1,13 @@
 -- An input says one bridge, or is refused by a rule that has a line.
 use Rattle.std.proofs.Common.{◌≡◌, ◌≢◌, ℕ, Bool, true, false, List, IsSome, is_some, codes, refl, sym, ◌∙◌, ap, subst, lit≤}
 use Rattle.toml.specs.Data.{Members}
-use Rattle.rb_scenario_entries.specs.Codes.{code_of as scenario_code_of}
-use Rattle.rb_scenario_entries.specs.declared.refusal.Refusal.{Refusal}
-use Rattle.rb_scenario_entries.specs.declared.refusal.Refusal.TheVariants as rule
-use Rattle.rb_scenario.specs.Acceptance.{IsAccepted, IsDocument, IsRefused, as_scenario}
+use Rattle.rb_scenario_entries.specs.{Codes.code_of as scenario_code_of, declared.refusal.Refusal.Refusal}
+use Rattle.rb_scenario.specs.{Acceptance.{IsAccepted, IsDocument, IsRefused, as_scenario}, declared.scenario.Scenario.Scenario as Accepted}
 use Rattle.rb_scenario.proofs.Documents.{accepted_alike, accepted_is_toml, accepted_is_unbroken, same_document}
-use Rattle.rb_scenario.specs.declared.scenario.Scenario.{Scenario as Accepted}
 use Rattle.rb_rules_bridge.specs.Bridges.{Bridge}
-use Rattle.rb_bridge_document.specs.declared.refusal.BridgeRefusal.{BridgeRefusal}
-use Rattle.rb_bridge_document.specs.declared.refusal.BridgeRefusal.TheVariants.{BridgeToml, BridgeForm, LeftRefused, RightRefused, BridgeRange, OutOfMemory}
-use Rattle.rb_bridge_document.specs.Acceptance.{IsBridgeAccepted, IsBridgeRefused, SaysBridge, SaysBuses}
-use Rattle.rb_bridge_document.specs.Codes.{code_of}
-use Rattle.rb_bridge_document.specs.Documents.{bridge_of, has_bridge_form, is_in_range, text_at}
+use Rattle.rb_bridge_document.specs.{declared.refusal.BridgeRefusal.BridgeRefusal, declared.refusal.BridgeRefusal.TheVariants.{BridgeToml, BridgeForm, LeftRefused, RightRefused, BridgeRange, OutOfMemory}, Acceptance.{IsBridgeAccepted, IsBridgeRefused, SaysBridge, SaysBuses}, Codes.code_of, Documents.{bridge_of, has_bridge_form, is_in_range, text_at}}
 use Rattle.rb_bridge_top.specs.Inputs.{HasLine}
+use Rattle.rb_scenario_entries.specs.declared.refusal.Refusal.TheVariants as rule
 
 true-false : (a : Bool) → a ≡ true → a ≡ false → ⊥
 true-false a sure gone = cc

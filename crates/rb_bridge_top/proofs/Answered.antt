@@ -2,15 +2,9 @@
 use Rattle.std.proofs.Common.{◌≡◌, ◌⊎◌, ℕ, Bool, List, Option, inl, inr, refl, subst, sym}
 use Rattle.rb_outside.specs.Causes.{Rose}
 use Rattle.rb_world_book.specs.declared.turn.Turn.{Turn}
-use Rattle.rb_bridge_document.specs.declared.bridge.Bridge.{Bridge as Kept}
-use Rattle.rb_bridge_document.specs.Acceptance.{as_bridge}
-use Rattle.rb_bridge.specs.Crossing.{WritesPart, run_of}
-use Rattle.rb_bridge.specs.Sides.{drive_of}
-use Rattle.rb_bridge_top.specs.declared.status.Status.{Status}
-use Rattle.rb_bridge_top.specs.declared.status.Status.TheVariants.{Done, Breach, Usage, Refused, TooLong, ReadFault, WriteFault, OutOfMemory}
-use Rattle.rb_bridge_top.specs.Answers.{Answers, IsCrossed}
-use Rattle.rb_bridge_top.specs.Inputs.{ReadsBridge, ReadsNone}
-use Rattle.rb_bridge_top.specs.Statuses.{HasEnded, IsOfRun, MayRefuse, RunsNothing, WritesNothing}
+use Rattle.rb_bridge_document.specs.{declared.bridge.Bridge.Bridge as Kept, Acceptance.as_bridge}
+use Rattle.rb_bridge.specs.{Crossing.{WritesPart, run_of}, Sides.drive_of}
+use Rattle.rb_bridge_top.specs.{declared.status.Status.Status, declared.status.Status.TheVariants.{Done, Breach, Usage, Refused, TooLong, ReadFault, WriteFault, OutOfMemory}, Answers.{Answers, IsCrossed}, Inputs.{ReadsBridge, ReadsNone}, Statuses.{HasEnded, IsOfRun, MayRefuse, RunsNothing, WritesNothing}}
 
 never-both : (status : Status) → MayRefuse status → HasEnded status → ⊥
 never-both Done may ended = may

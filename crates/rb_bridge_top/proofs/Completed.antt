@@ -4,21 +4,14 @@ use Rattle.rb_outside.specs.Bytes.{Gave, ReadsToEnd}
 use Rattle.rb_outside.proofs.Known.{gave_within, read_bytes}
 use Rattle.rb_world_book.specs.declared.turn.Turn.{Turn}
 use Rattle.rb_laws_promise.proofs.Whole.{kept}
-use Rattle.rb_rules_bridge.specs.Bridges.{Bridge, bus_on}
-use Rattle.rb_rules_bridge.specs.Crossings.{hands_of, hands_on}
+use Rattle.rb_rules_bridge.specs.{Bridges.{Bridge, bus_on}, Crossings.{hands_of, hands_on}}
 use Rattle.rb_laws_bridge.proofs.Crossed.{words-cross}
 use Rattle.rb_bridge_document.specs.Acceptance.{IsBridgeAccepted}
 use Rattle.rb_run.specs.declared.ending.Ending.{Ending}
-use Rattle.rb_run.specs.declared.ending.Ending.TheVariants as ending
-use Rattle.rb_bridge.specs.Crossing.{EndsAs, run_of}
-use Rattle.rb_bridge.specs.Sides.{drive_of}
-use Rattle.rb_bridge_top.specs.declared.status.Status.{Status}
-use Rattle.rb_bridge_top.specs.declared.status.Status.TheVariants.{Done, Breach, Usage, Refused, TooLong, ReadFault, WriteFault, OutOfMemory}
-use Rattle.rb_bridge_top.specs.Answers.{Answers, Completes, Ends, FailsToWrite, NothingFails, Refuses}
-use Rattle.rb_bridge_top.specs.Inputs.{IsRefusedWith, IsUnread, input_limit}
-use Rattle.rb_bridge_top.specs.Promise.{KeepsTheBridge}
-use Rattle.rb_bridge_top.specs.Statuses.{HasEnded, HasFailed, MayRefuse, end_of, status_of, status_with}
+use Rattle.rb_bridge.specs.{Crossing.{EndsAs, run_of}, Sides.drive_of}
+use Rattle.rb_bridge_top.specs.{declared.status.Status.Status, declared.status.Status.TheVariants.{Done, Breach, Usage, Refused, TooLong, ReadFault, WriteFault, OutOfMemory}, Answers.{Answers, Completes, Ends, FailsToWrite, NothingFails, Refuses}, Inputs.{IsRefusedWith, IsUnread, input_limit}, Promise.KeepsTheBridge, Statuses.{HasEnded, HasFailed, MayRefuse, end_of, status_of, status_with}}
 use Rattle.rb_bridge_top.proofs.Accepted.{not-both, one-bridge}
+use Rattle.rb_run.specs.declared.ending.Ending.TheVariants as ending
 
 -- how a bridge with two plain drives ends
 ends-so : (b : Bridge) (lp : Bool) (ltold lsince : Option (List Turn)) (rp : Bool) (rtold rsince : Option (List Turn)) (e : Ending)

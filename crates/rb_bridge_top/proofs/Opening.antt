@@ -2,20 +2,13 @@
 use Rattle.std.proofs.Common.{◌≡◌, ◌==◌, ℕ, List, sym, ◌∙◌, ap, subst}
 use Rattle.std.specs.List.{list_any}
 use Rattle.rb_base.specs.Nodes.{set_of}
-use Rattle.rb_bridge_document.specs.declared.bridge.Bridge.{Bridge as Kept}
-use Rattle.rb_bridge_document.specs.Acceptance.{as_bridge}
-use Rattle.rb_rules_bridge.specs.declared.bank.Bank.TheVariants.{Left, Right}
-use Rattle.rb_rules_bridge.specs.declared.bank.Pair.{Pair}
-use Rattle.rb_rules_bridge.specs.Bridges.{biu_on}
+use Rattle.rb_bridge_document.specs.{declared.bridge.Bridge.Bridge as Kept, Acceptance.as_bridge}
+use Rattle.rb_rules_bridge.specs.{declared.bank.Bank.TheVariants.{Left, Right}, declared.bank.Pair.Pair, Bridges.biu_on}
 use Rattle.rb_run.specs.declared.ending.Ending.{Ending}
-use Rattle.rb_run.specs.declared.ending.Ending.TheVariants as ending
 use Rattle.rb_scenario.specs.Acceptance.{as_scenario}
-use Rattle.rb_bridge.specs.declared.side.Side.{Side}
-use Rattle.rb_bridge.specs.Crossing.{HaveOpened}
-use Rattle.rb_bridge.specs.Sides.{HasOpened}
-use Rattle.rb_bridge_top.specs.declared.status.Status.{Status}
-use Rattle.rb_bridge_top.specs.declared.status.Status.TheVariants.{WriteFault, OutOfMemory}
-use Rattle.rb_bridge_top.specs.Statuses.{HasEnded, IsOfRun, status_of}
+use Rattle.rb_bridge.specs.{declared.side.Side.Side, Crossing.HaveOpened, Sides.HasOpened}
+use Rattle.rb_bridge_top.specs.{declared.status.Status.Status, declared.status.Status.TheVariants.{WriteFault, OutOfMemory}, Statuses.{HasEnded, IsOfRun, status_of}}
+use Rattle.rb_run.specs.declared.ending.Ending.TheVariants as ending
 
 -- both sides are open, each with the BIUs of its pairs
 pub both-opened : (kept : Kept) (ps qs : List Pair) (m n : ℕ) (l r : Side) → ps ≡ kept.pairs.items → qs ≡ kept.pairs.items

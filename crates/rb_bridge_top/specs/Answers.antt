@@ -1,21 +1,13 @@
 -- When each answer of the top call comes, and what it leaves written.
-use Rattle.std.specs.Prelude.{ℕ, ◌≡◌, ◌≤◌, ◌⊎◌, Bool, true, List, length, Option, Some, String}
-use Rattle.std.specs.declared.alloc.Global.{Global}
-use Rattle.rb_outside.specs.Bytes.{ReadsToEnd}
-use Rattle.rb_outside.specs.Causes.{Rose}
+use Rattle.std.specs.{Prelude.{ℕ, ◌≡◌, ◌≤◌, ◌⊎◌, Bool, true, List, length, Option, Some, String}, declared.alloc.Global.Global}
+use Rattle.rb_outside.specs.{Bytes.ReadsToEnd, Causes.Rose}
 use Rattle.rb_world_book.specs.declared.turn.Turn.{Turn}
 use Rattle.rb_run.specs.declared.ending.Ending.{Ending}
 use Rattle.rb_rules_bridge.specs.Bridges.{Bridge, IsBridge}
 use Rattle.rb_bridge_document.specs.Acceptance.{AreListed, IsBridgeAccepted}
-use Rattle.rb_bridge.specs.Crossing.{ArePlain, BridgeRun, Drives, WritesAll, WritesPart, run_of}
-use Rattle.rb_bridge.specs.Sides.{drive_of}
-use Rattle.rb_bridge_top.specs.declared.form.Form.{Form}
-use Rattle.rb_bridge_top.specs.declared.form.Form.TheVariants.{Run}
-use Rattle.rb_bridge_top.specs.declared.status.Status.{Status}
+use Rattle.rb_bridge.specs.{Crossing.{ArePlain, BridgeRun, Drives, WritesAll, WritesPart, run_of}, Sides.drive_of}
+use Rattle.rb_bridge_top.specs.{declared.form.Form.Form, declared.form.Form.TheVariants.Run, declared.status.Status.Status, Inputs.{IsRefusedWith, IsUnread, RefusesText, FailsToRefuse, input_limit}, Statuses.{HasEnded, HasFailed, MayRefuse, RunsNothing, WritesNothing, end_of, status_of}, Words.AskFor}
 use Rattle.rb_bridge_top.specs.declared.status.Status.TheVariants as answer
-use Rattle.rb_bridge_top.specs.Inputs.{IsRefusedWith, IsUnread, RefusesText, FailsToRefuse, input_limit}
-use Rattle.rb_bridge_top.specs.Statuses.{HasEnded, HasFailed, MayRefuse, RunsNothing, WritesNothing, end_of, status_of}
-use Rattle.rb_bridge_top.specs.Words.{AskFor}
 
 -- Usage is the answer if and only if the words ask for no form
 pub record UsageExactly (status : Status) (words : List (String Global)) : Type 0 where

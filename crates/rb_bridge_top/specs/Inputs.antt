@@ -1,17 +1,11 @@
 -- What is read, and how it is refused or not read to its end.
-use Rattle.std.specs.Prelude.{ℕ, ◌≡◌, ◌≤◌, ◌<◌, List, Option, IsSome, unwrap_or}
-use Rattle.std.specs.Io.KnownBytes.{Appends}
-use Rattle.rb_outside.specs.Bytes.{AppendsPart, Gave, ReadsToEnd}
-use Rattle.rb_outside.specs.Causes.{Rose}
+use Rattle.std.specs.{Prelude.{ℕ, ◌≡◌, ◌≤◌, ◌<◌, List, Option, IsSome, unwrap_or}, Io.KnownBytes.Appends}
+use Rattle.rb_outside.specs.{Bytes.{AppendsPart, Gave, ReadsToEnd}, Causes.Rose}
 use Rattle.rb_rules_bridge.specs.Bridges.{IsBridge}
-use Rattle.rb_bridge_document.specs.declared.bridge.Bridge.{Bridge as Kept}
-use Rattle.rb_bridge_document.specs.declared.refusal.BridgeRefusal.{BridgeRefusal}
-use Rattle.rb_bridge_document.specs.Acceptance.{AreListed, IsBridgeAccepted, IsBridgeRefused, as_bridge}
-use Rattle.rb_bridge_document.specs.Codes.{code_of, detail_of}
+use Rattle.rb_bridge_document.specs.{declared.bridge.Bridge.Bridge as Kept, declared.refusal.BridgeRefusal.BridgeRefusal, Acceptance.{AreListed, IsBridgeAccepted, IsBridgeRefused, as_bridge}, Codes.{code_of, detail_of}}
 use Rattle.rb_bridge.specs.Refusals.{IsBridgeRefusal, bridge_refused_text}
-use Rattle.rb_bridge_top.specs.declared.status.Status.{Status}
+use Rattle.rb_bridge_top.specs.{declared.status.Status.Status, Statuses.MayRefuse}
 use Rattle.rb_bridge_top.specs.declared.status.Status.TheVariants as answer
-use Rattle.rb_bridge_top.specs.Statuses.{MayRefuse}
 
 -- the most bytes of an input
 abbrev pub input_limit : ℕ

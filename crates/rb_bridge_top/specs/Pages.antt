@@ -1,10 +1,7 @@
 -- What the program says of itself.
-use Rattle.std.specs.Prelude.{ℕ, ◌≡◌, ◌⊎◌, List, Option, codes, ◌++◌}
-use Rattle.std.specs.Io.KnownBytes.{Appends}
-use Rattle.rb_flags.specs.declared.Flag.{Flag}
-use Rattle.rb_flags.specs.declared.Flag.TheVariants.{Help, ShortHelp, Version}
-use Rattle.rb_outside.specs.Bytes.{AppendsPart}
-use Rattle.rb_outside.specs.Causes.{Rose}
+use Rattle.std.specs.{Prelude.{ℕ, ◌≡◌, ◌⊎◌, List, Option, codes, ◌++◌}, Io.KnownBytes.Appends}
+use Rattle.rb_flags.specs.{declared.Flag.Flag, declared.Flag.TheVariants.{Help, ShortHelp, Version}}
+use Rattle.rb_outside.specs.{Bytes.AppendsPart, Causes.Rose}
 use Rattle.rb_bridge_top.specs.declared.status.Status.{Status}
 use Rattle.rb_bridge_top.specs.declared.status.Status.TheVariants as answer
 

@@ -1,16 +1,11 @@
 -- What a bridge promises if both drives are plain.
-use Rattle.std.specs.Prelude.{ℕ, ◌≡◌, List, Option}
-use Rattle.std.specs.Io.KnownBytes.{Appends}
+use Rattle.std.specs.{Prelude.{ℕ, ◌≡◌, List, Option}, Io.KnownBytes.Appends}
 use Rattle.rb_outside.specs.Bytes.{ReadsToEnd}
 use Rattle.rb_laws_promise.specs.Promise.{KeepsThePromise}
-use Rattle.rb_rules_bridge.specs.declared.bank.Bank.{Bank}
-use Rattle.rb_rules_bridge.specs.Bridges.{Bridge, IsBridge, bus_on}
-use Rattle.rb_rules_bridge.specs.Crossings.{hands_of, hands_on}
-use Rattle.rb_rules_bridge.specs.Texts.{bridge_text}
+use Rattle.rb_rules_bridge.specs.{declared.bank.Bank.Bank, Bridges.{Bridge, IsBridge, bus_on}, Crossings.{hands_of, hands_on}, Texts.bridge_text}
 use Rattle.rb_laws_bridge.specs.Laws.{WordsCrossOn}
 use Rattle.rb_bridge_document.specs.Acceptance.{AreListed, IsBridgeAccepted}
-use Rattle.rb_bridge_top.specs.declared.status.Status.{Status}
-use Rattle.rb_bridge_top.specs.Statuses.{end_of}
+use Rattle.rb_bridge_top.specs.{declared.status.Status.Status, Statuses.end_of}
 
 -- The promise of `run`, at Done and at Breach
 pub record KeepsTheBridge (status : Status) (left left' held held' : Option (List ℕ)) : Type 0 where

@@ -1,11 +1,9 @@
 -- Kinds of answers.
 use Rattle.std.specs.Prelude.{⊤, Option, Some, None}
-use Rattle.rb_rules_bridge.specs.Bridges.{Bridge}
-use Rattle.rb_rules_bridge.specs.Texts.{Break, break_of}
+use Rattle.rb_rules_bridge.specs.{Bridges.Bridge, Texts.{Break, break_of}}
 use Rattle.rb_run.specs.declared.ending.Ending.{Ending}
+use Rattle.rb_bridge_top.specs.{declared.status.Status.Status, declared.status.Status.TheVariants.{Done, Breach, Usage, Refused, TooLong, ReadFault, WriteFault, OutOfMemory}}
 use Rattle.rb_run.specs.declared.ending.Ending.TheVariants as ending
-use Rattle.rb_bridge_top.specs.declared.status.Status.{Status}
-use Rattle.rb_bridge_top.specs.declared.status.Status.TheVariants.{Done, Breach, Usage, Refused, TooLong, ReadFault, WriteFault, OutOfMemory}
 
 -- all that was asked for is done
 abbrev pub HasEnded : Status → Type 0

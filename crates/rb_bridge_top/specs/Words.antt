@@ -1,9 +1,7 @@
 -- The words of a call, and what they ask for.
-use Rattle.std.specs.Prelude.{ℕ, ◌≡◌, List, [], ◌∷◌, map, codes, String, string_bytes}
-use Rattle.std.specs.declared.alloc.Global.{Global}
+use Rattle.std.specs.{Prelude.{ℕ, ◌≡◌, List, [], ◌∷◌, map, codes, String, string_bytes}, declared.alloc.Global.Global}
 use Rattle.rb_flags.specs.Flags.{flag_text}
-use Rattle.rb_bridge_top.specs.declared.form.Form.{Form}
-use Rattle.rb_bridge_top.specs.declared.form.Form.TheVariants.{Run, Show}
+use Rattle.rb_bridge_top.specs.{declared.form.Form.Form, declared.form.Form.TheVariants.{Run, Show}}
 
 -- the words of a form
 abbrev pub words_of : Form → List (List ℕ)

@@ -1,9 +1,6 @@
 -- A word that is handed in over a handle.
 use Rattle.std.proofs.Common.{◌≡◌, ℕ, Option, Some, None, Result, subst}
-use Rattle.rb_bus.specs.Buses.{Hands}
-use Rattle.rb_bus.specs.Calls.{HandOf, number_of}
-use Rattle.rb_bus.specs.declared.bus.Bus.{Bus}
-use Rattle.rb_bus.specs.declared.bus.NotHanded.{NotHanded}
+use Rattle.rb_bus.specs.{Buses.Hands, Calls.{HandOf, number_of}, declared.bus.Bus.Bus, declared.bus.NotHanded.NotHanded}
 
 pub handed : (biu word : ℕ) (before after : Option Bus) (b c : Bus) (answer : Result (Unit {0}) NotHanded) (status : ℕ)
     → before ≡ Some b → after ≡ Some c → status ≡ number_of answer → Hands biu word b c answer

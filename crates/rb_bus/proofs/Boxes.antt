@@ -1,5 +1,7 @@
 -- A boxed bus in a call of a box's functions, and the machine value of a handle.
 use Rattle.std.proofs.Common.{ℕ, List, [], ◌∷◌, refl, Some}
+use Rattle.rb_bus.specs.Owns.{held_owns}
+use Rattle.std_heap.specs.contracts.GlobalAllocator.TheImpl.{ghosts, dict}
 use seplogic.Ra.Ura.{Ura}
 use lib.Dec.{T as Holds}
 use mir.Syntax.{Ty, Dict, impl, tnil, tcons, dnil}
@@ -18,10 +20,8 @@ use denote.Param.Laws.{Laws, arg_laws}
 use Rattle.rb_bus.specs.contracts.bus.Bus as inside
 use Rattle.rb_bus.proofs.bus.Bus.TheLaws as inside_laws
 use Rattle.rb_bus.specs.contracts.held.Held as Held
-use Rattle.rb_bus.specs.Owns.{held_owns}
 use Rattle.std_heap.specs.contracts.Global as heap
 use Rattle.std_heap.proofs.Global.TheLaws as heap_laws
-use Rattle.std_heap.specs.contracts.GlobalAllocator.TheImpl.{ghosts, dict}
 use Rattle.std_alloc.proofs.BoxSteps.Form as box
 use Rattle.std_alloc.specs.contracts.boxed.Box as boxed
 

@@ -1,5 +1,6 @@
 -- The drop of a bus, as a call passes it with the type, is the drop of that type.
 use Rattle.std.proofs.Common.{[], ◌∷◌, refl}
+use Rattle.rb_bus.proofs.Boxes.{T, LT}
 use seplogic.Ra.Ura.{Ura}
 use mir.Syntax.{Dict, impl, method, tnil, dnil}
 use types.Logic.{Logic}
@@ -19,7 +20,6 @@ use Rattle.rb_bus.proofs.rb_bus++bus++Bus+Destruct.drop.Kinds as kinds
 use Rattle.rb_bus.proofs.rb_bus++bus++Bus+Destruct.drop.Met as drops
 use Rattle.rb_bus.proofs.rb_bus++bus++Bus+Destruct.drop.Reads as reads
 use Rattle.rb_bus.proofs.rb_bus++bus++Bus+Destruct.drop.Symbol as symbol
-use Rattle.rb_bus.proofs.Boxes.{T, LT}
 
 abbrev pub d : Dict
 d = impl ("rb_bus::rb_bus++bus++Bus+Destruct::drop" ∷ []) tnil dnil

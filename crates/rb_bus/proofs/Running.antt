@@ -1,35 +1,17 @@
 -- A bus in a host's hands, call by call: the run that it is in before and after each call.
-use Rattle.std.proofs.Common.{◌≡◌, ℕ, All, Bool, true, false, Option, Some, None, is_some, List, [], ◌∷◌, ◌++◌}
-use Rattle.std.proofs.Common.{length, get_or, slice_get, refl, sym, ap, ◌∙◌, subst}
-use Rattle.std.proofs.lemmas.List.Elements.{All-cons, All-head, All-nil, All-tail}
+use Rattle.std.proofs.{Common.{◌≡◌, ℕ, All, Bool, true, false, Option, Some, None, is_some, List, [], ◌∷◌, ◌++◌}, Common.{length, get_or, slice_get, refl, sym, ap, ◌∙◌, subst}, lemmas.List.Elements.{All-cons, All-head, All-nil, All-tail}}
 use Rattle.rb_base.specs.Nodes.Side.{Biu}
 use Rattle.rb_laws_agreement.proofs.TablesHold.{held-delivered}
 use Rattle.rb_laws_events.proofs.EventsHold.{events-hold}
 use Rattle.rb_laws_groups.specs.Lines.{IsRight}
 use Rattle.rb_laws_promise.proofs.Whole.{kept}
 use Rattle.rb_laws_promise.specs.Promise.{KeepsThePromise}
-use Rattle.rb_rules.specs.Book.{Record}
-use Rattle.rb_rules.specs.Goodness.{Scenario, is_good}
-use Rattle.rb_rules.specs.Entries.{IsListed}
-use Rattle.rb_rules.specs.Lawful.{IsLawful}
-use Rattle.rb_rules.specs.Ports.{HandIn, with_state}
-use Rattle.rb_rules.specs.Rounds.{records_of}
-use Rattle.rb_rules.specs.WorldStep.{IsPrefix, World, first_world, frame_in, hand}
-use Rattle.rb_scenario.specs.Acceptance.{IsAccepted, as_scenario}
-use Rattle.rb_scenario.specs.declared.scenario.Scenario.{Scenario as Accepted}
-use Rattle.rb_world.specs.declared.last.Last.{Last}
+use Rattle.rb_rules.specs.{Book.Record, Goodness.{Scenario, is_good}, Entries.IsListed, Lawful.IsLawful, Ports.{HandIn, with_state}, Rounds.records_of, WorldStep.{IsPrefix, World, first_world, frame_in, hand}}
+use Rattle.rb_scenario.specs.{Acceptance.{IsAccepted, as_scenario}, declared.scenario.Scenario.Scenario as Accepted}
+use Rattle.rb_world.specs.{declared.last.Last.Last, declared.ties.Ties.TheVariants.First, Nexts.{GoesToNext, is_last}, Numbering.{GoesInRounds, IsLastAgain, IsNextRecord}, Worlds.{KeptWorld, Stands, last_of}}
+use Rattle.rb_world_book.specs.{Records.record_of, declared.turn.Turn.Turn}
+use Rattle.rb_bus.specs.{Access.IsAccessOf, Buses.{Gives, GivesLastAgain, GivesNext, HandsIn, HasRun, KeepsItsPromise}, Buses.{ForItsRun, Opens, Run, records_in}, declared.access.Access.Access, declared.bus.Bus.Bus}
 use Rattle.rb_world.specs.declared.last.Last.TheVariants as last
-use Rattle.rb_world.specs.declared.ties.Ties.TheVariants.{First}
-use Rattle.rb_world.specs.Nexts.{GoesToNext, is_last}
-use Rattle.rb_world.specs.Numbering.{GoesInRounds, IsLastAgain, IsNextRecord}
-use Rattle.rb_world.specs.Worlds.{KeptWorld, Stands, last_of}
-use Rattle.rb_world_book.specs.Records.{record_of}
-use Rattle.rb_world_book.specs.declared.turn.Turn.{Turn}
-use Rattle.rb_bus.specs.Access.{IsAccessOf}
-use Rattle.rb_bus.specs.Buses.{Gives, GivesLastAgain, GivesNext, HandsIn, HasRun, KeepsItsPromise}
-use Rattle.rb_bus.specs.Buses.{ForItsRun, Opens, Run, records_in}
-use Rattle.rb_bus.specs.declared.access.Access.{Access}
-use Rattle.rb_bus.specs.declared.bus.Bus.{Bus}
 
 -- Opening.
 

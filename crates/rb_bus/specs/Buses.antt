@@ -1,26 +1,14 @@
 -- A bus in a host's hands, and its promise.
-use Rattle.std.specs.Prelude.{ℕ, ◌≡◌, All, Bool, true, false, Some, None, List, [], ◌∷◌, ◌++◌}
-use Rattle.std.specs.Prelude.{Result, Ok, Err, get_or, length, slice_get}
+use Rattle.std.specs.{Prelude.{ℕ, ◌≡◌, All, Bool, true, false, Some, None, List, [], ◌∷◌, ◌++◌}, Prelude.{Result, Ok, Err, get_or, length, slice_get}}
 use Rattle.rb_base.specs.Nodes.Side.{Biu}
 use Rattle.rb_laws_agreement.specs.Held.{DeliverTheHeldWord}
 use Rattle.rb_laws_groups.specs.Lines.{IsRight}
 use Rattle.rb_laws_promise.specs.Promise.{KeepsThePromise}
-use Rattle.rb_rules.specs.Book.{Record}
-use Rattle.rb_rules.specs.Goodness.{Scenario, is_good}
-use Rattle.rb_rules.specs.Entries.{IsListed}
-use Rattle.rb_rules.specs.Lawful.{IsLawful}
-use Rattle.rb_rules.specs.Ports.{HandIn}
-use Rattle.rb_rules.specs.Rounds.{records_of}
-use Rattle.rb_rules.specs.WorldStep.{IsPrefix, World, frame_in}
-use Rattle.rb_scenario.specs.Acceptance.{IsAccepted, as_scenario}
-use Rattle.rb_scenario.specs.declared.scenario.Scenario.{Scenario as Accepted}
-use Rattle.rb_world.specs.Nexts.{is_last}
-use Rattle.rb_world.specs.Worlds.{Stands}
-use Rattle.rb_world_book.specs.Records.{record_of}
-use Rattle.rb_world_book.specs.declared.turn.Turn.{Turn}
-use Rattle.rb_bus.specs.Access.{IsAccessOf}
-use Rattle.rb_bus.specs.declared.bus.Bus.{Bus}
-use Rattle.rb_bus.specs.declared.bus.NotHanded.{NotHanded}
+use Rattle.rb_rules.specs.{Book.Record, Goodness.{Scenario, is_good}, Entries.IsListed, Lawful.IsLawful, Ports.HandIn, Rounds.records_of, WorldStep.{IsPrefix, World, frame_in}}
+use Rattle.rb_scenario.specs.{Acceptance.{IsAccepted, as_scenario}, declared.scenario.Scenario.Scenario as Accepted}
+use Rattle.rb_world.specs.{Nexts.is_last, Worlds.Stands}
+use Rattle.rb_world_book.specs.{Records.record_of, declared.turn.Turn.Turn}
+use Rattle.rb_bus.specs.{Access.IsAccessOf, declared.bus.Bus.Bus, declared.bus.NotHanded.NotHanded}
 use Rattle.rb_bus.specs.declared.bus.NotHanded.TheVariants as refusal
 
 -- The run of a bus.

@@ -1,19 +1,10 @@
 -- What the calls over a handle promise.
-use Rattle.std.specs.Prelude.{ℕ, ◌≡◌, ◌⊎◌, Option, Some, None, IfErr, IsSomeAnd, List, OnErr, OnOk}
-use Rattle.std.specs.Prelude.{Result, Ok, Err, unwrap_or}
-use Rattle.rb_rules.specs.Book.{Record}
-use Rattle.rb_rules.specs.WorldStep.{frame_in}
+use Rattle.std.specs.{Prelude.{ℕ, ◌≡◌, ◌⊎◌, Option, Some, None, IfErr, IsSomeAnd, List, OnErr, OnOk}, Prelude.{Result, Ok, Err, unwrap_or}}
+use Rattle.rb_rules.specs.{Book.Record, WorldStep.frame_in}
 use Rattle.rb_scenario.specs.Acceptance.{IsRefused}
-use Rattle.rb_scenario_entries.specs.Codes.{code_of, detail_of}
-use Rattle.rb_scenario_entries.specs.declared.refusal.Refusal.{Refusal}
-use Rattle.rb_scenario_entries.specs.declared.refusal.Refusal.TheVariants.{OutOfMemory}
-use Rattle.rb_bus.specs.Buses.{ForItsRun, GivesRecord, Hands, KeepsItsPromise, Opens}
-use Rattle.rb_bus.specs.Shown.{Shows}
-use Rattle.rb_bus.specs.declared.bus.Bus.{Bus}
-use Rattle.rb_bus.specs.declared.bus.NotHanded.{NotHanded}
+use Rattle.rb_scenario_entries.specs.{Codes.{code_of, detail_of}, declared.refusal.Refusal.Refusal, declared.refusal.Refusal.TheVariants.OutOfMemory}
+use Rattle.rb_bus.specs.{Buses.{ForItsRun, GivesRecord, Hands, KeepsItsPromise, Opens}, Shown.Shows, declared.bus.Bus.Bus, declared.bus.NotHanded.NotHanded, declared.calls.Opening.Opening, declared.record.HostRecord.HostRecord}
 use Rattle.rb_bus.specs.declared.bus.NotHanded.TheVariants as refusal
-use Rattle.rb_bus.specs.declared.calls.Opening.{Opening}
-use Rattle.rb_bus.specs.declared.record.HostRecord.{HostRecord}
 
 -- Opening.
 

@@ -1,20 +1,10 @@
 -- A record as the host sees it.
 use Rattle.std.specs.Prelude.{ℕ, ◌≡◌, Bool, true, false, List, length, map, take}
-use Rattle.rb_base.specs.declared.node.NodeName.{NodeName}
+use Rattle.rb_base.specs.{declared.node.NodeName.NodeName, declared.values.Heard.Heard, declared.values.Heard.TheVariants.{Word, Fault}, declared.values.Place.Place}
+use Rattle.rb_rules.specs.{Book.Record, declared.cause.Cause.Cause, declared.record.NodeLine.NodeLine, declared.record.PortLine.PortLine, declared.record.SlotLine.SlotLine}
+use Rattle.rb_bus.specs.{declared.record.HostDelivery.HostDelivery, declared.record.HostNode.HostNode, declared.record.HostPort.HostPort, declared.record.HostRecord.HostRecord}
 use Rattle.rb_base.specs.declared.node.NodeName.TheVariants as name
-use Rattle.rb_base.specs.declared.values.Heard.{Heard}
-use Rattle.rb_base.specs.declared.values.Heard.TheVariants.{Word, Fault}
-use Rattle.rb_base.specs.declared.values.Place.{Place}
-use Rattle.rb_rules.specs.Book.{Record}
-use Rattle.rb_rules.specs.declared.cause.Cause.{Cause}
 use Rattle.rb_rules.specs.declared.cause.Cause.TheVariants as cause
-use Rattle.rb_rules.specs.declared.record.NodeLine.{NodeLine}
-use Rattle.rb_rules.specs.declared.record.PortLine.{PortLine}
-use Rattle.rb_rules.specs.declared.record.SlotLine.{SlotLine}
-use Rattle.rb_bus.specs.declared.record.HostDelivery.{HostDelivery}
-use Rattle.rb_bus.specs.declared.record.HostNode.{HostNode}
-use Rattle.rb_bus.specs.declared.record.HostPort.{HostPort}
-use Rattle.rb_bus.specs.declared.record.HostRecord.{HostRecord}
 
 -- Lines.
 

@@ -1,13 +1,7 @@
 -- The time of a tick, a segment at a time.
-use Rattle.std.proofs.Common.{◌≡◌, ℕ, zero, suc, ◌+◌, ◌-◌, ◌*◌, ◌/◌, ◌%◌, ◌<◌, ◌≤◌, inl, inr, min, List, [], ◌∷◌, true, false, length, take, drop, get_or, subst, arith, sym, ◌∙◌, refl, Fits, w64, nat_le, nat_lt, ◌==◌}
-use Rattle.std.proofs.lemmas.Bool.{cases_lt, and_parts, ltb-true, le-leb, lt-leb}
-use Rattle.std.proofs.lemmas.Grind.{common_steps, div_ceil_times}
-use Rattle.std.proofs.lemmas.Bool.Decides.{nat_tests}
-use Rattle.std.proofs.lemmas.List.{drop_all, length-take}
-use Rattle.std.proofs.Math.Nat.{mul-le-mul_left}
+use Rattle.std.proofs.{Common.{◌≡◌, ℕ, zero, suc, ◌+◌, ◌-◌, ◌*◌, ◌/◌, ◌%◌, ◌<◌, ◌≤◌, inl, inr, min, List, [], ◌∷◌, true, false, length, take, drop, get_or, subst, arith, sym, ◌∙◌, refl, Fits, w64, nat_le, nat_lt, ◌==◌}, lemmas.Bool.{cases_lt, and_parts, ltb-true, le-leb, lt-leb}, lemmas.Grind.{common_steps, div_ceil_times}, lemmas.Bool.Decides.nat_tests, lemmas.List.{drop_all, length-take}, Math.Nat.mul-le-mul_left}
 use Rattle.rb_rules.specs.Clock.{Timeline, ComesBy, IsClock, IsStamp, stamp_of, length_after, time_of, tick_length, rise_above, are_rising, are_within}
-use Rattle.rb_rules.proofs.Drift.{has_lengths, clock_moves, first_stands, times_rise_to, drift}
-use Rattle.rb_rules.proofs.Stamps.{stamp_le, stamp_is}
+use Rattle.rb_rules.proofs.{Drift.{has_lengths, clock_moves, first_stands, times_rise_to, drift}, Stamps.{stamp_le, stamp_is}}
 
 -- wider bounds hold too
 pub within_wider : (shortest longest low high : ℕ) (segments : List (ℕ × ℕ)) → low ≤ shortest → longest ≤ high

@@ -1,14 +1,8 @@
 -- Counting the vectors of the senders.
-use Rattle.std.proofs.Common.{◌≡◌, ℕ, zero, suc, ◌+◌, ◌*◌, ◌<◌, ◌≤◌, Bool, true, false, cond, not, ◌&&◌, ◌||◌, bit_and, bit_or, nat_lt, List, [], ◌∷◌, refl, sym, ◌∙◌, ap, add-one, arith}
-use Rattle.std.specs.Int.{from_bool}
-use Rattle.std.specs.List.{range_with_len}
-use Rattle.std.proofs.lemmas.Bool.{le-ltb}
-use Rattle.std.proofs.lemmas.Bool.Decides.{nat_tests}
-use Rattle.rb_base.specs.Counting.{count_if, numbers}
-use Rattle.rb_base.specs.Nodes.{has, set_of, size}
-use Rattle.rb_base.specs.declared.values.Heard.{Heard}
-use Rattle.rb_base.proofs.Sets.{has-and, has-or, has-set_of, same_set_of}
-use Rattle.rb_base.proofs.SetSizes.{size-set_of}
+use Rattle.std.proofs.{Common.{◌≡◌, ℕ, zero, suc, ◌+◌, ◌*◌, ◌<◌, ◌≤◌, Bool, true, false, cond, not, ◌&&◌, ◌||◌, bit_and, bit_or, nat_lt, List, [], ◌∷◌, refl, sym, ◌∙◌, ap, add-one, arith}, lemmas.Bool.le-ltb, lemmas.Bool.Decides.nat_tests}
+use Rattle.std.specs.{Int.from_bool, List.range_with_len}
+use Rattle.rb_base.specs.{Counting.{count_if, numbers}, Nodes.{has, set_of, size}, declared.values.Heard.Heard}
+use Rattle.rb_base.proofs.{Sets.{has-and, has-or, has-set_of, same_set_of}, SetSizes.size-set_of}
 use Rattle.rb_diag.specs.Votes.{against, counts, most_against}
 use Rattle.rb_rules.specs.Conviction.{convicted_by, names, naming, sparing}
 

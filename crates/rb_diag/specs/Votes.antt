@@ -1,9 +1,6 @@
 -- The votes of a frame on the vectors of the nodes of one kind.
 use Rattle.std.specs.Prelude.{ℕ, ◌*◌, nat_lt, ◌&&◌, Bool, List, replicate, get_or}
-use Rattle.rb_base.specs.Counting.{count_if, numbers}
-use Rattle.rb_base.specs.Nodes.{has, size}
-use Rattle.rb_base.specs.declared.values.Heard.{Heard}
-use Rattle.rb_base.specs.declared.values.Heard.TheVariants.{Fault}
+use Rattle.rb_base.specs.{Counting.{count_if, numbers}, Nodes.{has, size}, declared.values.Heard.Heard, declared.values.Heard.TheVariants.Fault}
 use Rattle.rb_rules.specs.Conviction.{is_valid, names}
 
 -- how many nodes of the other kind there are, and the voted vector of each of the 16 senders that

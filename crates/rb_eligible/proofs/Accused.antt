@@ -1,10 +1,8 @@
 -- The sets that a standing holds, as the code makes them and as the rules have them.
 use Rattle.std.proofs.Common.{◌≡◌, ℕ, ◌+◌, Bool, true, false, not, ◌&&◌, ◌||◌, ◌==◌, if◌then◌else◌, refl, ◌∙◌, ap, subst}
 use Rattle.rb_base.specs.Nodes.{has, set_of}
-use Rattle.rb_base.proofs.Sets.{has-is, same_set_of}
-use Rattle.rb_base.proofs.SetLoops.{passing_below, passing_more, passing_same}
-use Rattle.rb_rules.specs.Probation.{HasNewest, StandsForNewest, newest_with}
-use Rattle.rb_rules.specs.Standing.{Standing, with_evidence, with_mismatch}
+use Rattle.rb_base.proofs.{Sets.{has-is, same_set_of}, SetLoops.{passing_below, passing_more, passing_same}}
+use Rattle.rb_rules.specs.{Probation.{HasNewest, StandsForNewest, newest_with}, Standing.{Standing, with_evidence, with_mismatch}}
 
 -- `s & t` has the nodes of `s` that pass, if `t` has all nodes that pass
 pub common_of : (s t r : ℕ) (p : ℕ → Bool) → r ≡ set_of (λ i. has s i && has t i) → t ≡ set_of p → r ≡ set_of (λ i. has s i && p i)

@@ -1,15 +1,9 @@
 -- The sources from which something may be accepted, among those that are expected and eligible.
-use Rattle.std.proofs.Common.{◌≡◌, ℕ, ◌<◌, true, ◌&&◌, if◌then◌else◌, Option, None, List, length, sym, ◌∙◌, ap}
-use Rattle.std.proofs.lemmas.List.FromFn.{fill_by_all}
-use Rattle.rb_base.specs.Nodes.{has}
-use Rattle.rb_base.specs.declared.values.Heard.{Heard}
-use Rattle.rb_base.proofs.Plain.{and_second}
-use Rattle.rb_base.proofs.Sets.{same_set_of}
-use Rattle.rb_rules.specs.declared.sense.Expect.{Expect}
-use Rattle.rb_rules.specs.Sense.{is_one, value_in}
-use Rattle.rb_rules.specs.Standing.{Standing, is_eligible, taken_of}
-use Rattle.rb_eligible.specs.Inboxes.{KeptArrivals, is_sole, sense_in}
-use Rattle.rb_eligible.specs.Takings.{AreOnesOf, AreTakenOf, AreValuesOf}
+use Rattle.std.proofs.{Common.{◌≡◌, ℕ, ◌<◌, true, ◌&&◌, if◌then◌else◌, Option, None, List, length, sym, ◌∙◌, ap}, lemmas.List.FromFn.fill_by_all}
+use Rattle.rb_base.specs.{Nodes.has, declared.values.Heard.Heard}
+use Rattle.rb_base.proofs.{Plain.and_second, Sets.same_set_of}
+use Rattle.rb_rules.specs.{declared.sense.Expect.Expect, Sense.{is_one, value_in}, Standing.{Standing, is_eligible, taken_of}}
+use Rattle.rb_eligible.specs.{Inboxes.{KeptArrivals, is_sole, sense_in}, Takings.{AreOnesOf, AreTakenOf, AreValuesOf}}
 use Rattle.rb_eligible.proofs.Sensed.{none_but_soles, value_but_soles}
 
 -- nothing can be taken from a source without a sole arrival, though it is expected and eligible

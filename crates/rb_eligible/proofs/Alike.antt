@@ -1,12 +1,8 @@
 -- A vote over values of which more than half are alike.
 use Rattle.std.proofs.Common.{◌≡◌, ℕ, suc, ◌+◌, ◌*◌, ◌<◌, ◌≤◌, Bool, true, false, cond, Option, Some, None, unwrap_or, List, [], ◌∷◌, length, get_or, refl, sym, ◌∙◌, ap, arith}
 use Rattle.std.specs.List.{range_with_len}
-use Rattle.rb_base.specs.Counting.{count_if}
-use Rattle.rb_base.specs.Nodes.{has, size}
-use Rattle.rb_base.specs.declared.values.Heard.{Heard}
-use Rattle.rb_base.specs.declared.values.Heard.TheVariants.{Fault}
-use Rattle.rb_rules.specs.ExactStage.{present}
-use Rattle.rb_rules.specs.Majority.{majority_of, same_heard, times}
+use Rattle.rb_base.specs.{Counting.count_if, Nodes.{has, size}, declared.values.Heard.Heard, declared.values.Heard.TheVariants.Fault}
+use Rattle.rb_rules.specs.{ExactStage.present, Majority.{majority_of, same_heard, times}}
 use Rattle.rb_rules.proofs.Majorities.{majority_is, same_heard_self}
 
 one_more : (v : Heard) (b : Bool) (x : Option Heard) (taken : List (Option Heard)) (n : ℕ) → (b ≡ true → x ≡ Some v) → n ≤ times v (present taken) → cond b 1 0 + n ≤ times v (present (x ∷ taken))

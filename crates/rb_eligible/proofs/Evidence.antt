@@ -1,14 +1,8 @@
 -- A loop over the sources that writes down what is taken of each, and who did wrong.
-use Rattle.std.proofs.Common.{◌≡◌, ℕ, ◌+◌, ◌<◌, ◌≤◌, Bool, true, false, not, ◌&&◌, ◌||◌, if◌then◌else◌, Option, Some, None, List, [], ◌∷◌, ◌++◌, length, take, set, get_or, refl, sym, ◌∙◌, ap, arith, length-append}
-use Rattle.std.proofs.lemmas.List.{take_all, take_more_set}
-use Rattle.std.proofs.lemmas.List.Elements.{filter_map-append}
-use Rattle.std.proofs.lemmas.List.FromFn.{fill_by_all}
+use Rattle.std.proofs.{Common.{◌≡◌, ℕ, ◌+◌, ◌<◌, ◌≤◌, Bool, true, false, not, ◌&&◌, ◌||◌, if◌then◌else◌, Option, Some, None, List, [], ◌∷◌, ◌++◌, length, take, set, get_or, refl, sym, ◌∙◌, ap, arith, length-append}, lemmas.List.{take_all, take_more_set}, lemmas.List.Elements.filter_map-append, lemmas.List.FromFn.fill_by_all}
 use Rattle.rb_base.specs.Nodes.{has, set_of}
 use Rattle.rb_base.proofs.Sets.{has-is, same_set_of}
-use Rattle.rb_rules.specs.ExactStage.{each_node, present}
-use Rattle.rb_rules.specs.declared.sense.Sense.{Sense}
-use Rattle.rb_rules.specs.Sense.{is_one, is_silent}
-use Rattle.rb_rules.specs.Standing.{Standing, does_wrong, has_evidence, is_eligible, with_evidence}
+use Rattle.rb_rules.specs.{ExactStage.{each_node, present}, declared.sense.Sense.Sense, Sense.{is_one, is_silent}, Standing.{Standing, does_wrong, has_evidence, is_eligible, with_evidence}}
 
 -- one more source adds at most one value
 pub few_more : {X : Type 0} (v : Option X) (values after : List X) (i : ℕ) → length values ≤ i → after ≡ values ++ present (v ∷ []) → length after ≤ i + 1

@@ -1,19 +1,10 @@
 -- The message that the bytes of an arrival spell, by the numbers that they are kept as.
-use Rattle.std.proofs.Common.{◌≡◌, ℕ, ◌≤◌, ◌/◌, ◌%◌, ◌+◌, ◌*◌, ◌==◌, ◌&&◌, Bool, true, false, List, [], ◌∷◌, ◌++◌, length, take, slice_index, bit_xor, if◌then◌else◌, Option, None, refl, sym, ◌∙◌, ap, subst, arith}
-use Rattle.std.specs.Int.{to_le_bytes, w32, w64}
-use Rattle.std.specs.Int.Bits.{xor_assoc}
-use Rattle.std.proofs.lemmas.Bool.{eq-eqb, eqb-true}
-use Rattle.std.proofs.lemmas.Grind.{common_steps}
-use Rattle.std.proofs.lemmas.List.{length-take}
-use Rattle.std.proofs.Math.Bool.{and_assoc}
+use Rattle.std.proofs.{Common.{◌≡◌, ℕ, ◌≤◌, ◌/◌, ◌%◌, ◌+◌, ◌*◌, ◌==◌, ◌&&◌, Bool, true, false, List, [], ◌∷◌, ◌++◌, length, take, slice_index, bit_xor, if◌then◌else◌, Option, None, refl, sym, ◌∙◌, ap, subst, arith}, lemmas.Bool.{eq-eqb, eqb-true}, lemmas.Grind.common_steps, lemmas.List.length-take, Math.Bool.and_assoc}
+use Rattle.std.specs.{Int.{to_le_bytes, w32, w64}, Int.Bits.xor_assoc}
 use Rattle.rb_base.proofs.Plain.{and_first}
-use Rattle.rb_rules.specs.declared.message.Message.{Message}
-use Rattle.rb_rules.specs.declared.message.Version.{Version}
-use Rattle.rb_rules.specs.declared.message.Version.TheVariants.{One, Two}
-use Rattle.rb_rules.specs.Spelling.{check_of, has_form, message_in, message_with, tag_in}
+use Rattle.rb_rules.specs.{declared.message.Message.Message, declared.message.Version.Version, declared.message.Version.TheVariants.{One, Two}, Spelling.{check_of, has_form, message_in, message_with, tag_in}}
 use Rattle.rb_frame.specs.Spellings.{spelled}
-use Rattle.rb_frame.proofs.Checks.{from_zero}
-use Rattle.rb_frame.proofs.Sending.{xor_with_0}
+use Rattle.rb_frame.proofs.{Checks.from_zero, Sending.xor_with_0}
 
 xor_same : (x : ℕ) → bit_xor x x ≡ 0
 xor_same x = grind (arith, common_steps)

@@ -2,10 +2,7 @@
 use Rattle.std.proofs.Common.{◌≡◌, ℕ, ◌<◌, ◌^◌, Bool, true, false, not, ◌&&◌, ◌||◌, if◌then◌else◌, None, List, refl, sym, ◌∙◌, ap}
 use Rattle.rb_base.specs.Nodes.{has, set_of}
 use Rattle.rb_base.proofs.Sets.{has-is, has_none, same_set_of, set_of-has}
-use Rattle.rb_rules.specs.declared.sense.Expect.{Expect}
-use Rattle.rb_rules.specs.declared.sense.Sense.{Sense}
-use Rattle.rb_rules.specs.Sense.{is_silent, value_in}
-use Rattle.rb_rules.specs.Standing.{Standing, does_wrong, has_evidence, taken_of, with_evidence}
+use Rattle.rb_rules.specs.{declared.sense.Expect.Expect, declared.sense.Sense.Sense, Sense.{is_silent, value_in}, Standing.{Standing, does_wrong, has_evidence, taken_of, with_evidence}}
 use Rattle.rb_eligible.specs.Inboxes.{KeptArrivals, HoldsArrivals, Received, sense_in}
 use Rattle.rb_eligible.proofs.Sensed.{came_is}
 

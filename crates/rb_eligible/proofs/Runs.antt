@@ -1,25 +1,11 @@
 -- Runs of sources that spell alike: what is taken of one, and what is known once it passed.
-use Rattle.std.proofs.Common.{◌≡◌, ℕ, ◌*◌, ◌<◌, ◌≤◌, ◌^◌, ◌⊎◌, Bool, true, false, not, ◌&&◌, ◌||◌, ◌==◌, if◌then◌else◌, Option, Some, None, is_some, unwrap_or, List, length, get_or, replicate, set, lit<, inl, inr, refl, sym, ◌∙◌, ap, subst, arith}
-use Rattle.std.proofs.lemmas.Bool.{cases_eq}
-use Rattle.std.proofs.lemmas.List.{get_or-replicate, get_or-set_other, get_or-set_same}
-use Rattle.rb_base.specs.Nodes.{has, set_of, size}
-use Rattle.rb_base.specs.declared.values.Heard.{Heard}
-use Rattle.rb_base.specs.declared.values.Heard.TheVariants.{Fault}
-use Rattle.rb_base.proofs.Plain.{and-true, and_first, and_second}
-use Rattle.rb_base.proofs.Sets.{eq_other, has-is, has_none, is_set_of, set_of-lt}
-use Rattle.rb_base.proofs.SetSizes.{size_less, size_within}
-use Rattle.rb_rules.specs.declared.sense.Expect.{Expect}
-use Rattle.rb_rules.specs.ExactStage.{present}
-use Rattle.rb_rules.specs.Majority.{majority_of}
-use Rattle.rb_rules.specs.Sense.{is_one, value_in}
+use Rattle.std.proofs.{Common.{◌≡◌, ℕ, ◌*◌, ◌<◌, ◌≤◌, ◌^◌, ◌⊎◌, Bool, true, false, not, ◌&&◌, ◌||◌, ◌==◌, if◌then◌else◌, Option, Some, None, is_some, unwrap_or, List, length, get_or, replicate, set, lit<, inl, inr, refl, sym, ◌∙◌, ap, subst, arith}, lemmas.Bool.cases_eq, lemmas.List.{get_or-replicate, get_or-set_other, get_or-set_same}}
+use Rattle.rb_base.specs.{Nodes.{has, set_of, size}, declared.values.Heard.Heard, declared.values.Heard.TheVariants.Fault}
+use Rattle.rb_base.proofs.{Plain.{and-true, and_first, and_second}, Sets.{eq_other, has-is, has_none, is_set_of, set_of-lt}, SetSizes.{size_less, size_within}}
+use Rattle.rb_rules.specs.{declared.sense.Expect.Expect, ExactStage.present, Majority.majority_of, Sense.{is_one, value_in}}
 use Rattle.rb_frame.specs.Spellings.{high_of, len_of, spelled}
-use Rattle.rb_eligible.specs.declared.reading.Sole.{Sole}
-use Rattle.rb_eligible.specs.Inboxes.{KeptArrivals, is_sole, sense_in, sole_at}
-use Rattle.rb_eligible.specs.Readings.{Says, bytes_of}
-use Rattle.rb_eligible.specs.Takings.{AreOnesOf, AreValuesOf, IsPartial, IsRun}
-use Rattle.rb_eligible.proofs.Alike.{leading_vote}
-use Rattle.rb_eligible.proofs.Scans.{within_next}
-use Rattle.rb_eligible.proofs.Sensed.{read_one, read_value, says_none}
+use Rattle.rb_eligible.specs.{declared.reading.Sole.Sole, Inboxes.{KeptArrivals, is_sole, sense_in, sole_at}, Readings.{Says, bytes_of}, Takings.{AreOnesOf, AreValuesOf, IsPartial, IsRun}}
+use Rattle.rb_eligible.proofs.{Alike.leading_vote, Scans.within_next, Sensed.{read_one, read_value, says_none}}
 
 not_true : (b : Bool) → (b ≡ true → false ≡ true) → b ≡ false
 not_true true none = let e : false ≡ true = none refl in absurd cc

@@ -1,24 +1,13 @@
 -- What the node makes of what an inbox keeps of a source.
-use Rattle.std.proofs.Common.{◌≡◌, ℕ, ◌+◌, ◌<◌, ◌≤◌, Bool, true, false, not, ◌&&◌, if◌then◌else◌, Option, Some, None, List, [], ◌∷◌, ◌++◌, length, take, drop, get_or, inl, inr, refl, sym, ◌∙◌, ap, arith, length-drop}
+use Rattle.std.proofs.{Common.{◌≡◌, ℕ, ◌+◌, ◌<◌, ◌≤◌, Bool, true, false, not, ◌&&◌, if◌then◌else◌, Option, Some, None, List, [], ◌∷◌, ◌++◌, length, take, drop, get_or, inl, inr, refl, sym, ◌∙◌, ap, arith, length-drop}, lemmas.List.{get_or-drop, length-take, take-append-drop}, lemmas.Nat.{le_bytes_4, le_bytes_8}}
 use Rattle.std.specs.Int.{from_le_bytes, to_le_bytes, w32, w64}
-use Rattle.std.proofs.lemmas.List.{get_or-drop, length-take, take-append-drop}
-use Rattle.std.proofs.lemmas.Nat.{le_bytes_4, le_bytes_8}
-use Rattle.rb_base.specs.Nodes.{has}
-use Rattle.rb_base.specs.declared.values.Heard.{Heard}
+use Rattle.rb_base.specs.{Nodes.has, declared.values.Heard.Heard}
 use Rattle.rb_base.proofs.Sets.{eq_other}
-use Rattle.rb_rules.specs.declared.message.Message.{Message}
-use Rattle.rb_rules.specs.declared.message.Version.{Version}
-use Rattle.rb_rules.specs.declared.message.Version.TheVariants as version
-use Rattle.rb_rules.specs.declared.sense.Expect.{Expect}
-use Rattle.rb_rules.specs.declared.sense.Sense.{Sense}
-use Rattle.rb_rules.specs.declared.sense.Sense.TheVariants.{Silent, One, Bad}
-use Rattle.rb_rules.specs.Sense.{Arrival, is_one, is_silent, sense_of, sense_of_one, stamp_in, suits, value_in}
-use Rattle.rb_rules.specs.Spelling.{message_in}
+use Rattle.rb_rules.specs.{declared.message.Message.Message, declared.message.Version.Version, declared.sense.Expect.Expect, declared.sense.Sense.Sense, declared.sense.Sense.TheVariants.{Silent, One, Bad}, Sense.{Arrival, is_one, is_silent, sense_of, sense_of_one, stamp_in, suits, value_in}, Spelling.message_in}
 use Rattle.rb_frame.specs.Spellings.{spelled}
 use Rattle.rb_frame.proofs.Keeping.{small_part}
-use Rattle.rb_eligible.specs.declared.reading.Sole.{Sole}
-use Rattle.rb_eligible.specs.Inboxes.{IsKept, IsSpoilt, IsUpTo, KeptArrivals, Received, HoldsArrivals, StampsUpTo, arrivals_of, is_sole, sense_in, sole_at}
-use Rattle.rb_eligible.specs.Readings.{Says, bytes_of}
+use Rattle.rb_eligible.specs.{declared.reading.Sole.Sole, Inboxes.{IsKept, IsSpoilt, IsUpTo, KeptArrivals, Received, HoldsArrivals, StampsUpTo, arrivals_of, is_sole, sense_in, sole_at}, Readings.{Says, bytes_of}}
+use Rattle.rb_rules.specs.declared.message.Version.TheVariants as version
 
 -- no message has more than 12 bytes
 too_long : (v : Version) (bytes : List ℕ) → 12 < length bytes → message_in v bytes ≡ None

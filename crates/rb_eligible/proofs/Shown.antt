@@ -1,16 +1,10 @@
 -- The arrivals of which an inbox is the record, as more come, and what the node makes of them.
-use Rattle.std.proofs.Common.{◌≡◌, ◌≢◌, ℕ, ◌+◌, ◌<◌, ◌≤◌, Bool, true, false, ◌||◌, ◌==◌, List, [], ◌∷◌, ◌++◌, length, map, filter, set, inl, inr, refl, sym, ◌∙◌, ap, arith, length-append}
-use Rattle.std.proofs.lemmas.Bool.{cases_eq}
-use Rattle.std.proofs.lemmas.List.{get_or-set_other, get_or-set_same, map-append}
-use Rattle.std.proofs.lemmas.List.Elements.{filter-append}
+use Rattle.std.proofs.{Common.{◌≡◌, ◌≢◌, ℕ, ◌+◌, ◌<◌, ◌≤◌, Bool, true, false, ◌||◌, ◌==◌, List, [], ◌∷◌, ◌++◌, length, map, filter, set, inl, inr, refl, sym, ◌∙◌, ap, arith, length-append}, lemmas.Bool.cases_eq, lemmas.List.{get_or-set_other, get_or-set_same, map-append}, lemmas.List.Elements.filter-append}
 use Rattle.rb_base.specs.Nodes.{has, set_of}
-use Rattle.rb_base.proofs.Plain.{eq_self}
-use Rattle.rb_base.proofs.Sets.{eq_other, has-set_of}
+use Rattle.rb_base.proofs.{Plain.eq_self, Sets.{eq_other, has-set_of}}
 use Rattle.rb_rules.specs.Sense.{Arrival}
 use Rattle.rb_frame.specs.Spellings.{len_of}
-use Rattle.rb_eligible.specs.declared.reading.Sole.{Sole}
-use Rattle.rb_eligible.specs.Inboxes.{IsKept, IsSpoilt, IsUpTo, KeptArrivals, Received, HoldsArrivals, StampsUpTo, arrivals_of, sole_at}
-use Rattle.rb_eligible.specs.Readings.{bytes_of}
+use Rattle.rb_eligible.specs.{declared.reading.Sole.Sole, Inboxes.{IsKept, IsSpoilt, IsUpTo, KeptArrivals, Received, HoldsArrivals, StampsUpTo, arrivals_of, sole_at}, Readings.bytes_of}
 
 arrivals_more : (j : ℕ) (received : List Received) (r : Received) → arrivals_of j (received ++ r ∷ []) ≡ arrivals_of j received ++ arrivals_of j (r ∷ [])
 arrivals_more j received r =

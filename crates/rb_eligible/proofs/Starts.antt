@@ -1,17 +1,11 @@
 -- A word that is meant for a window, by the numbers that its bytes are kept as.
-use Rattle.std.proofs.Common.{◌≡◌, ℕ, ◌+◌, ◌*◌, ◌/◌, ◌%◌, ◌≤◌, nat_le, Bool, true, false, if◌then◌else◌, Some, refl, sym, ◌∙◌, ap}
-use Rattle.std.proofs.lemmas.Bool.{le-leb}
-use Rattle.rb_base.specs.declared.values.Heard.TheVariants as heard
+use Rattle.std.proofs.{Common.{◌≡◌, ℕ, ◌+◌, ◌*◌, ◌/◌, ◌%◌, ◌≤◌, nat_le, Bool, true, false, if◌then◌else◌, Some, refl, sym, ◌∙◌, ap}, lemmas.Bool.le-leb}
 use Rattle.rb_base.proofs.Plain.{eq_self}
-use Rattle.rb_rules.specs.declared.message.Message.{Message}
-use Rattle.rb_rules.specs.declared.message.Tag.TheVariants.{Word}
-use Rattle.rb_rules.specs.declared.sense.Expect.{Expect}
-use Rattle.rb_rules.specs.declared.sense.Sense.TheVariants.{Bad, One}
-use Rattle.rb_rules.specs.Sense.{is_one, sense_of_one, suits, value_in}
-use Rattle.rb_rules.specs.Spelling.{has_form, message_in, message_with, tag_in}
+use Rattle.rb_rules.specs.{declared.message.Message.Message, declared.message.Tag.TheVariants.Word, declared.sense.Expect.Expect, declared.sense.Sense.TheVariants.{Bad, One}, Sense.{is_one, sense_of_one, suits, value_in}, Spelling.{has_form, message_in, message_with, tag_in}}
 use Rattle.rb_frame.specs.Spellings.{spelled}
 use Rattle.rb_eligible.specs.Readings.{Says, StartsAsWord}
 use Rattle.rb_eligible.proofs.Forms.{message_from}
+use Rattle.rb_base.specs.declared.values.Heard.TheVariants as heard
 
 message_is : (frame slot stage value : ℕ) → nat_le 1 stage ≡ true → nat_le stage 3 ≡ true
     → message_with (Some Word) frame slot stage value ≡ Some (record { tag = Word; frame = frame; slot = slot; stage = stage; value = value })

@@ -1,12 +1,9 @@
 -- The arrivals that an inbox records.
 use Rattle.std.specs.Prelude.{ℕ, ◌≡◌, ◌≤◌, ◌<◌, ◌==◌, ◌&&◌, not, Bool, true, false, ◌⊎◌, List, [], ◌∷◌, length, filter, map, slice_index_or}
 use Rattle.rb_base.specs.Nodes.{has}
-use Rattle.rb_rules.specs.declared.sense.Expect.{Expect}
-use Rattle.rb_rules.specs.declared.sense.Sense.{Sense}
-use Rattle.rb_rules.specs.Sense.{Arrival, sense_of}
+use Rattle.rb_rules.specs.{declared.sense.Expect.Expect, declared.sense.Sense.Sense, Sense.{Arrival, sense_of}}
 use Rattle.rb_frame.specs.Spellings.{len_of}
-use Rattle.rb_eligible.specs.declared.reading.Sole.{Sole}
-use Rattle.rb_eligible.specs.Readings.{bytes_of}
+use Rattle.rb_eligible.specs.{declared.reading.Sole.Sole, Readings.bytes_of}
 
 -- an arrival, and the number of the node that it came from
 pub record Received : Type 0 where

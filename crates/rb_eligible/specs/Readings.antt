@@ -1,9 +1,7 @@
 -- What an arrival is kept as, and what its bytes say.
 use Rattle.std.specs.Prelude.{ℕ, ◌≡◌, ◌≤◌, ◌+◌, ◌*◌, ◌/◌, ◌%◌, Bool, false, Option, List}
 use Rattle.rb_base.specs.declared.values.Heard.{Heard}
-use Rattle.rb_rules.specs.declared.sense.Expect.{Expect}
-use Rattle.rb_rules.specs.Sense.{is_one, sense_of_one, value_in}
-use Rattle.rb_rules.specs.Spelling.{message_in}
+use Rattle.rb_rules.specs.{declared.sense.Expect.Expect, Sense.{is_one, sense_of_one, value_in}, Spelling.message_in}
 use Rattle.rb_frame.specs.Spellings.{high_of, len_of, spelled}
 use Rattle.rb_eligible.specs.declared.reading.Sole.{Sole}
 

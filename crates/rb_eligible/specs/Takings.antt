@@ -1,14 +1,9 @@
 -- What is accepted from sources in a window, and whom that accuses, whatever list of arrivals the
 -- inbox stands for.
 use Rattle.std.specs.Prelude.{ℕ, ◌≡◌, ◌<◌, ◌^◌, ◌&&◌, not, Bool, true, false, if◌then◌else◌, Option, Some, None, List}
-use Rattle.rb_base.specs.Nodes.{has, set_of}
-use Rattle.rb_base.specs.declared.values.Heard.{Heard}
-use Rattle.rb_rules.specs.declared.sense.Expect.{Expect}
-use Rattle.rb_rules.specs.ExactStage.{at_source, each_node}
-use Rattle.rb_rules.specs.Sense.{is_one, value_in}
-use Rattle.rb_rules.specs.Standing.{Standing, has_evidence, taken_of, with_evidence}
-use Rattle.rb_eligible.specs.Inboxes.{HoldsArrivals, KeptArrivals, Received, sense_in, sole_at}
-use Rattle.rb_eligible.specs.declared.reading.Sole.{Sole}
+use Rattle.rb_base.specs.{Nodes.{has, set_of}, declared.values.Heard.Heard}
+use Rattle.rb_rules.specs.{declared.sense.Expect.Expect, ExactStage.{at_source, each_node}, Sense.{is_one, value_in}, Standing.{Standing, has_evidence, taken_of, with_evidence}}
+use Rattle.rb_eligible.specs.{Inboxes.{HoldsArrivals, KeptArrivals, Received, sense_in, sole_at}, declared.reading.Sole.Sole}
 
 -- the sources among these from which exactly one message came that is meant for the window
 abbrev pub AreOnesOf : KeptArrivals → Expect → (ℕ → Bool) → ℕ → Type 0

@@ -1,8 +1,6 @@
 -- A word is one flag at most, and none if it does not begin with a hyphen.
 use Rattle.std.proofs.Common.{◌≡◌, ◌<◌, ◌∙◌, ℕ, List, ap, arith, get_or, refl}
-use Rattle.rb_flags.specs.declared.Flag.{Flag}
-use Rattle.rb_flags.specs.declared.Flag.TheVariants.{Help, ShortHelp, Version}
-use Rattle.rb_flags.specs.Flags.{flag_text}
+use Rattle.rb_flags.specs.{declared.Flag.Flag, declared.Flag.TheVariants.{Help, ShortHelp, Version}, Flags.flag_text}
 
 pub one_flag : (a b : Flag) → flag_text a ≡ flag_text b → a ≡ b
 one_flag Help Help e = refl

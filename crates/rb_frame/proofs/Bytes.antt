@@ -2,10 +2,7 @@
 use Rattle.std.proofs.Common.{◌≡◌, ℕ, List, [], ◌∷◌, ◌++◌, take, set, slice_index, Option, Some, None, IfSome, IfNone, Fits, w8, refl, sym, arith}
 use Rattle.std.specs.Int.{from_be_bytes, w16, w32}
 use Rattle.byteorder.specs.Endian.{big_number}
-use Rattle.rb_rules.specs.declared.message.Message.{Message}
-use Rattle.rb_rules.specs.declared.message.Version.{Version}
-use Rattle.rb_rules.specs.declared.message.Version.TheVariants.{One, Two}
-use Rattle.rb_rules.specs.Spelling.{Spells, check_of, fields_of, spelling_of, message_in}
+use Rattle.rb_rules.specs.{declared.message.Message.Message, declared.message.Version.Version, declared.message.Version.TheVariants.{One, Two}, Spelling.{Spells, check_of, fields_of, spelling_of, message_in}}
 use Rattle.rb_rules.proofs.Spellings.{has_value, only_so, none_so}
 
 -- in version One a spelling is the fields and then the check

@@ -1,9 +1,6 @@
 -- The exclusive or of the bytes of numbers.
-use Rattle.std.proofs.Common.{◌≡◌, ℕ, ◌/◌, ◌%◌, ◌^◌, [], ◌∷◌, ◌++◌, bit_xor, sym, ◌∙◌, ap, arith}
-use Rattle.std.specs.Int.{to_le_bytes, w32, w64}
-use Rattle.std.specs.Int.Bits.{xor_assoc}
-use Rattle.std.proofs.lemmas.Grind.{common_steps}
-use Rattle.std.proofs.lemmas.Nat.{xor_comm, xor_mod, xor_shr}
+use Rattle.std.proofs.{Common.{◌≡◌, ℕ, ◌/◌, ◌%◌, ◌^◌, [], ◌∷◌, ◌++◌, bit_xor, sym, ◌∙◌, ap, arith}, lemmas.Grind.common_steps, lemmas.Nat.{xor_comm, xor_mod, xor_shr}}
+use Rattle.std.specs.{Int.{to_le_bytes, w32, w64}, Int.Bits.xor_assoc}
 use Rattle.rb_rules.specs.Spelling.{check_of}
 
 -- the exclusive or of four bytes

@@ -1,11 +1,6 @@
 -- Bytes and the numbers that they are kept as.
-use Rattle.std.proofs.Common.{◌≡◌, ℕ, ◌+◌, ◌*◌, ◌<◌, ◌≤◌, ◌-◌, List, ◌++◌, length, take, drop, get_or, replicate, inl, inr, refl, sym, ◌∙◌, ap, arith, length-drop, append_assoc, lit≤, length-append, drop-drop}
+use Rattle.std.proofs.{Common.{◌≡◌, ℕ, ◌+◌, ◌*◌, ◌<◌, ◌≤◌, ◌-◌, List, ◌++◌, length, take, drop, get_or, replicate, inl, inr, refl, sym, ◌∙◌, ap, arith, length-drop, append_assoc, lit≤, length-append, drop-drop}, lemmas.Bool.cases_lt, lemmas.List.{get_or-drop, get_or-take, length-take, take-append-drop, take-append-le, get_or_append_left, get_or-append_right, drop-replicate, get_or-replicate, get_or_past, length-replicate}, lemmas.Grind.common_steps, lemmas.Nat.{le_bytes_4, le_bytes_8}, Math.Seq.take-append_seam}
 use Rattle.std.specs.Int.{from_le_bytes, to_le_bytes, w32, w64}
-use Rattle.std.proofs.lemmas.Bool.{cases_lt}
-use Rattle.std.proofs.lemmas.List.{get_or-drop, get_or-take, length-take, take-append-drop, take-append-le, get_or_append_left, get_or-append_right, drop-replicate, get_or-replicate, get_or_past, length-replicate}
-use Rattle.std.proofs.lemmas.Grind.{common_steps}
-use Rattle.std.proofs.lemmas.Nat.{le_bytes_4, le_bytes_8}
-use Rattle.std.proofs.Math.Seq.{take-append_seam}
 use Rattle.rb_frame.specs.Spellings.{IsFilled, bytes_in, filled, high_of, len_of, low_in, rest_in, spelled, tail_in}
 
 -- as many bytes are kept as the tail says

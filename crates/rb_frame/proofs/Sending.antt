@@ -1,12 +1,7 @@
 -- The numbers that the bytes of a message are kept as.
-use Rattle.std.proofs.Common.{◌≡◌, ℕ, ◌+◌, ◌*◌, ◌/◌, ◌%◌, ◌<◌, ◌≤◌, ◌^◌, List, [], ◌∷◌, ◌++◌, take, drop, bit_xor, replicate, refl, sym, ◌∙◌, ap, arith}
+use Rattle.std.proofs.{Common.{◌≡◌, ℕ, ◌+◌, ◌*◌, ◌/◌, ◌%◌, ◌<◌, ◌≤◌, ◌^◌, List, [], ◌∷◌, ◌++◌, take, drop, bit_xor, replicate, refl, sym, ◌∙◌, ap, arith}, lemmas.Grind.common_steps, lemmas.Nat.from_le_bytes-to_le_bytes_8}
 use Rattle.std.specs.Int.{to_be_bytes, to_le_bytes, w16, w32, w64}
-use Rattle.std.proofs.lemmas.Grind.{common_steps}
-use Rattle.std.proofs.lemmas.Nat.{from_le_bytes-to_le_bytes_8}
-use Rattle.rb_rules.specs.declared.message.Message.{Message}
-use Rattle.rb_rules.specs.declared.message.Version.{Version}
-use Rattle.rb_rules.specs.declared.message.Version.TheVariants.{One, Two}
-use Rattle.rb_rules.specs.Spelling.{IsZeroUnlessWord, Spells, check_of, fields_of, spelling_of, tag_byte}
+use Rattle.rb_rules.specs.{declared.message.Message.Message, declared.message.Version.Version, declared.message.Version.TheVariants.{One, Two}, Spelling.{IsZeroUnlessWord, Spells, check_of, fields_of, spelling_of, tag_byte}}
 use Rattle.rb_rules.proofs.Spellings.{has_value}
 use Rattle.rb_frame.specs.Spellings.{IsFilled, bytes_in, filled, high_of, len_of, low_in, rest_in, spelled, tail_in}
 

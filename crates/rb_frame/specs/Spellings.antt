@@ -1,6 +1,5 @@
 -- What comes over a link, kept as numbers.
-use Rattle.std.specs.Prelude.{ℕ, ◌≡◌, ◌≤◌, ◌+◌, ◌*◌, ◌/◌, ◌%◌, List, ◌++◌, drop, length, replicate, take}
-use Rattle.std.specs.Int.{from_le_bytes, to_le_bytes, w32, w64}
+use Rattle.std.specs.{Prelude.{ℕ, ◌≡◌, ◌≤◌, ◌+◌, ◌*◌, ◌/◌, ◌%◌, List, ◌++◌, drop, length, replicate, take}, Int.{from_le_bytes, to_le_bytes, w32, w64}}
 
 -- the last four bytes, and how many bytes there are, are kept as one number
 abbrev pub high_of : ℕ → ℕ

@@ -1,38 +1,14 @@
 -- The table of a generated scenario's text breaks no rule.
-use Rattle.std.proofs.Common.{◌≡◌, ℕ, ◌+◌, ◌-◌, ◌/◌, ◌<◌, ◌≤◌, ◌&&◌, nat_le, not, Bool, true, false, List, [], ◌∷◌, map, get_or, Option, None, is_some, codes, refl, sym, ap, ◌∙◌, subst, arith}
-use Rattle.std.specs.Fmt.{digits}
-use Rattle.std.specs.List.{list_all}
-use Rattle.std.proofs.Math.Nat.{mod-lt}
-use Rattle.std.proofs.lemmas.Bool.{and_from, and_parts, false≢true, le-leb}
-use Rattle.std.proofs.lemmas.List.Sums.{list_all-from_AllPass}
-use Rattle.std.proofs.lemmas.List.FromFn.{get_or-map-range_with_len, length-map-range_with_len}
+use Rattle.std.proofs.{Common.{◌≡◌, ℕ, ◌+◌, ◌-◌, ◌/◌, ◌<◌, ◌≤◌, ◌&&◌, nat_le, not, Bool, true, false, List, [], ◌∷◌, map, get_or, Option, None, is_some, codes, refl, sym, ap, ◌∙◌, subst, arith}, Math.Nat.mod-lt, lemmas.Bool.{and_from, and_parts, false≢true, le-leb}, lemmas.List.Sums.list_all-from_AllPass, lemmas.List.FromFn.{get_or-map-range_with_len, length-map-range_with_len}}
+use Rattle.std.specs.{Fmt.digits, List.list_all}
 use Rattle.toml.specs.Data.{Members, get_member}
 use Rattle.rb_base.specs.Counting.{numbers}
-use Rattle.rb_rules.specs.declared.link.Rule.{Rule}
-use Rattle.rb_rules.specs.declared.say.Say.{Say}
-use Rattle.rb_rules.specs.Lawful.{is_node_good}
-use Rattle.rb_rules.specs.Clock.{Timeline, are_rising, are_within}
-use Rattle.rb_scenario_document.specs.Fields.{clock_fields, fault_fields, link_fields, root_fields, say_fields}
-use Rattle.rb_scenario_document.specs.Forms.{has_unknown_key, is_array_of, has_wrong_form, lacks_key}
-use Rattle.rb_scenario_document.specs.Names.{named, node_at, pattern_at}
-use Rattle.rb_scenario_document.specs.Values.{has_number, may_have_number, may_have_range}
-use Rattle.rb_scenario_document.specs.Walk.{absent_or, entries_at, passes}
-use Rattle.rb_scenario_entries.specs.declared.refusal.Refusal.{Refusal}
-use Rattle.rb_scenario_entries.specs.Bus.{bus_of, has_bus}
-use Rattle.rb_scenario_entries.specs.Clocks.{has_clocks, is_clock, is_segment, keeps_time}
-use Rattle.rb_scenario_entries.specs.Faults.{has_faults}
-use Rattle.rb_scenario_entries.specs.Links.{are_apart, is_link}
-use Rattle.rb_scenario_entries.specs.Says.{content_in, is_say}
-use Rattle.rb_scenario.specs.Acceptance.{Says, as_scenario, broken_by, first_broken, or_else}
-use Rattle.rb_scenario.specs.declared.scenario.Scenario.{Scenario as Read}
-use Rattle.rb_scenario.specs.Hosts.{has_lists}
-use Rattle.rb_scenario.specs.Reading.{fits_bus, is_in_range, scenario_of as scenario_said}
-use Rattle.rb_scenario.specs.Rules.{are_delays, are_sayers_faulty, is_delay, keep_time, start_together}
-use Rattle.rb_gen.specs.Generated.{clock_of, delay_on, plan, rmu_onset, rule_of, say_to, scenario_of, sizes, start_of, tick_of}
-use Rattle.rb_gen.specs.Table.{clock_table, link_table, table_of}
-use Rattle.rb_gen.specs.Text.{node_at as node_numbered}
-use Rattle.rb_gen.proofs.GeneratedIsLawful.{clock_is, not_before_itself, start_small}
-use Rattle.rb_gen.proofs.Read.{bus_in, same_bus, same_scenario}
+use Rattle.rb_rules.specs.{declared.link.Rule.Rule, declared.say.Say.Say, Lawful.is_node_good, Clock.{Timeline, are_rising, are_within}}
+use Rattle.rb_scenario_document.specs.{Fields.{clock_fields, fault_fields, link_fields, root_fields, say_fields}, Forms.{has_unknown_key, is_array_of, has_wrong_form, lacks_key}, Names.{named, node_at, pattern_at}, Values.{has_number, may_have_number, may_have_range}, Walk.{absent_or, entries_at, passes}}
+use Rattle.rb_scenario_entries.specs.{declared.refusal.Refusal.Refusal, Bus.{bus_of, has_bus}, Clocks.{has_clocks, is_clock, is_segment, keeps_time}, Faults.has_faults, Links.{are_apart, is_link}, Says.{content_in, is_say}}
+use Rattle.rb_scenario.specs.{Acceptance.{Says, as_scenario, broken_by, first_broken, or_else}, declared.scenario.Scenario.Scenario as Read, Hosts.has_lists, Reading.{fits_bus, is_in_range, scenario_of as scenario_said}, Rules.{are_delays, are_sayers_faulty, is_delay, keep_time, start_together}}
+use Rattle.rb_gen.specs.{Generated.{clock_of, delay_on, plan, rmu_onset, rule_of, say_to, scenario_of, sizes, start_of, tick_of}, Table.{clock_table, link_table, table_of}, Text.node_at as node_numbered}
+use Rattle.rb_gen.proofs.{GeneratedIsLawful.{clock_is, not_before_itself, start_small}, Read.{bus_in, same_bus, same_scenario}}
 
 -- ---- tests over lists
 

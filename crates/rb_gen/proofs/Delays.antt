@@ -1,13 +1,9 @@
 -- The delay of each link of the generated scenario, in all places, is the one that was drawn for
 -- it.
-use Rattle.std.proofs.Common.{◌≡◌, ℕ, zero, suc, ◌+◌, ◌-◌, ◌*◌, ◌/◌, ◌%◌, ◌<◌, ◌≤◌, ◌&&◌, nat_le, nat_lt, Bool, true, false, cond, List, map, refl, sym, ap, ◌∙◌, subst, inl, inr, arith}
+use Rattle.std.proofs.{Common.{◌≡◌, ℕ, zero, suc, ◌+◌, ◌-◌, ◌*◌, ◌/◌, ◌%◌, ◌<◌, ◌≤◌, ◌&&◌, nat_le, nat_lt, Bool, true, false, cond, List, map, refl, sym, ap, ◌∙◌, subst, inl, inr, arith}, lemmas.Bool.{and_from, and_parts, cases_lt, eq-eqb, false_from_ne_true, le-leb, ltb-false}}
 use Rattle.std.specs.List.{range_with_len}
-use Rattle.std.proofs.lemmas.Bool.{and_from, and_parts, cases_lt, eq-eqb, false_from_ne_true, le-leb, ltb-false}
-use Rattle.rb_base.specs.declared.node.NodeName.{NodeName}
-use Rattle.rb_base.specs.declared.node.NodeName.TheVariants.{Biu, Rmu}
-use Rattle.rb_base.specs.declared.values.Place.{Place}
-use Rattle.rb_rules.specs.declared.link.Rule.{Rule}
-use Rattle.rb_rules.specs.Links.{applies, covers, delay_after, delay_of, same_node}
+use Rattle.rb_base.specs.{declared.node.NodeName.NodeName, declared.node.NodeName.TheVariants.{Biu, Rmu}, declared.values.Place.Place}
+use Rattle.rb_rules.specs.{declared.link.Rule.Rule, Links.{applies, covers, delay_after, delay_of, same_node}}
 use Rattle.rb_rules.proofs.Slots.{same_node-is}
 use Rattle.rb_gen.specs.Generated.{delay_on, receiver_of, rule_of, scenario_of, sender_of}
 

@@ -1,21 +1,10 @@
 -- The generated scenario is lawful, and its faulty nodes do what its entries list.
-use Rattle.std.proofs.Common.{◌≡◌, ℕ, suc, ◌+◌, ◌-◌, ◌/◌, ◌%◌, ◌^◌, ◌<◌, ◌≤◌, ◌&&◌, ◌||◌, ◌==◌, nat_le, nat_lt, Bool, true, false, cond, List, ◌∷◌, ◌++◌, map, replicate, get_or, Some, None, refl, inl, arith}
+use Rattle.std.proofs.{Common.{◌≡◌, ℕ, suc, ◌+◌, ◌-◌, ◌/◌, ◌%◌, ◌^◌, ◌<◌, ◌≤◌, ◌&&◌, ◌||◌, ◌==◌, nat_le, nat_lt, Bool, true, false, cond, List, ◌∷◌, ◌++◌, map, replicate, get_or, Some, None, refl, inl, arith}, Math.Nat.mod-lt, lemmas.Bool.{and_from, cond_both, le-leb, le-ltb, ltb-true}, lemmas.List.Elements.{All-append, All-cons, All-replicate}, lemmas.List.FromFn.length-map-range_with_len}
 use Rattle.std.specs.Prelude.{All}
-use Rattle.std.proofs.Math.Nat.{mod-lt}
-use Rattle.std.proofs.lemmas.Bool.{and_from, cond_both, le-leb, le-ltb, ltb-true}
-use Rattle.std.proofs.lemmas.List.Elements.{All-append, All-cons, All-replicate}
-use Rattle.std.proofs.lemmas.List.FromFn.{length-map-range_with_len}
-use Rattle.rb_base.specs.Counting.{numbers}
-use Rattle.rb_base.specs.Nodes.{other}
-use Rattle.rb_base.specs.Sizes.{IsShape}
-use Rattle.rb_base.specs.declared.node.NodeName.TheVariants.{Biu, Rmu}
+use Rattle.rb_base.specs.{Counting.numbers, Nodes.other, Sizes.IsShape, declared.node.NodeName.TheVariants.{Biu, Rmu}}
 use Rattle.rb_base.proofs.Plain.{and-false}
-use Rattle.rb_rules.specs.Clock.{IsClock}
-use Rattle.rb_rules.specs.Entries.{IsListed}
-use Rattle.rb_rules.specs.Lawful.{IsLawful, IsNodeOf, IsOnsetOf, IsRuleOf, IsSayOf, kind_of}
-use Rattle.rb_rules.specs.Plan.{IsFeasible, IsPlan}
-use Rattle.rb_rules.proofs.Feasibility.{feasible_exactly}
-use Rattle.rb_rules.proofs.Lawfulness.{sent_in_each}
+use Rattle.rb_rules.specs.{Clock.IsClock, Entries.IsListed, Lawful.{IsLawful, IsNodeOf, IsOnsetOf, IsRuleOf, IsSayOf, kind_of}, Plan.{IsFeasible, IsPlan}}
+use Rattle.rb_rules.proofs.{Feasibility.feasible_exactly, Lawfulness.sent_in_each}
 use Rattle.rb_gen.specs.Generated.{biu_onset, clock_of, plan, rmu_onset, rule_of, say_to, scenario_of, sizes, start_of, tick_of}
 use Rattle.rb_gen.proofs.Lists.{each_of}
 

@@ -1,8 +1,5 @@
 -- Lists that are made by number.
-use Rattle.std.proofs.Common.{◌≡◌, ◌+◌, ◌<◌, ℕ, List, [], ◌∷◌, ◌++◌, map, set, length, get_or, sym, subst, ap, ◌∙◌, arith, inl, inr}
-use Rattle.std.proofs.lemmas.Bool.{cases_lt}
-use Rattle.std.proofs.lemmas.List.{get_or-set_other, get_or-set_same}
-use Rattle.std.proofs.lemmas.List.FromFn.{get_or-map-range_with_len, length-map-range_with_len, map-range_with_len_more}
+use Rattle.std.proofs.{Common.{◌≡◌, ◌+◌, ◌<◌, ℕ, List, [], ◌∷◌, ◌++◌, map, set, length, get_or, sym, subst, ap, ◌∙◌, arith, inl, inr}, lemmas.Bool.cases_lt, lemmas.List.{get_or-set_other, get_or-set_same}, lemmas.List.FromFn.{get_or-map-range_with_len, length-map-range_with_len, map-range_with_len_more}}
 use Rattle.std.specs.Prelude.{All}
 use Rattle.rb_base.specs.Counting.{numbers}
 

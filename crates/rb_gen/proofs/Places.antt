@@ -1,17 +1,9 @@
 -- Which line stands where in the text of a generated scenario.
-use Rattle.std.proofs.Common.{◌≡◌, ℕ, zero, suc, ◌+◌, ◌-◌, ◌*◌, ◌/◌, ◌%◌, ◌<◌, ◌≤◌, List, [], ◌∷◌, ◌++◌, length, get_or, slice_get, Some, None, append_assoc, refl, sym, ap, ◌∙◌, zero-add, arith}
+use Rattle.std.proofs.{Common.{◌≡◌, ℕ, zero, suc, ◌+◌, ◌-◌, ◌*◌, ◌/◌, ◌%◌, ◌<◌, ◌≤◌, List, [], ◌∷◌, ◌++◌, length, get_or, slice_get, Some, None, append_assoc, refl, sym, ap, ◌∙◌, zero-add, arith}, lemmas.List.{get_or_append_left, get_or-append-add, length-append}, lemmas.List.FromFn.{get_or-map-range_with_len, get_or-range_with_len, length-map-range_with_len, length-range_with_len}, lemmas.Option.{get_or_from_slice_get, slice_get-get_or, slice_get_past}}
 use Rattle.std.specs.List.{flat_map}
-use Rattle.std.proofs.lemmas.List.{get_or_append_left, get_or-append-add, length-append}
-use Rattle.std.proofs.lemmas.List.FromFn.{get_or-map-range_with_len, get_or-range_with_len, length-map-range_with_len, length-range_with_len}
-use Rattle.std.proofs.lemmas.Option.{get_or_from_slice_get, slice_get-get_or, slice_get_past}
-use Rattle.rb_base.specs.Counting.{numbers}
-use Rattle.rb_base.specs.declared.node.NodeName.TheVariants.{Biu, Rmu}
-use Rattle.rb_rules.specs.declared.link.Rule.{Rule}
-use Rattle.rb_rules.specs.declared.say.Say.{Say}
-use Rattle.rb_rules.specs.Goodness.{Scenario}
-use Rattle.rb_rules.specs.Links.{delay_of}
-use Rattle.rb_gen.specs.Generated.{IsGenerated, clock_of, drawn_from, receiver_of, rule_of, say_to, scenario_of, sender_of}
-use Rattle.rb_gen.specs.Text.{clock_entry, fault_lines, lines_of, link_lines, root_lines, rule_lines, say_lines}
+use Rattle.rb_base.specs.{Counting.numbers, declared.node.NodeName.TheVariants.{Biu, Rmu}}
+use Rattle.rb_rules.specs.{declared.link.Rule.Rule, declared.say.Say.Say, Goodness.Scenario, Links.delay_of}
+use Rattle.rb_gen.specs.{Generated.{IsGenerated, clock_of, drawn_from, receiver_of, rule_of, say_to, scenario_of, sender_of}, Text.{clock_entry, fault_lines, lines_of, link_lines, root_lines, rule_lines, say_lines}}
 use Rattle.rb_gen.proofs.Delays.{delay_drawn}
 
 -- ---- pieces of one length

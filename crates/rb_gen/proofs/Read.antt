@@ -2,22 +2,11 @@
 use Rattle.std.proofs.Common.{◌≡◌, ℕ, List, Option, refl, ap, ◌∙◌}
 use Rattle.std.specs.Fmt.{digits}
 use Rattle.rb_base.specs.Nodes.Side.{Biu, Rmu}
-use Rattle.rb_rules.specs.declared.link.Rule.{Rule}
-use Rattle.rb_rules.specs.declared.say.Say.{Say}
-use Rattle.rb_rules.specs.Clock.{Timeline}
-use Rattle.rb_rules.specs.Entries.{listed}
-use Rattle.rb_rules.specs.Goodness.{Scenario, clock_among}
+use Rattle.rb_rules.specs.{declared.link.Rule.Rule, declared.say.Say.Say, Clock.Timeline, Entries.listed, Goodness.{Scenario, clock_among}}
 use Rattle.rb_scenario_document.specs.Names.{named}
-use Rattle.rb_scenario_entries.specs.declared.bus.Bus.{Bus}
-use Rattle.rb_scenario_entries.specs.Bus.{bus_of, plan_of, sizes_of, version_of}
-use Rattle.rb_scenario_entries.specs.Clocks.{clocks_of}
-use Rattle.rb_scenario_entries.specs.Faults.{onsets_of}
-use Rattle.rb_scenario_entries.specs.Links.{rule_of, rules_of}
-use Rattle.rb_scenario_entries.specs.Says.{content_in, say_of, says_of}
-use Rattle.rb_scenario.specs.Hosts.{apps_of, requests_of, words_of}
-use Rattle.rb_scenario.specs.Reading.{scenario_of as scenario_said, scenario_on}
-use Rattle.rb_gen.specs.Generated.{plan, scenario_of, sizes}
-use Rattle.rb_gen.specs.Table.{table_of}
+use Rattle.rb_scenario_entries.specs.{declared.bus.Bus.Bus, Bus.{bus_of, plan_of, sizes_of, version_of}, Clocks.clocks_of, Faults.onsets_of, Links.{rule_of, rules_of}, Says.{content_in, say_of, says_of}}
+use Rattle.rb_scenario.specs.{Hosts.{apps_of, requests_of, words_of}, Reading.{scenario_of as scenario_said, scenario_on}}
+use Rattle.rb_gen.specs.{Generated.{plan, scenario_of, sizes}, Table.table_of}
 
 -- the bus of a generated scenario of `frames` frames
 abbrev pub bus_in : ℕ → Bus

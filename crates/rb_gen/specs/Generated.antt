@@ -2,20 +2,10 @@
 -- 7 says unlike words. Starts and tick lengths of clocks, delays of links, and the frame in which
 -- RMU 4 falls silent are drawn.
 use Rattle.std.specs.Prelude.{ℕ, ◌≡◌, suc, ◌+◌, ◌-◌, ◌/◌, ◌%◌, ◌≤◌, ◌==◌, nat_lt, if◌then◌else◌, List, [], ◌∷◌, ◌++◌, map, replicate, get_or, Some, None}
-use Rattle.rb_base.specs.Counting.{numbers}
-use Rattle.rb_base.specs.Sizes.{Sizes}
-use Rattle.rb_base.specs.declared.node.NodeName.{NodeName}
-use Rattle.rb_base.specs.declared.node.NodeName.TheVariants.{Biu, Rmu}
-use Rattle.rb_rules.specs.declared.link.Pattern.TheVariants.{One}
-use Rattle.rb_rules.specs.declared.link.Rule.{Rule}
-use Rattle.rb_rules.specs.declared.message.Version.TheVariants as version
-use Rattle.rb_rules.specs.declared.plan.Plan.{Plan}
-use Rattle.rb_rules.specs.declared.say.Content.TheVariants.{Word}
-use Rattle.rb_rules.specs.declared.say.Say.{Say}
-use Rattle.rb_rules.specs.Clock.{Timeline}
-use Rattle.rb_rules.specs.Entries.{listed}
-use Rattle.rb_rules.specs.Goodness.{Scenario, clock_among}
+use Rattle.rb_base.specs.{Counting.numbers, Sizes.Sizes, declared.node.NodeName.NodeName, declared.node.NodeName.TheVariants.{Biu, Rmu}}
+use Rattle.rb_rules.specs.{declared.link.Pattern.TheVariants.One, declared.link.Rule.Rule, declared.plan.Plan.Plan, declared.say.Content.TheVariants.Word, declared.say.Say.Say, Clock.Timeline, Entries.listed, Goodness.{Scenario, clock_among}}
 use Rattle.rb_gen.specs.Draws.{numbers_drawn}
+use Rattle.rb_rules.specs.declared.message.Version.TheVariants as version
 
 -- The bus.
 

@@ -1,14 +1,8 @@
 -- The table of a document that is the text of a generated scenario: what stands at each key.
-use Rattle.std.specs.Prelude.{ℕ, suc, pos, List, [], ◌∷◌, ◌++◌, map, replicate, get_or, Option, None, unwrap_or, codes}
-use Rattle.std.specs.Fmt.{decimal}
+use Rattle.std.specs.{Prelude.{ℕ, suc, pos, List, [], ◌∷◌, ◌++◌, map, replicate, get_or, Option, None, unwrap_or, codes}, Fmt.decimal}
 use Rattle.toml.specs.Data.{Data, string, integer, array, table, Items, no_items, item, Members, no_members, member}
-use Rattle.rb_base.specs.Counting.{numbers}
-use Rattle.rb_base.specs.declared.node.NodeName.{NodeName}
-use Rattle.rb_base.specs.declared.node.NodeName.TheVariants.{Biu, Rmu}
-use Rattle.rb_rules.specs.declared.link.Rule.{Rule}
-use Rattle.rb_rules.specs.declared.say.Say.{Say}
-use Rattle.rb_rules.specs.Clock.{Timeline}
-use Rattle.rb_rules.specs.Goodness.{Scenario}
+use Rattle.rb_base.specs.{Counting.numbers, declared.node.NodeName.NodeName, declared.node.NodeName.TheVariants.{Biu, Rmu}}
+use Rattle.rb_rules.specs.{declared.link.Rule.Rule, declared.say.Say.Say, Clock.Timeline, Goodness.Scenario}
 use Rattle.rb_gen.specs.Text.{named, node_at, word_said}
 
 -- Values.

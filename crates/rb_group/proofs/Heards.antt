@@ -1,18 +1,9 @@
 -- A delivery more.
-use Rattle.std.proofs.Common.{◌≡◌, ◌≢◌, ℕ, ◌<◌, ◌^◌, ◌==◌, Bool, true, false, if◌then◌else◌, Option, Some, None, is_some, List, [], ◌∷◌, ◌++◌, length, get_or, set, map, refl, sym, ◌∙◌, ap, subst, arith}
-use Rattle.std.proofs.lemmas.Bool.{eqb-true}
-use Rattle.std.proofs.lemmas.List.{get_or-set_same, get_or-set_other}
-use Rattle.std.proofs.lemmas.List.FromFn.{fill_by_all}
-use Rattle.std.proofs.Math.ListN.{length-set}
-use Rattle.rb_base.specs.Counting.{numbers}
-use Rattle.rb_base.specs.Nodes.{has}
-use Rattle.rb_base.specs.declared.values.Delivery.{Delivery}
-use Rattle.rb_base.specs.declared.values.Heard.{Heard}
-use Rattle.rb_base.proofs.Plain.{eq_self}
-use Rattle.rb_base.proofs.Sets.{has_above}
+use Rattle.std.proofs.{Common.{◌≡◌, ◌≢◌, ℕ, ◌<◌, ◌^◌, ◌==◌, Bool, true, false, if◌then◌else◌, Option, Some, None, is_some, List, [], ◌∷◌, ◌++◌, length, get_or, set, map, refl, sym, ◌∙◌, ap, subst, arith}, lemmas.Bool.eqb-true, lemmas.List.{get_or-set_same, get_or-set_other}, lemmas.List.FromFn.fill_by_all, Math.ListN.length-set}
+use Rattle.rb_base.specs.{Counting.numbers, Nodes.has, declared.values.Delivery.Delivery, declared.values.Heard.Heard}
+use Rattle.rb_base.proofs.{Plain.eq_self, Sets.has_above}
 use Rattle.rb_rules.specs.ExactStage.{present}
-use Rattle.rb_group.specs.Groups.{first_of, value_of, values_of}
-use Rattle.rb_group.specs.Keeping.{HasHeard, KeptGroup, with_first}
+use Rattle.rb_group.specs.{Groups.{first_of, value_of, values_of}, Keeping.{HasHeard, KeptGroup, with_first}}
 
 -- the first answer, or else the other
 abbrev pub or_else : {X : Type 0} → Option X → Option X → Option X

@@ -1,9 +1,6 @@
 -- Values that are picked out of a list one after another.
-use Rattle.std.proofs.Common.{◌≡◌, ℕ, ◌+◌, ◌<◌, ◌≤◌, Option, Some, None, List, [], ◌∷◌, ◌++◌, length, take, get_or, sym, ◌∙◌, ap, arith, length-append}
-use Rattle.std.specs.List.{cons_option}
-use Rattle.std.proofs.lemmas.List.{take_more}
-use Rattle.std.proofs.lemmas.List.Elements.{filter_map-append}
-use Rattle.std.specs.List.{filter_map}
+use Rattle.std.proofs.{Common.{◌≡◌, ℕ, ◌+◌, ◌<◌, ◌≤◌, Option, Some, None, List, [], ◌∷◌, ◌++◌, length, take, get_or, sym, ◌∙◌, ap, arith, length-append}, lemmas.List.take_more, lemmas.List.Elements.filter_map-append}
+use Rattle.std.specs.{List.cons_option, List.filter_map}
 
 -- what is picked from one more item
 pub picked_more : {X Y : Type 0} (pick : X → Option Y) (xs : List X) (i : ℕ) (d : X) (before after : List Y) → i < length xs

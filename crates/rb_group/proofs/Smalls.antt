@@ -1,10 +1,7 @@
 -- The middle of small numbers is small.
-use Rattle.std.proofs.Common.{◌≡◌, ℕ, ◌+◌, ◌*◌, ◌^◌, ◌<◌, ◌≤◌, true, Option, inl, inr, Some, None, IfSome, All, List, [], ◌∷◌, ◌++◌, length, nat_lt, subst, sym, arith}
-use Rattle.std.proofs.lemmas.Bool.{cases_lt, lt-ltb}
-use Rattle.std.proofs.lemmas.List.Elements.{All-append, All-cons, All-nil, All-weaker}
+use Rattle.std.proofs.{Common.{◌≡◌, ℕ, ◌+◌, ◌*◌, ◌^◌, ◌<◌, ◌≤◌, true, Option, inl, inr, Some, None, IfSome, All, List, [], ◌∷◌, ◌++◌, length, nat_lt, subst, sym, arith}, lemmas.Bool.{cases_lt, lt-ltb}, lemmas.List.Elements.{All-append, All-cons, All-nil, All-weaker}}
 use Rattle.rb_base.proofs.Counts.{count_if-all}
-use Rattle.rb_base.specs.declared.values.Heard.{Heard}
-use Rattle.rb_base.specs.declared.values.Heard.TheVariants.{Word, Fault}
+use Rattle.rb_base.specs.{declared.values.Heard.Heard, declared.values.Heard.TheVariants.{Word, Fault}}
 use Rattle.rb_rules.specs.Middle.{IsMiddle, below}
 use Rattle.rb_group.specs.Groups.{words_in}
 

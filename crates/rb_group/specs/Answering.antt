@@ -1,10 +1,8 @@
 -- Entries that answer as a voter does, on every list.
-use Rattle.std.specs.Prelude.{◌≡◌, ◌≤◌, length}
-use Rattle.std.specs.Borrow.{Bor}
+use Rattle.std.specs.{Prelude.{◌≡◌, ◌≤◌, length}, Borrow.Bor}
 use Rattle.arrayvec.specs.ArrayVec.{ArrayVec}
 use Rattle.rb_base.specs.declared.values.Heard.{Heard}
-use Rattle.rb_group.specs.declared.voters.Which.{Which}
-use Rattle.rb_group.specs.Groups.{voted_by}
+use Rattle.rb_group.specs.{declared.voters.Which.Which, Groups.voted_by}
 
 -- by what a call needs and what it may answer: each call on at most 16 values may be made, and
 -- answers what the voter does

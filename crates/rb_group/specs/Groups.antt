@@ -1,17 +1,9 @@
 -- Replicas: several BIUs that offer the same, and the one value that a vote finds for them in a
 -- frame.
 use Rattle.std.specs.Prelude.{ℕ, ◌==◌, Option, Some, None, List, [], ◌∷◌, map, filter_map, if◌then◌else◌}
-use Rattle.rb_base.specs.Counting.{numbers}
-use Rattle.rb_base.specs.Nodes.{has}
-use Rattle.rb_base.specs.declared.values.Delivery.{Delivery}
-use Rattle.rb_base.specs.declared.values.Heard.{Heard}
-use Rattle.rb_base.specs.declared.values.Heard.TheVariants.{Word, Fault}
-use Rattle.rb_rules.specs.ExactStage.{present}
-use Rattle.rb_rules.specs.Majority.{majority_of}
-use Rattle.rb_rules.specs.Middle.{middle_of}
-use Rattle.rb_rules.specs.Ports.{word_in}
-use Rattle.rb_group.specs.declared.voters.Which.{Which}
-use Rattle.rb_group.specs.declared.voters.Which.TheVariants.{Most, Mid}
+use Rattle.rb_base.specs.{Counting.numbers, Nodes.has, declared.values.Delivery.Delivery, declared.values.Heard.Heard, declared.values.Heard.TheVariants.{Word, Fault}}
+use Rattle.rb_rules.specs.{ExactStage.present, Majority.majority_of, Middle.middle_of, Ports.word_in}
+use Rattle.rb_group.specs.{declared.voters.Which.Which, declared.voters.Which.TheVariants.{Most, Mid}}
 
 -- What the members gave.
 

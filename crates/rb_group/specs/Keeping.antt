@@ -1,7 +1,6 @@
 -- The deliveries whose values a group holds.
 use Rattle.std.specs.Prelude.{ℕ, ◌≡◌, ◌<◌, Option, Some, None, List, get_or, is_some, length, slice_set, if◌then◌else◌}
-use Rattle.rb_base.specs.declared.values.Delivery.{Delivery}
-use Rattle.rb_base.specs.declared.values.Heard.{Heard}
+use Rattle.rb_base.specs.{declared.values.Delivery.Delivery, declared.values.Heard.Heard}
 use Rattle.rb_group.specs.Groups.{value_of}
 
 -- what is kept of a group: its members, and the first value of each of the 16 BIUs that there may

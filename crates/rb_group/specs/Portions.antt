@@ -1,13 +1,8 @@
 -- What a port delivered in a frame, by the records of a run.
-use Rattle.std.specs.Prelude.{ℕ, ◌==◌, List, [], ◌∷◌, if◌then◌else◌}
-use Rattle.std.specs.List.{flat_map}
-use Rattle.rb_base.specs.declared.values.Delivery.{Delivery}
-use Rattle.rb_base.specs.declared.values.Heard.{Heard}
-use Rattle.rb_rules.specs.declared.record.SlotLine.{SlotLine}
-use Rattle.rb_rules.specs.Book.{Record}
-use Rattle.rb_rules.specs.Book.Record.{Frame, Slot, Ended, Breach}
-use Rattle.rb_group.specs.declared.voters.Which.{Which}
-use Rattle.rb_group.specs.Groups.{group_value}
+use Rattle.std.specs.{Prelude.{ℕ, ◌==◌, List, [], ◌∷◌, if◌then◌else◌}, List.flat_map}
+use Rattle.rb_base.specs.{declared.values.Delivery.Delivery, declared.values.Heard.Heard}
+use Rattle.rb_rules.specs.{declared.record.SlotLine.SlotLine, Book.Record, Book.Record.{Frame, Slot, Ended, Breach}}
+use Rattle.rb_group.specs.{declared.voters.Which.Which, Groups.group_value}
 
 -- a line of a slot as a delivery
 abbrev pub delivery_of : ℕ → ℕ → SlotLine → Delivery

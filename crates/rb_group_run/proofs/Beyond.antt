@@ -1,8 +1,6 @@
 -- Members that are no BIUs of the bus.
-use Rattle.std.proofs.Common.{◌≡◌, ℕ, ◌<◌, ◌^◌, Bool, true, false, not, ◌&&◌, nat_lt, inl, inr, refl, sym, ◌∙◌, ap, arith}
-use Rattle.std.proofs.lemmas.Bool.{cases_lt, le-ltb, lt-ltb}
-use Rattle.rb_base.specs.Nodes.{has, set_of}
-use Rattle.rb_base.specs.Sizes.{Sizes}
+use Rattle.std.proofs.{Common.{◌≡◌, ℕ, ◌<◌, ◌^◌, Bool, true, false, not, ◌&&◌, nat_lt, inl, inr, refl, sym, ◌∙◌, ap, arith}, lemmas.Bool.{cases_lt, le-ltb, lt-ltb}}
+use Rattle.rb_base.specs.{Nodes.{has, set_of}, Sizes.Sizes}
 use Rattle.rb_base.proofs.Sets.{has-is, has-set_of, has_above, has_none, same_set, set_of-lt}
 use Rattle.rb_group_run.specs.Members.{AreMembers}
 

@@ -1,21 +1,11 @@
 -- What the groups hold of their ports, with more told.
-use Rattle.std.proofs.Common.{◌≡◌, ◌≢◌, ℕ, ◌+◌, ◌<◌, ◌≤◌, ◌==◌, max, Bool, true, false, if◌then◌else◌, Option, Some, None, List, [], ◌∷◌, ◌++◌, length, take, get_or, slice_get, set, refl, sym, ◌∙◌, ap, subst, arith, append_assoc}
-use Rattle.std.proofs.lemmas.Bool.{eqb-true}
-use Rattle.std.proofs.lemmas.Grind.{flat_map-append}
-use Rattle.std.proofs.lemmas.Option.{get_or_from_slice_get, slice_get-get_or, slice_get_within}
-use Rattle.std.proofs.lemmas.List.{append-nil, get_or-set_other, get_or-set_same, take_more}
-use Rattle.std.proofs.Math.ListN.{length-set}
+use Rattle.std.proofs.{Common.{◌≡◌, ◌≢◌, ℕ, ◌+◌, ◌<◌, ◌≤◌, ◌==◌, max, Bool, true, false, if◌then◌else◌, Option, Some, None, List, [], ◌∷◌, ◌++◌, length, take, get_or, slice_get, set, refl, sym, ◌∙◌, ap, subst, arith, append_assoc}, lemmas.Bool.eqb-true, lemmas.Grind.flat_map-append, lemmas.Option.{get_or_from_slice_get, slice_get-get_or, slice_get_within}, lemmas.List.{append-nil, get_or-set_other, get_or-set_same, take_more}, Math.ListN.length-set}
 use Rattle.std.specs.Option.{option_to_list}
-use Rattle.rb_base.proofs.Sets.{eq_other}
+use Rattle.rb_base.proofs.{Sets.eq_other, Plain.eq_self}
 use Rattle.rb_base.specs.declared.values.Delivery.{Delivery}
-use Rattle.rb_base.proofs.Plain.{eq_self}
-use Rattle.rb_rules.specs.Book.{Record}
-use Rattle.rb_rules.specs.Book.Record.{Frame, Slot, Ended, Breach}
-use Rattle.rb_rules.specs.declared.record.SlotLine.{SlotLine}
-use Rattle.rb_group.specs.Keeping.{HasHeard, KeptGroup}
-use Rattle.rb_group.specs.Portions.{deliveries_in, delivery_of, line_told, port_deliveries, told_of}
-use Rattle.rb_group_run.specs.Holding.{HoldPortions, HoldsPortion}
-use Rattle.rb_group_run.specs.Replies.{frame_of, frame_or, reached, told_in}
+use Rattle.rb_rules.specs.{Book.Record, Book.Record.{Frame, Slot, Ended, Breach}, declared.record.SlotLine.SlotLine}
+use Rattle.rb_group.specs.{Keeping.{HasHeard, KeptGroup}, Portions.{deliveries_in, delivery_of, line_told, port_deliveries, told_of}}
+use Rattle.rb_group_run.specs.{Holding.{HoldPortions, HoldsPortion}, Replies.{frame_of, frame_or, reached, told_in}}
 
 set-here : {X : Type 0} (xs : List X) (i : ℕ) (y z : X) → slice_get (set xs i y) i ≡ Some z → y ≡ z
 set-here xs i y z is =

@@ -1,16 +1,11 @@
 -- For readers of the laws; no contract cites it yet: if its drive is plain, what a run says of a
 -- group is what the records of the rounds say.
-use Rattle.std.proofs.Common.{◌≡◌, ℕ, true, Option, List, [], ◌∷◌, ◌++◌, refl, sym, ap, ◌∙◌, subst, append_assoc}
-use Rattle.std.proofs.lemmas.List.{append-nil}
-use Rattle.rb_rules.specs.Book.{Record}
-use Rattle.rb_rules.specs.Goodness.{Scenario}
-use Rattle.rb_rules.specs.Rounds.{records_of}
+use Rattle.std.proofs.{Common.{◌≡◌, ℕ, true, Option, List, [], ◌∷◌, ◌++◌, refl, sym, ap, ◌∙◌, subst, append_assoc}, lemmas.List.append-nil}
+use Rattle.rb_rules.specs.{Book.Record, Goodness.Scenario, Rounds.records_of}
 use Rattle.rb_world_book.specs.declared.turn.Turn.{Turn}
 use Rattle.rb_outside.specs.Bytes.{AppendsPart}
 use Rattle.rb_outside.proofs.Known.{part_widens}
-use Rattle.rb_group_run.specs.declared.asked.Asked.{Asked}
-use Rattle.rb_group_run.specs.Replies.{groups_text, record_text, text_after}
-use Rattle.rb_group_run.specs.Runs.{text_of}
+use Rattle.rb_group_run.specs.{declared.asked.Asked.Asked, Replies.{groups_text, record_text, text_after}, Runs.text_of}
 use Rattle.rb_run.specs.Turns.{AreAll, AreGiven}
 use Rattle.rb_run.proofs.Plain.{plain-records, records-back}
 

@@ -1,17 +1,10 @@
 -- The text of one turn more.
-use Rattle.std.proofs.Common.{◌≡◌, ℕ, nat_lt, if◌then◌else◌, Option, Some, None, List, [], ◌∷◌, ◌++◌, refl, sym, ◌∙◌, ap, arith, append_assoc}
-use Rattle.std.proofs.lemmas.List.{append-nil}
+use Rattle.std.proofs.{Common.{◌≡◌, ℕ, nat_lt, if◌then◌else◌, Option, Some, None, List, [], ◌∷◌, ◌++◌, refl, sym, ◌∙◌, ap, arith, append_assoc}, lemmas.List.append-nil, lemmas.Bool.le-ltb}
 use Rattle.std.specs.Option.{option_to_list}
-use Rattle.std.proofs.lemmas.Bool.{le-ltb}
 use Rattle.rb_base.specs.declared.values.Heard.{Heard}
-use Rattle.rb_rules.specs.Book.{Record}
-use Rattle.rb_rules.specs.Goodness.{Scenario}
-use Rattle.rb_group.specs.Groups.{group_value}
-use Rattle.rb_group.specs.Portions.{port_deliveries, value_at}
-use Rattle.rb_group_run.specs.declared.asked.Asked.{Asked}
-use Rattle.rb_group_run.specs.declared.ports.Ports.{Ports}
-use Rattle.rb_group_run.specs.Holding.{HoldsFrame}
-use Rattle.rb_group_run.specs.Replies.{ending_in, ending_text, frame_of, frame_or, frame_text, record_text, text_after, turn_text}
+use Rattle.rb_rules.specs.{Book.Record, Goodness.Scenario}
+use Rattle.rb_group.specs.{Groups.group_value, Portions.{port_deliveries, value_at}}
+use Rattle.rb_group_run.specs.{declared.asked.Asked.Asked, declared.ports.Ports.Ports, Holding.HoldsFrame, Replies.{ending_in, ending_text, frame_of, frame_or, frame_text, record_text, text_after, turn_text}}
 
 -- the text of records and one more
 pub text_with : (sc : Scenario) (asked : Asked) (before rs : List Record) (o : Option Record)

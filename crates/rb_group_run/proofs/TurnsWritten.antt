@@ -1,9 +1,6 @@
 -- Lines that are written one after another, one for each number.
-use Rattle.std.proofs.Common.{◌≡◌, ℕ, zero, suc, ◌+◌, ◌≤◌, ◌-◌, List, [], ◌∷◌, ◌++◌, Option, sym, ap, ◌∙◌, subst, arith}
-use Rattle.std.proofs.lemmas.Grind.{flat_map-append}
-use Rattle.std.proofs.lemmas.List.{append-nil}
-use Rattle.std.specs.Io.KnownBytes.{Appends}
-use Rattle.std.specs.List.{flat_map}
+use Rattle.std.proofs.{Common.{◌≡◌, ℕ, zero, suc, ◌+◌, ◌≤◌, ◌-◌, List, [], ◌∷◌, ◌++◌, Option, sym, ap, ◌∙◌, subst, arith}, lemmas.Grind.flat_map-append, lemmas.List.append-nil}
+use Rattle.std.specs.{Io.KnownBytes.Appends, List.flat_map}
 use Rattle.rb_base.specs.Counting.{numbers}
 use Rattle.rb_base.proofs.Plain.{numbers-more}
 use Rattle.rb_outside.specs.Bytes.{AppendsPart}

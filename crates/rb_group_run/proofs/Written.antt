@@ -1,27 +1,15 @@
 -- A run of which some turns have been given, and what they say of a group written.
 use Rattle.std.proofs.Common.{◌≡◌, ℕ, ◌+◌, Bool, false, Option, Some, None, List, [], ◌∷◌, ◌++◌, length, refl, sym, ap, ◌∙◌, subst, length-append}
-use Rattle.std.specs.Io.KnownBytes.{Appends}
-use Rattle.std.specs.Option.{option_to_list}
-use Rattle.rb_rules.specs.Book.{Record}
-use Rattle.rb_rules.specs.Goodness.{Scenario}
-use Rattle.rb_world_book.specs.Records.{record_of}
-use Rattle.rb_world_book.specs.declared.turn.Turn.{Turn}
+use Rattle.std.specs.{Io.KnownBytes.Appends, Option.option_to_list}
+use Rattle.rb_rules.specs.{Book.Record, Goodness.Scenario}
+use Rattle.rb_world_book.specs.{Records.record_of, declared.turn.Turn.Turn}
 use Rattle.rb_outside.specs.Bytes.{AppendsPart}
 use Rattle.rb_outside.proofs.Known.{appends_join, appends_none, part_join}
-use Rattle.rb_run.specs.declared.ending.Ending.{Ending}
-use Rattle.rb_run.specs.Runs.{HasGivenNothing, end_at}
-use Rattle.rb_run.specs.Turns.{records_in}
-use Rattle.rb_run.proofs.Texts.{records-more}
-use Rattle.rb_run.proofs.UnderWay.{IsUnderWay, are-all, are-given, begins, finished, goes-on}
-use Rattle.rb_world.specs.Nexts.{is_last}
-use Rattle.rb_world.specs.Worlds.{KeptWorld}
-use Rattle.rb_group_run.specs.declared.asked.Asked.{Asked}
-use Rattle.rb_group_run.specs.declared.ports.Ports.{Ports}
-use Rattle.rb_group_run.specs.Holding.{HoldsFrame, IsScopeOf}
-use Rattle.rb_group_run.specs.declared.asked.Scope.{Scope}
-use Rattle.rb_group_run.specs.Replies.{text_after, turn_text}
+use Rattle.rb_run.specs.{declared.ending.Ending.Ending, Runs.{HasGivenNothing, end_at}, Turns.records_in}
+use Rattle.rb_run.proofs.{Texts.records-more, UnderWay.{IsUnderWay, are-all, are-given, begins, finished, goes-on}}
+use Rattle.rb_world.specs.{Nexts.is_last, Worlds.KeptWorld}
+use Rattle.rb_group_run.specs.{declared.asked.Asked.Asked, declared.ports.Ports.Ports, Holding.{HoldsFrame, IsScopeOf}, declared.asked.Scope.Scope, Replies.{text_after, turn_text}, Runs.{WritesAll, WritesPart, text_of}}
 use Rattle.rb_group_run.proofs.Texts.{text_with}
-use Rattle.rb_group_run.specs.Runs.{WritesAll, WritesPart, text_of}
 
 -- the text of some turns and one more
 text_more : (sc : Scenario) (asked : Asked) (turns : List Turn) (t : Turn) → text_of sc asked (turns ++ t ∷ []) ≡ text_of sc asked turns ++ turn_text sc asked (records_in turns) (record_of t)

@@ -1,15 +1,10 @@
 -- What is kept of a run whose group is asked for.
 use Rattle.std.specs.Prelude.{ℕ, ◌≡◌, Some, List, length, slice_get}
 use Rattle.rb_base.specs.declared.values.Delivery.{Delivery}
-use Rattle.rb_rules.specs.Book.{Record}
-use Rattle.rb_group.specs.Keeping.{HasHeard, KeptGroup}
-use Rattle.rb_group.specs.Portions.{port_deliveries}
-use Rattle.rb_rules.specs.Goodness.{Scenario}
+use Rattle.rb_rules.specs.{Book.Record, Goodness.Scenario}
+use Rattle.rb_group.specs.{Keeping.{HasHeard, KeptGroup}, Portions.port_deliveries}
 use Rattle.rb_world_onset.specs.Faults.{faults_of}
-use Rattle.rb_group_run.specs.declared.asked.Asked.{Asked}
-use Rattle.rb_group_run.specs.declared.asked.Scope.{Scope}
-use Rattle.rb_group_run.specs.declared.ports.Ports.{Ports}
-use Rattle.rb_group_run.specs.Replies.{reached}
+use Rattle.rb_group_run.specs.{declared.asked.Asked.Asked, declared.asked.Scope.Scope, declared.ports.Ports.Ports, Replies.reached}
 
 -- a group of these members holds the values of these deliveries
 pub record HoldsPortion (members : ℕ) (deliveries : List Delivery) (g : KeptGroup) : Type 0 where

@@ -1,17 +1,9 @@
 -- What is said of a group of replicas in a run, record by record.
-use Rattle.std.specs.Prelude.{ℕ, ◌+◌, ◌-◌, max, nat_lt, if◌then◌else◌, Option, Some, None, List, [], ◌∷◌, ◌++◌}
-use Rattle.std.specs.List.{flat_map}
-use Rattle.rb_base.specs.Counting.{numbers}
-use Rattle.rb_base.specs.Nodes.Side.{Biu}
-use Rattle.rb_base.specs.Sizes.{Sizes}
-use Rattle.rb_base.specs.declared.values.Delivery.{Delivery}
-use Rattle.rb_base.specs.declared.values.Heard.{Heard}
-use Rattle.rb_rules.specs.Book.{Record}
-use Rattle.rb_rules.specs.Book.Record.{Frame, Slot, Ended, Breach}
-use Rattle.rb_rules.specs.Goodness.{Scenario, is_good}
+use Rattle.std.specs.{Prelude.{ℕ, ◌+◌, ◌-◌, max, nat_lt, if◌then◌else◌, Option, Some, None, List, [], ◌∷◌, ◌++◌}, List.flat_map}
+use Rattle.rb_base.specs.{Counting.numbers, Nodes.Side.Biu, Sizes.Sizes, declared.values.Delivery.Delivery, declared.values.Heard.Heard}
+use Rattle.rb_rules.specs.{Book.Record, Book.Record.{Frame, Slot, Ended, Breach}, Goodness.{Scenario, is_good}}
 use Rattle.rb_report.specs.Report.{breach_text, end_text, group_text}
-use Rattle.rb_group.specs.Groups.{group_value}
-use Rattle.rb_group.specs.Portions.{told_of, value_at}
+use Rattle.rb_group.specs.{Groups.group_value, Portions.{told_of, value_at}}
 use Rattle.rb_group_run.specs.declared.asked.Asked.{Asked}
 
 -- How far records tell.

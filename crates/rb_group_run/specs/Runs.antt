@@ -1,16 +1,11 @@
 -- What is written of a run whose group is asked for, when it is run to its end.
-use Rattle.std.specs.Prelude.{ℕ, ◌≡◌, Bool, Option, List, Result, IfOk, OnErr, OnOk}
-use Rattle.std.specs.Io.KnownBytes.{Appends}
+use Rattle.std.specs.{Prelude.{ℕ, ◌≡◌, Bool, Option, List, Result, IfOk, OnErr, OnOk}, Io.KnownBytes.Appends}
 use Rattle.rb_rules.specs.Goodness.{Scenario}
 use Rattle.rb_world_book.specs.declared.turn.Turn.{Turn}
-use Rattle.rb_outside.specs.Bytes.{AppendsPart}
-use Rattle.rb_outside.specs.Causes.{HasCause}
-use Rattle.rb_run.specs.declared.ending.Ending.{Ending}
-use Rattle.rb_run.specs.Runs.{EndsWith}
-use Rattle.rb_run.specs.Turns.{AreAll, AreGiven, records_in}
+use Rattle.rb_outside.specs.{Bytes.AppendsPart, Causes.HasCause}
+use Rattle.rb_run.specs.{declared.ending.Ending.Ending, Runs.EndsWith, Turns.{AreAll, AreGiven, records_in}}
 use Rattle.rb_world.specs.Worlds.{KeptWorld}
-use Rattle.rb_group_run.specs.declared.asked.Asked.{Asked}
-use Rattle.rb_group_run.specs.Replies.{groups_text}
+use Rattle.rb_group_run.specs.{declared.asked.Asked.Asked, Replies.groups_text}
 
 -- the text of the records that these turns are
 abbrev pub text_of : Scenario → Asked → List Turn → List ℕ

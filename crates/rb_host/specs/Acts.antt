@@ -1,20 +1,10 @@
 -- What a host sees of what a node gives at a tick, and of what it wants.
 use Rattle.std.specs.Prelude.{ℕ, ◌≡◌, true, false, Option, Some, None, is_some, option_and_then, List, [], length, take}
-use Rattle.rb_base.specs.declared.values.Delivery.{Delivery}
-use Rattle.rb_base.specs.declared.values.Heard.{Heard}
-use Rattle.rb_base.specs.declared.values.Heard.TheVariants.{Word, Fault}
+use Rattle.rb_base.specs.{declared.values.Delivery.Delivery, declared.values.Heard.Heard, declared.values.Heard.TheVariants.{Word, Fault}}
 use Rattle.rb_node.specs.declared.act.Want.{Want}
+use Rattle.rb_rules.specs.{declared.closing.Closed.Closed, declared.message.Message.Message, declared.message.Version.Version, declared.record.Epoch.Epoch, Core.Act, Spelling.spelling_of}
+use Rattle.rb_host.specs.{declared.act.HostAct.HostAct, declared.act.HostDelivery.HostDelivery, declared.act.HostEpoch.HostEpoch, declared.act.HostWant.HostWant}
 use Rattle.rb_node.specs.declared.act.Want.TheVariants as want
-use Rattle.rb_rules.specs.declared.closing.Closed.{Closed}
-use Rattle.rb_rules.specs.declared.message.Message.{Message}
-use Rattle.rb_rules.specs.declared.message.Version.{Version}
-use Rattle.rb_rules.specs.declared.record.Epoch.{Epoch}
-use Rattle.rb_rules.specs.Core.{Act}
-use Rattle.rb_rules.specs.Spelling.{spelling_of}
-use Rattle.rb_host.specs.declared.act.HostAct.{HostAct}
-use Rattle.rb_host.specs.declared.act.HostDelivery.{HostDelivery}
-use Rattle.rb_host.specs.declared.act.HostEpoch.{HostEpoch}
-use Rattle.rb_host.specs.declared.act.HostWant.{HostWant}
 
 -- the start of a frame
 abbrev pub epoch_shown : Option Epoch → HostEpoch

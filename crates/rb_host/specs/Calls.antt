@@ -1,17 +1,9 @@
 -- What the calls over a handle promise.
 use Rattle.std.specs.Prelude.{ℕ, ◌≡◌, ◌+◌, Option, Some, None, IfErr, IsSomeAnd, OnErr, OnOk, Result, Ok, Err}
-use Rattle.rb_node.specs.Cores.{tick_of}
-use Rattle.rb_node.specs.Wants.{want_of}
+use Rattle.rb_node.specs.{Cores.tick_of, Wants.want_of}
 use Rattle.rb_rules.specs.Core.{Core}
-use Rattle.rb_host.specs.Acts.{IsHostAct, want_shown}
-use Rattle.rb_host.specs.declared.act.HostAct.{HostAct}
-use Rattle.rb_host.specs.declared.act.HostWant.{HostWant}
-use Rattle.rb_host.specs.declared.any_node.AnyNode.{AnyNode}
-use Rattle.rb_host.specs.declared.seat.NoNode.{NoNode}
+use Rattle.rb_host.specs.{Acts.{IsHostAct, want_shown}, declared.act.HostAct.HostAct, declared.act.HostWant.HostWant, declared.any_node.AnyNode.AnyNode, declared.seat.NoNode.NoNode, declared.seat.Seat.Seat, Nodes.{IsFirst, IsSame, StandsFor, running_in, side_in}, Seats.{IsAccepted, IsRefused, name_of, timetable_of}}
 use Rattle.rb_host.specs.declared.seat.NoNode.TheVariants as no
-use Rattle.rb_host.specs.declared.seat.Seat.{Seat}
-use Rattle.rb_host.specs.Nodes.{IsFirst, IsSame, StandsFor, running_in, side_in}
-use Rattle.rb_host.specs.Seats.{IsAccepted, IsRefused, name_of, timetable_of}
 
 -- the number of an answer of the call that makes a node
 abbrev pub number_of : Result (Unit {0}) NoNode → ℕ

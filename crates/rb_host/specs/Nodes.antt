@@ -1,18 +1,11 @@
 -- What a node of either kind does: what rb_node says of one kind, at its kind.
 use Rattle.std.specs.Prelude.{ℕ, ◌≡◌, ◌-◌, ◌^◌, min, unwrap_or, List}
-use Rattle.rb_base.specs.Nodes.{Side}
-use Rattle.rb_base.specs.Nodes.Side.{Biu, Rmu}
-use Rattle.rb_base.specs.declared.node.NodeName.{NodeName}
-use Rattle.rb_base.specs.declared.node.NodeName.TheVariants as name
-use Rattle.rb_node.specs.Acts.{IsWholeAct}
-use Rattle.rb_node.specs.Cores.{IsCore, IsSameNode, Running, arrive_of, next_of, passing_end, tick_of, ticks_of}
-use Rattle.rb_node.specs.declared.act.Act.{Act}
-use Rattle.rb_node.specs.declared.act.Want.{Want}
-use Rattle.rb_node.specs.Wants.{want_of}
+use Rattle.rb_base.specs.{Nodes.Side, Nodes.Side.{Biu, Rmu}, declared.node.NodeName.NodeName}
+use Rattle.rb_node.specs.{Acts.IsWholeAct, Cores.{IsCore, IsSameNode, Running, arrive_of, next_of, passing_end, tick_of, ticks_of}, declared.act.Act.Act, declared.act.Want.Want, Wants.want_of}
 use Rattle.rb_plan.specs.Timetable.{Timetable}
-use Rattle.rb_rules.specs.Core.{Core, first_core}
-use Rattle.rb_rules.specs.Lawful.{kind_of}
+use Rattle.rb_rules.specs.{Core.{Core, first_core}, Lawful.kind_of}
 use Rattle.rb_host.specs.declared.any_node.AnyNode.{AnyNode}
+use Rattle.rb_base.specs.declared.node.NodeName.TheVariants as name
 use Rattle.rb_host.specs.declared.any_node.AnyNode.TheVariants as node
 
 -- the node's kind, and the node

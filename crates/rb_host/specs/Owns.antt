@@ -1,12 +1,9 @@
 -- What a handle owns: the memory of its node.
-use Rattle.std.specs.Prelude.{Option, Some, None}
-use Rattle.std.specs.Coded.{Coded, coded_option}
-use base.Fml.{Fml, ftrue}
-use denote.RawPtr.{Ptr}
-use Rattle.std.specs.Box.Ownership.{box_owns}
-use Rattle.std.specs.Global.{Global}
+use Rattle.std.specs.{Prelude.{Option, Some, None}, Coded.{Coded, coded_option}, Box.Ownership.box_owns, Global.Global}
 use Rattle.std_heap.specs.contracts.GlobalAllocator.TheImpl.{ghosts}
 use Rattle.rb_host.specs.contracts.any_node.AnyNode.{the_row}
+use base.Fml.{Fml, ftrue}
+use denote.RawPtr.{Ptr}
 
 -- the node, if there is one
 abbrev pub Kept : Type 0

@@ -1,16 +1,10 @@
 -- What a host's numbers of a node and its bus mean, and why there is no such node.
 use Rattle.std.specs.Prelude.{⊤, ℕ, ◌≡◌, ◌<◌, ◌≤◌, ◌==◌, if◌then◌else◌, Some, None}
-use Rattle.rb_base.specs.Sizes.{IsShape, Sizes}
-use Rattle.rb_base.specs.declared.node.NodeName.{NodeName}
-use Rattle.rb_base.specs.declared.node.NodeName.TheVariants.{Biu, Rmu}
+use Rattle.rb_base.specs.{Sizes.{IsShape, Sizes}, declared.node.NodeName.NodeName, declared.node.NodeName.TheVariants.{Biu, Rmu}}
 use Rattle.rb_plan.specs.Timetable.{Timetable}
-use Rattle.rb_rules.specs.declared.message.Version.{Version}
-use Rattle.rb_rules.specs.declared.message.Version.TheVariants.{One, Two}
-use Rattle.rb_rules.specs.declared.plan.Plan.{Plan}
-use Rattle.rb_rules.specs.Plan.{IsPlan, first_failing}
-use Rattle.rb_host.specs.declared.seat.NoNode.{NoNode}
+use Rattle.rb_rules.specs.{declared.message.Version.Version, declared.message.Version.TheVariants.{One, Two}, declared.plan.Plan.Plan, Plan.{IsPlan, first_failing}}
+use Rattle.rb_host.specs.{declared.seat.NoNode.NoNode, declared.seat.Seat.Seat}
 use Rattle.rb_host.specs.declared.seat.NoNode.TheVariants as no
-use Rattle.rb_host.specs.declared.seat.Seat.{Seat}
 
 -- The bus and the node.
 

@@ -1,15 +1,9 @@
 -- What a caller of a judge knows of it: that it knows the stages that it shows, and when a sight
 -- may be noted.
 use Rattle.std.proofs.Common.{◌≡◌, ℕ, ◌<◌, false, List, [], ◌∷◌, refl, ap}
-use Rattle.rb_base.specs.Nodes.{Side, other, has}
-use Rattle.rb_base.specs.Nodes.Side.{Biu, Rmu}
-use Rattle.rb_base.specs.declared.node.NodeName.{NodeName}
-use Rattle.rb_base.specs.declared.values.See.{See}
-use Rattle.rb_rules.specs.Judging.{JudgedStage, good_now, is_something, stage_begun, with_newest_sight}
-use Rattle.rb_rules.specs.Links.{name_of}
-use Rattle.rb_rules.specs.Slots.{count_of}
-use Rattle.rb_judge.specs.Kinds.{sight_now}
-use Rattle.rb_judge.specs.Stages.{KeptJudge, Knows, HoldsStages, has_noted, is_good_now, sources_of}
+use Rattle.rb_base.specs.{Nodes.{Side, other, has}, Nodes.Side.{Biu, Rmu}, declared.node.NodeName.NodeName, declared.values.See.See}
+use Rattle.rb_rules.specs.{Judging.{JudgedStage, good_now, is_something, stage_begun, with_newest_sight}, Links.name_of, Slots.count_of}
+use Rattle.rb_judge.specs.{Kinds.sight_now, Stages.{KeptJudge, Knows, HoldsStages, has_noted, is_good_now, sources_of}}
 use Rattle.rb_judge.proofs.Sides.{kind_knows}
 
 -- a judge that shows stages knows them

@@ -2,10 +2,8 @@
 -- the frame's end need not be told.
 use Rattle.std.proofs.Common.{◌≡◌, ℕ, ◌<◌, Bool, true, false, not, ◌&&◌, List, refl, ◌∙◌, ap}
 use Rattle.std.specs.List.{list_any}
-use Rattle.rb_base.specs.Nodes.{Side, has}
-use Rattle.rb_base.specs.Nodes.Side.{Biu, Rmu}
-use Rattle.rb_base.proofs.Plain.{and-same}
-use Rattle.rb_base.proofs.Sets.{same_set_of}
+use Rattle.rb_base.specs.{Nodes.{Side, has}, Nodes.Side.{Biu, Rmu}}
+use Rattle.rb_base.proofs.{Plain.and-same, Sets.same_set_of}
 use Rattle.rb_rules.specs.Judging.{JudgedStage, cause_of, classes_of, good_now, is_asymmetric, is_benign, is_suspect, trusted_now, verdict_of, was_taken, was_unlike}
 
 -- the newest stages have the same sets of the kind, and all stages show the same of its suspects

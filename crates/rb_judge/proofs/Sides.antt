@@ -1,22 +1,11 @@
 -- What is kept of the nodes of one kind as sources shows the stages, from call to call.
-use Rattle.std.proofs.Common.{◌≡◌, ◌≢◌, ℕ, ◌<◌, ◌^◌, Bool, true, false, not, ◌&&◌, ◌||◌, ◌==◌, if◌then◌else◌, List, [], ◌∷◌, inl, inr, refl, sym, ◌∙◌, ap, subst, slice_index}
+use Rattle.std.proofs.{Common.{◌≡◌, ◌≢◌, ℕ, ◌<◌, ◌^◌, Bool, true, false, not, ◌&&◌, ◌||◌, ◌==◌, if◌then◌else◌, List, [], ◌∷◌, inl, inr, refl, sym, ◌∙◌, ap, subst, slice_index}, lemmas.Bool.{cases_lt, eqb-true}}
 use Rattle.std.specs.List.{list_any}
-use Rattle.std.proofs.lemmas.Bool.{cases_lt, eqb-true}
-use Rattle.rb_base.specs.Nodes.{Side, other, has, set_of}
-use Rattle.rb_base.specs.Nodes.Side.{Biu, Rmu}
-use Rattle.rb_base.specs.declared.node.NodeName.{NodeName}
-use Rattle.rb_base.specs.declared.values.See.{See}
-use Rattle.rb_base.specs.declared.values.See.TheVariants.{Nothing}
-use Rattle.rb_base.proofs.Plain.{and-false, and-true, eq_self}
-use Rattle.rb_base.proofs.Sets.{has-is, has_above, has_none, same_set_of}
-use Rattle.rb_rules.specs.Judging.{JudgedStage, are_alike, classes_of, good_now, is_benign, is_something, is_suspect, with_newest_sight, stage_begun, trusted_now, was_taken, was_unlike, with_sight}
-use Rattle.rb_rules.specs.Links.{name_of, same_node}
-use Rattle.rb_judge.specs.declared.seen.SourceSights.{SourceSights}
-use Rattle.rb_judge.specs.declared.stage_sets.StageSets.{StageSets}
-use Rattle.rb_judge.specs.Kinds.{AreSetsOf, Begins, KeepsSets, KeptKind, KnowsKind, ShowsKind, classes_kept, eps_now, is_suspected, seen_of, sight_now, taken_so_far, unlike_so_far}
-use Rattle.rb_judge.specs.Sights.{ShowsSource, some_node, some_unlike}
-use Rattle.rb_judge.proofs.Sights.{same_sights}
-use Rattle.rb_judge.proofs.SomeNode.{not_twice, or_order, some_none, some_same}
+use Rattle.rb_base.specs.{Nodes.{Side, other, has, set_of}, Nodes.Side.{Biu, Rmu}, declared.node.NodeName.NodeName, declared.values.See.See, declared.values.See.TheVariants.Nothing}
+use Rattle.rb_base.proofs.{Plain.{and-false, and-true, eq_self}, Sets.{has-is, has_above, has_none, same_set_of}}
+use Rattle.rb_rules.specs.{Judging.{JudgedStage, are_alike, classes_of, good_now, is_benign, is_something, is_suspect, with_newest_sight, stage_begun, trusted_now, was_taken, was_unlike, with_sight}, Links.{name_of, same_node}}
+use Rattle.rb_judge.specs.{declared.seen.SourceSights.SourceSights, declared.stage_sets.StageSets.StageSets, Kinds.{AreSetsOf, Begins, KeepsSets, KeptKind, KnowsKind, ShowsKind, classes_kept, eps_now, is_suspected, seen_of, sight_now, taken_so_far, unlike_so_far}, Sights.{ShowsSource, some_node, some_unlike}}
+use Rattle.rb_judge.proofs.{Sights.same_sights, SomeNode.{not_twice, or_order, some_none, some_same}}
 
 -- ---- masks
 

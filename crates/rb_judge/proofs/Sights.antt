@@ -1,23 +1,12 @@
 -- One sight more of a source.
-use Rattle.std.proofs.Common.{◌≡◌, ◌≢◌, ℕ, ◌+◌, ◌<◌, ◌^◌, ◌⊎◌, Bool, true, false, not, ◌&&◌, ◌||◌, ◌==◌, nat_le, min, max, if◌then◌else◌, inl, inr, refl, sym, ◌∙◌, ap, subst, arith}
-use Rattle.std.proofs.lemmas.Bool.{and_from, and_parts, eqb-true, not-true, not_from_false, or_cases, or_left, or_right}
-use Rattle.std.proofs.lemmas.Bool.Decides.{nat_tests}
-use Rattle.std.proofs.Math.Path.{fun_ext}
-use Rattle.rb_base.specs.Nodes.{has, set_of}
-use Rattle.rb_base.specs.declared.values.Heard.{Heard}
-use Rattle.rb_base.specs.declared.values.Heard.TheVariants.{Word, Fault}
-use Rattle.rb_base.specs.declared.values.See.{See}
-use Rattle.rb_base.specs.declared.values.See.TheVariants as see
-use Rattle.rb_base.proofs.Plain.{eq_self, or-false, same_bool}
-use Rattle.rb_base.proofs.Sets.{eq_other, has-is, same_set}
-use Rattle.rb_rules.specs.Judging.{are_alike, is_something}
-use Rattle.rb_rules.specs.Majority.{same_heard}
+use Rattle.std.proofs.{Common.{◌≡◌, ◌≢◌, ℕ, ◌+◌, ◌<◌, ◌^◌, ◌⊎◌, Bool, true, false, not, ◌&&◌, ◌||◌, ◌==◌, nat_le, min, max, if◌then◌else◌, inl, inr, refl, sym, ◌∙◌, ap, subst, arith}, lemmas.Bool.{and_from, and_parts, eqb-true, not-true, not_from_false, or_cases, or_left, or_right}, lemmas.Bool.Decides.nat_tests, Math.Path.fun_ext}
+use Rattle.rb_base.specs.{Nodes.{has, set_of}, declared.values.Heard.Heard, declared.values.Heard.TheVariants.{Word, Fault}, declared.values.See.See}
+use Rattle.rb_base.proofs.{Plain.{eq_self, or-false, same_bool}, Sets.{eq_other, has-is, same_set}}
+use Rattle.rb_rules.specs.{Judging.{are_alike, is_something}, Majority.same_heard}
 use Rattle.rb_rules.proofs.Majorities.{same_heard_self}
-use Rattle.rb_judge.specs.declared.seen.KeptSight.{KeptSight}
-use Rattle.rb_judge.specs.declared.seen.KeptSight.TheVariants.{Unlike, Value, Times}
-use Rattle.rb_judge.specs.declared.seen.SourceSights.{SourceSights}
-use Rattle.rb_judge.specs.Sights.{IsKept, ShowsSource, clashes, is_unlike, kept_of, kept_with, some_differs, some_node, some_unlike, widened}
+use Rattle.rb_judge.specs.{declared.seen.KeptSight.KeptSight, declared.seen.KeptSight.TheVariants.{Unlike, Value, Times}, declared.seen.SourceSights.SourceSights, Sights.{IsKept, ShowsSource, clashes, is_unlike, kept_of, kept_with, some_differs, some_node, some_unlike, widened}}
 use Rattle.rb_judge.proofs.SomeNode.{some_fails, some_found, some_is, some_none}
+use Rattle.rb_base.specs.declared.values.See.TheVariants as see
 
 -- ---- sights are alike in either order, and each is like itself
 

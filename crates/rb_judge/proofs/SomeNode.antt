@@ -1,8 +1,6 @@
 -- Whether some node passes.
-use Rattle.std.proofs.Common.{◌≡◌, ℕ, zero, suc, ◌+◌, ◌<◌, Bool, true, false, not, ◌||◌, refl, sym, ◌∙◌, ap, zero-add, arith}
+use Rattle.std.proofs.{Common.{◌≡◌, ℕ, zero, suc, ◌+◌, ◌<◌, Bool, true, false, not, ◌||◌, refl, sym, ◌∙◌, ap, zero-add, arith}, lemmas.List.Folds.list_any_at, lemmas.List.FromFn.{get_or-range_with_len, length-range_with_len}}
 use Rattle.std.specs.List.{list_any, range_with_len}
-use Rattle.std.proofs.lemmas.List.Folds.{list_any_at}
-use Rattle.std.proofs.lemmas.List.FromFn.{get_or-range_with_len, length-range_with_len}
 use Rattle.rb_base.proofs.Plain.{same_bool}
 use Rattle.rb_judge.specs.Sights.{some_node}
 

@@ -1,17 +1,8 @@
 -- What is kept of the nodes of one kind as sources.
-use Rattle.std.specs.Prelude.{ℕ, ◌≡◌, ◌<◌, ◌&&◌, ◌||◌, not, Bool, List, [], ◌∷◌, slice_index, slice_index_or}
-use Rattle.std.specs.List.{list_any}
-use Rattle.rb_base.specs.Nodes.{Side, other, has, set_of}
-use Rattle.rb_base.specs.declared.values.See.{See}
-use Rattle.rb_base.specs.declared.values.See.TheVariants.{Nothing}
+use Rattle.std.specs.{Prelude.{ℕ, ◌≡◌, ◌<◌, ◌&&◌, ◌||◌, not, Bool, List, [], ◌∷◌, slice_index, slice_index_or}, List.list_any}
+use Rattle.rb_base.specs.{Nodes.{Side, other, has, set_of}, declared.values.See.See, declared.values.See.TheVariants.Nothing}
 use Rattle.rb_rules.specs.Judging.{ClassSets, JudgedStage, good_now, trusted_now, was_taken, was_unlike}
-use Rattle.rb_judge.specs.Sights.{ShowsSource}
-use Rattle.rb_judge.specs.declared.classes.Classes.{Classes}
-use Rattle.rb_judge.specs.declared.seen.KeptSight.{KeptSight}
-use Rattle.rb_judge.specs.declared.seen.KeptSight.TheVariants.{Unlike}
-use Rattle.rb_judge.specs.declared.seen.SourceSights.{SourceSights}
-use Rattle.rb_judge.specs.declared.sources.Sources.{Sources}
-use Rattle.rb_judge.specs.declared.stage_sets.StageSets.{StageSets}
+use Rattle.rb_judge.specs.{Sights.ShowsSource, declared.classes.Classes.Classes, declared.seen.KeptSight.KeptSight, declared.seen.KeptSight.TheVariants.Unlike, declared.seen.SourceSights.SourceSights, declared.sources.Sources.Sources, declared.stage_sets.StageSets.StageSets}
 
 -- the sets and sights that are kept of the nodes of one kind
 pub record KeptKind : Type 0 where

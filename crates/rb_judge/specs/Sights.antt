@@ -1,15 +1,9 @@
 -- What is kept of the sights of one source in a stage.
-use Rattle.std.specs.Prelude.{ℕ, ◌≡◌, ◌+◌, ◌<◌, nat_le, ◌&&◌, not, Bool, true, false, if◌then◌else◌, min, max}
-use Rattle.std.specs.List.{list_any}
-use Rattle.rb_base.specs.Counting.{numbers}
-use Rattle.rb_base.specs.Nodes.{has}
-use Rattle.rb_base.specs.declared.values.See.{See}
+use Rattle.std.specs.{Prelude.{ℕ, ◌≡◌, ◌+◌, ◌<◌, nat_le, ◌&&◌, not, Bool, true, false, if◌then◌else◌, min, max}, List.list_any}
+use Rattle.rb_base.specs.{Counting.numbers, Nodes.has, declared.values.See.See}
+use Rattle.rb_rules.specs.{Judging.{are_alike, is_something}, Majority.same_heard}
+use Rattle.rb_judge.specs.{declared.seen.KeptSight.KeptSight, declared.seen.KeptSight.TheVariants.{Unlike, Value, Times}, declared.seen.SourceSights.SourceSights}
 use Rattle.rb_base.specs.declared.values.See.TheVariants as see
-use Rattle.rb_rules.specs.Judging.{are_alike, is_something}
-use Rattle.rb_rules.specs.Majority.{same_heard}
-use Rattle.rb_judge.specs.declared.seen.KeptSight.{KeptSight}
-use Rattle.rb_judge.specs.declared.seen.KeptSight.TheVariants.{Unlike, Value, Times}
-use Rattle.rb_judge.specs.declared.seen.SourceSights.{SourceSights}
 
 -- some node of a kind passes
 unfoldable pub some_node : (ℕ → Bool) → Bool

@@ -1,12 +1,9 @@
 -- The stages that a judge records.
 use Rattle.std.specs.Prelude.{ℕ, ◌≡◌, Bool, List, slice_index}
-use Rattle.rb_base.specs.Nodes.{has}
-use Rattle.rb_base.specs.Nodes.Side.{Biu, Rmu}
-use Rattle.rb_base.specs.Sizes.{Sizes}
-use Rattle.rb_base.specs.declared.node.NodeName.{NodeName}
-use Rattle.rb_base.specs.declared.node.NodeName.TheVariants as node
+use Rattle.rb_base.specs.{Nodes.has, Nodes.Side.{Biu, Rmu}, Sizes.Sizes, declared.node.NodeName.NodeName}
 use Rattle.rb_rules.specs.Judging.{JudgedStage}
 use Rattle.rb_judge.specs.Kinds.{KeptKind, KnowsKind, ShowsKind, eps_now}
+use Rattle.rb_base.specs.declared.node.NodeName.TheVariants as node
 
 -- what a judge keeps: the size of its bus, how far apart the times of one message may be in the
 -- newest stage, and what it keeps of the nodes of both kinds

@@ -1,24 +1,9 @@
 -- In every moment of a run that has not ended all good nodes agree.
-use Rattle.std.proofs.Common.{◌≡◌, ℕ, zero, suc, ◌+◌, ◌-◌, ◌*◌, ◌/◌, ◌%◌, ◌<◌, ◌≤◌, ◌==◌, nat_lt, Bool, true, false, List, [], ◌∷◌, ◌++◌, ◌⊎◌, inl, inr, refl, sym, ◌∙◌, ap, subst, arith}
-use Rattle.std.proofs.lemmas.Bool.{cases_lt, false_from_ne_true, ltb-false, ltb-true}
+use Rattle.std.proofs.{Common.{◌≡◌, ℕ, zero, suc, ◌+◌, ◌-◌, ◌*◌, ◌/◌, ◌%◌, ◌<◌, ◌≤◌, ◌==◌, nat_lt, Bool, true, false, List, [], ◌∷◌, ◌++◌, ◌⊎◌, inl, inr, refl, sym, ◌∙◌, ap, subst, arith}, lemmas.Bool.{cases_lt, false_from_ne_true, ltb-false, ltb-true}}
 use Rattle.rb_base.specs.Sizes.{sync_slot_of}
-use Rattle.rb_rules.specs.Book.{Book, with_end}
-use Rattle.rb_rules.specs.Book.Record.{Ended}
-use Rattle.rb_rules.specs.Goodness.{Scenario}
-use Rattle.rb_rules.specs.Lawful.{IsLawful}
-use Rattle.rb_rules.specs.Moments.{IsRunning}
-use Rattle.rb_rules.specs.Ports.{HandIn}
-use Rattle.rb_rules.specs.Rounds.{Moment, next_frame, step, moment, windows_in}
+use Rattle.rb_rules.specs.{Book.{Book, with_end}, Book.Record.Ended, Goodness.Scenario, Lawful.IsLawful, Moments.IsRunning, Ports.HandIn, Rounds.{Moment, next_frame, step, moment, windows_in}}
 use Rattle.rb_rules.proofs.Books.{step-on, stepped}
-use Rattle.rb_laws_agreement.proofs.Invariant.{Shared, Agree}
-use Rattle.rb_laws_agreement.proofs.ExactAgrees.{with_value, agree_1, agree_2, agree_3}
-use Rattle.rb_laws_agreement.proofs.FrameAgrees.{first_shared, shared_next, agree_first, agree_frame}
-use Rattle.rb_laws_agreement.proofs.JudgedWindows.{rows_of, IsPassed, passed}
-use Rattle.rb_laws_agreement.proofs.NodeWindows.{sync_windows_are, tail_windows}
-use Rattle.rb_laws_agreement.proofs.NextMoments.{next, book_exact}
-use Rattle.rb_laws_agreement.proofs.Settings.{Setting}
-use Rattle.rb_laws_agreement.proofs.SyncAgrees.{agree_sync, book_sync, stage_setting, tail_setting}
-use Rattle.rb_laws_agreement.proofs.ThirdStages.{voted}
+use Rattle.rb_laws_agreement.proofs.{Invariant.{Shared, Agree}, ExactAgrees.{with_value, agree_1, agree_2, agree_3}, FrameAgrees.{first_shared, shared_next, agree_first, agree_frame}, JudgedWindows.{rows_of, IsPassed, passed}, NodeWindows.{sync_windows_are, tail_windows}, NextMoments.{next, book_exact}, Settings.Setting, SyncAgrees.{agree_sync, book_sync, stage_setting, tail_setting}, ThirdStages.voted}
 
 -- What a step is while the run goes on.
 

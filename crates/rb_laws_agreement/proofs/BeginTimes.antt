@@ -1,13 +1,7 @@
 -- Good nodes begin frames and slots in time, by the first time of each frame.
 use Rattle.std.proofs.Common.{ℕ, suc, ◌+◌, ◌*◌, ◌≤◌, List}
-use Rattle.rb_base.specs.Nodes.{Side}
-use Rattle.rb_base.specs.Sizes.{sync_slot_of}
-use Rattle.rb_rules.specs.Goodness.{Scenario}
-use Rattle.rb_rules.specs.Moments.{IsComplete, IsReached, IsSettled, IsGoodBefore, IsGoodAfter, time_in_frame}
-use Rattle.rb_rules.specs.NodeState.{NodeState}
-use Rattle.rb_rules.specs.Plan.{shortest_of, longest_of, tail_start_of}
-use Rattle.rb_rules.specs.Ports.{HandIn}
-use Rattle.rb_rules.specs.StandsFor.{FrameTakes, IsLow}
+use Rattle.rb_base.specs.{Nodes.Side, Sizes.sync_slot_of}
+use Rattle.rb_rules.specs.{Goodness.Scenario, Moments.{IsComplete, IsReached, IsSettled, IsGoodBefore, IsGoodAfter, time_in_frame}, NodeState.NodeState, Plan.{shortest_of, longest_of, tail_start_of}, Ports.HandIn, StandsFor.{FrameTakes, IsLow}}
 
 -- a node begins this offset of a frame in the band that begins with the frame's first time
 pub record IsInTime (sc : Scenario) (low : ℕ) (me : Side) (i : ℕ) (st : NodeState) (offset : ℕ) : Type 0 where

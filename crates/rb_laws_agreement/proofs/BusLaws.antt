@@ -1,41 +1,9 @@
 -- What good nodes hold is what the abstract bus holds, and each slot is a step of it.
 use Rattle.std.proofs.Common.{◌≡◌, ℕ, suc, ◌+◌, ◌-◌, ◌*◌, ◌<◌, ◌≤◌, Bool, true, false, List, slice_get, get_or, if◌then◌else◌, refl, sym, ◌∙◌, ap, subst, arith}
-use Rattle.rb_base.specs.Nodes.{Side, other, has}
-use Rattle.rb_base.specs.Nodes.Side.{Biu, Rmu}
-use Rattle.rb_base.specs.Sizes.{sync_slot_of}
-use Rattle.rb_base.specs.declared.values.Heard.{Heard}
-use Rattle.rb_base.specs.declared.values.Heard.TheVariants.{Word, Fault}
-use Rattle.rb_rules.specs.declared.role.Role.{Role}
-use Rattle.rb_rules.specs.declared.role.Role.TheVariants.{Schedule, Data, DiagBiu, DiagRmu, Sync}
-use Rattle.rb_rules.specs.AbstractBus.{AbstractBus, sender_on, IsOfGood, MayHave, bus_after_slot, bus_after_frame}
-use Rattle.rb_rules.specs.Book.{of_kind}
-use Rattle.rb_rules.specs.ExactStage.{own_value}
-use Rattle.rb_rules.specs.Goodness.{Scenario, is_good}
-use Rattle.rb_rules.specs.Hearing.{word_for}
-use Rattle.rb_rules.specs.Lawful.{IsLawful}
-use Rattle.rb_rules.specs.Moments.{before_slot, IsComplete, IsSettled, offered_in}
-use Rattle.rb_rules.specs.NodeState.{NodeState}
-use Rattle.rb_rules.specs.Ports.{HandIn}
-use Rattle.rb_rules.specs.Rounds.{Moment}
-use Rattle.rb_rules.specs.Slots.{Sender, has_third_stage, sender_kind, if_trusted, role_of, sender_in}
-use Rattle.rb_rules.specs.Slots.Sender.{Nobody, Node, EachTrusted}
-use Rattle.rb_rules.specs.StandsFor.{value_on, lines_on}
-use Rattle.rb_laws_agreement.specs.BusValues.{value_in_rounds, bus_in_rounds, bus_before, bus_then, IsBusBefore, IsBusSlot}
-use Rattle.rb_laws_agreement.specs.Laws.{RoundsStepTheBus}
-use Rattle.rb_laws_agreement.specs.Values.{kind_in, lines_in}
-use Rattle.rb_laws_agreement.proofs.Tests.{Present}
-use Rattle.rb_laws_agreement.proofs.Invariant.{sender_of, is_good_now, slot_numbered, is_diagnosis, IsVector, IsOwn, HasVoted, Holds}
-use Rattle.rb_laws_agreement.proofs.Senders.{same_node}
-use Rattle.rb_laws_agreement.proofs.Settings.{good_state}
-use Rattle.rb_laws_agreement.proofs.ThirdStages.{voted}
-use Rattle.rb_laws_agreement.proofs.NextMoments.{next}
-use Rattle.rb_laws_agreement.proofs.Places.{IsPlaced, complete_before, good_before_slot}
-use Rattle.rb_laws_agreement.proofs.SlotRuns.{IsSlot, slot_runs_from, slot_runs-shared, good_in_stage, third_frame}
-use Rattle.rb_laws_agreement.proofs.SlotValues.{value_of_slot, has_value, slot-lines}
-use Rattle.rb_laws_agreement.proofs.FrameBegins.{settled_before}
-use Rattle.rb_laws_agreement.proofs.Deliveries.{owner_sending}
-use Rattle.rb_laws_agreement.proofs.SharedBuses.{IsBusOf, bus-sender, get-last}
-use Rattle.rb_laws_agreement.proofs.BusRuns.{IsHeld, as_placed, held_at, value-read, bus-over-slot, bus-over-frame}
+use Rattle.rb_base.specs.{Nodes.{Side, other, has}, Nodes.Side.{Biu, Rmu}, Sizes.sync_slot_of, declared.values.Heard.Heard, declared.values.Heard.TheVariants.{Word, Fault}}
+use Rattle.rb_rules.specs.{declared.role.Role.Role, declared.role.Role.TheVariants.{Schedule, Data, DiagBiu, DiagRmu, Sync}, AbstractBus.{AbstractBus, sender_on, IsOfGood, MayHave, bus_after_slot, bus_after_frame}, Book.of_kind, ExactStage.own_value, Goodness.{Scenario, is_good}, Hearing.word_for, Lawful.IsLawful, Moments.{before_slot, IsComplete, IsSettled, offered_in}, NodeState.NodeState, Ports.HandIn, Rounds.Moment, Slots.{Sender, has_third_stage, sender_kind, if_trusted, role_of, sender_in}, Slots.Sender.{Nobody, Node, EachTrusted}, StandsFor.{value_on, lines_on}}
+use Rattle.rb_laws_agreement.specs.{BusValues.{value_in_rounds, bus_in_rounds, bus_before, bus_then, IsBusBefore, IsBusSlot}, Laws.RoundsStepTheBus, Values.{kind_in, lines_in}}
+use Rattle.rb_laws_agreement.proofs.{Tests.Present, Invariant.{sender_of, is_good_now, slot_numbered, is_diagnosis, IsVector, IsOwn, HasVoted, Holds}, Senders.same_node, Settings.good_state, ThirdStages.voted, NextMoments.next, Places.{IsPlaced, complete_before, good_before_slot}, SlotRuns.{IsSlot, slot_runs_from, slot_runs-shared, good_in_stage, third_frame}, SlotValues.{value_of_slot, has_value, slot-lines}, FrameBegins.settled_before, Deliveries.owner_sending, SharedBuses.{IsBusOf, bus-sender, get-last}, BusRuns.{IsHeld, as_placed, held_at, value-read, bus-over-slot, bus-over-frame}}
 
 -- Before a slot.
 

@@ -1,40 +1,11 @@
 -- The rounds make a run of the abstract bus: in each slot that is settled all good nodes hold what
 -- it holds.
-use Rattle.std.proofs.Common.{◌≡◌, ℕ, zero, suc, ◌+◌, ◌-◌, ◌*◌, ◌<◌, ◌≤◌, ◌||◌, nat_lt, Bool, true, false, List, [], ◌∷◌, Some, slice_get, if◌then◌else◌, lit<, refl, sym, ◌∙◌, ap, subst, arith}
+use Rattle.std.proofs.{Common.{◌≡◌, ℕ, zero, suc, ◌+◌, ◌-◌, ◌*◌, ◌<◌, ◌≤◌, ◌||◌, nat_lt, Bool, true, false, List, [], ◌∷◌, Some, slice_get, if◌then◌else◌, lit<, refl, sym, ◌∙◌, ap, subst, arith}, lemmas.Bool.{le-ltb, lt-ltb}}
 use Rattle.std.specs.List.{list_any}
-use Rattle.std.proofs.lemmas.Bool.{le-ltb, lt-ltb}
-use Rattle.rb_base.specs.Counting.{numbers}
-use Rattle.rb_base.specs.Nodes.{Side}
-use Rattle.rb_base.specs.Sizes.{sync_slot_of}
-use Rattle.rb_base.specs.declared.values.Heard.{Heard}
-use Rattle.rb_rules.specs.AbstractBus.{AbstractBus, bus_after_slot, bus_after_frame}
-use Rattle.rb_rules.specs.Book.{of_kind}
-use Rattle.rb_rules.specs.Goodness.{Scenario, is_good}
-use Rattle.rb_rules.specs.Lawful.{IsLawful}
-use Rattle.rb_rules.specs.Moments.{before_stage, before_slot, after_slot, IsRunning, IsComplete}
-use Rattle.rb_rules.specs.NodeState.{first_state}
-use Rattle.rb_rules.specs.Ports.{HandIn}
-use Rattle.rb_rules.specs.Rounds.{Moment, moment, first_moment, step, next_frame, windows_in}
-use Rattle.rb_rules.specs.StandsFor.{steps_to}
-use Rattle.rb_laws_agreement.specs.BusValues.{first_passing, value_in_rounds, bus_goes, bus_in_rounds, bus_before}
-use Rattle.rb_laws_agreement.specs.Values.{kind_in, vote_on}
-use Rattle.rb_laws_agreement.proofs.Tests.{passes_at, get-some, Present}
-use Rattle.rb_laws_agreement.proofs.Goodnesses.{good_below_16}
-use Rattle.rb_laws_agreement.proofs.Invariant.{Shared, is_good_now, Agree}
-use Rattle.rb_laws_agreement.proofs.ExactAgrees.{with_value, agree_3}
-use Rattle.rb_laws_agreement.proofs.FrameAgrees.{first_shared, shared_next, begin-frame, begin-window, agree_first, agree_frame}
-use Rattle.rb_laws_agreement.proofs.FrameTurns.{AtEnd}
-use Rattle.rb_laws_agreement.proofs.JudgedWindows.{rows_of, IsPassed, passed}
-use Rattle.rb_laws_agreement.proofs.NextMoments.{next}
-use Rattle.rb_laws_agreement.proofs.NodeWindows.{sync_windows_are, tail_windows}
-use Rattle.rb_laws_agreement.proofs.Settings.{good_state}
-use Rattle.rb_laws_agreement.proofs.SyncAgrees.{agree_sync, book_sync, stage_setting, tail_setting}
-use Rattle.rb_laws_agreement.proofs.Places.{IsPlaced, placed, complete_before, running_earlier}
-use Rattle.rb_laws_agreement.proofs.SlotRuns.{IsSlot, slot_runs_from, slot_runs-shared, good_in_stage, stage_next, next-frame, next-window, third_frame}
-use Rattle.rb_laws_agreement.proofs.SlotValues.{value_of_slot, has_value}
-use Rattle.rb_laws_agreement.proofs.FrameBegins.{IsTurn, frame_turns, turn-index}
-use Rattle.rb_laws_agreement.proofs.PortHistories.{IsSyncStage, sync-stage, slot-follows}
-use Rattle.rb_laws_agreement.proofs.SharedBuses.{IsBusOf, bus-first, bus-slot, bus-frame}
+use Rattle.rb_base.specs.{Counting.numbers, Nodes.Side, Sizes.sync_slot_of, declared.values.Heard.Heard}
+use Rattle.rb_rules.specs.{AbstractBus.{AbstractBus, bus_after_slot, bus_after_frame}, Book.of_kind, Goodness.{Scenario, is_good}, Lawful.IsLawful, Moments.{before_stage, before_slot, after_slot, IsRunning, IsComplete}, NodeState.first_state, Ports.HandIn, Rounds.{Moment, moment, first_moment, step, next_frame, windows_in}, StandsFor.steps_to}
+use Rattle.rb_laws_agreement.specs.{BusValues.{first_passing, value_in_rounds, bus_goes, bus_in_rounds, bus_before}, Values.{kind_in, vote_on}}
+use Rattle.rb_laws_agreement.proofs.{Tests.{passes_at, get-some, Present}, Goodnesses.good_below_16, Invariant.{Shared, is_good_now, Agree}, ExactAgrees.{with_value, agree_3}, FrameAgrees.{first_shared, shared_next, begin-frame, begin-window, agree_first, agree_frame}, FrameTurns.AtEnd, JudgedWindows.{rows_of, IsPassed, passed}, NextMoments.next, NodeWindows.{sync_windows_are, tail_windows}, Settings.good_state, SyncAgrees.{agree_sync, book_sync, stage_setting, tail_setting}, Places.{IsPlaced, placed, complete_before, running_earlier}, SlotRuns.{IsSlot, slot_runs_from, slot_runs-shared, good_in_stage, stage_next, next-frame, next-window, third_frame}, SlotValues.{value_of_slot, has_value}, FrameBegins.{IsTurn, frame_turns, turn-index}, PortHistories.{IsSyncStage, sync-stage, slot-follows}, SharedBuses.{IsBusOf, bus-first, bus-slot, bus-frame}}
 
 -- The value of a slot.
 

@@ -1,27 +1,9 @@
 -- If good nodes begin frames and slots in time, the rounds stand for a run of the abstract bus.
-use Rattle.std.proofs.Common.{◌≡◌, ℕ, zero, suc, ◌+◌, ◌*◌, ◌<◌, ◌≤◌, nat_lt, Bool, true, false, List, inl, inr, refl, sym, ◌∙◌, ap, subst, arith}
-use Rattle.std.proofs.lemmas.Bool.{cases_lt, le-ltb, lt-ltb}
-use Rattle.rb_base.specs.Nodes.{Side, has}
-use Rattle.rb_base.specs.Nodes.Side.{Biu, Rmu}
-use Rattle.rb_base.specs.Sizes.{Sizes, sync_slot_of}
-use Rattle.rb_base.specs.declared.values.Heard.{Heard}
-use Rattle.rb_rules.specs.AbstractBus.{AbstractBus, trusted_on, SlotStep, FrameStep, IsStep, IsRun, bus_after_frame}
-use Rattle.rb_rules.specs.Goodness.{Scenario, is_good}
-use Rattle.rb_rules.specs.Lawful.{IsLawful}
-use Rattle.rb_rules.specs.Moments.{before_slot, IsRunning, IsComplete, IsReached, IsSettled, IsGoodBefore, IsGoodAfter, time_in_frame, offered_in}
-use Rattle.rb_rules.specs.NodeState.{NodeState}
-use Rattle.rb_rules.specs.Plan.{shortest_of, longest_of, tail_start_of}
-use Rattle.rb_rules.specs.Ports.{HandIn}
-use Rattle.rb_rules.specs.Slots.{has_third_stage, first_diagnosis_of, role_of}
-use Rattle.rb_rules.specs.StandsFor.{steps_to, IsInBand, AgreesBefore, AgreesAfter, SlotAgrees, DeliversOn, IsLow, FrameAgrees, StandsFor}
+use Rattle.std.proofs.{Common.{◌≡◌, ℕ, zero, suc, ◌+◌, ◌*◌, ◌<◌, ◌≤◌, nat_lt, Bool, true, false, List, inl, inr, refl, sym, ◌∙◌, ap, subst, arith}, lemmas.Bool.{cases_lt, le-ltb, lt-ltb}}
+use Rattle.rb_base.specs.{Nodes.{Side, has}, Nodes.Side.{Biu, Rmu}, Sizes.{Sizes, sync_slot_of}, declared.values.Heard.Heard}
+use Rattle.rb_rules.specs.{AbstractBus.{AbstractBus, trusted_on, SlotStep, FrameStep, IsStep, IsRun, bus_after_frame}, Goodness.{Scenario, is_good}, Lawful.IsLawful, Moments.{before_slot, IsRunning, IsComplete, IsReached, IsSettled, IsGoodBefore, IsGoodAfter, time_in_frame, offered_in}, NodeState.NodeState, Plan.{shortest_of, longest_of, tail_start_of}, Ports.HandIn, Slots.{has_third_stage, first_diagnosis_of, role_of}, StandsFor.{steps_to, IsInBand, AgreesBefore, AgreesAfter, SlotAgrees, DeliversOn, IsLow, FrameAgrees, StandsFor}}
 use Rattle.rb_laws_agreement.specs.BusValues.{value_in_rounds, bus_in_rounds, bus_before, bus_then, IsBusBefore, IsBusSlot}
-use Rattle.rb_laws_agreement.proofs.BeginTimes.{IsInTime, BeginsInTime}
-use Rattle.rb_laws_agreement.proofs.Places.{complete_before}
-use Rattle.rb_laws_agreement.proofs.FrameBegins.{settled_before, reached}
-use Rattle.rb_laws_agreement.proofs.SlotLaws.{none_accused}
-use Rattle.rb_laws_agreement.proofs.PortHistories.{slot-follows, reached_from}
-use Rattle.rb_laws_agreement.proofs.BusRuns.{IsHeld, held_at}
-use Rattle.rb_laws_agreement.proofs.BusLaws.{bus-before, bus-slot-step, bus-frame-step}
+use Rattle.rb_laws_agreement.proofs.{BeginTimes.{IsInTime, BeginsInTime}, Places.complete_before, FrameBegins.{settled_before, reached}, SlotLaws.none_accused, PortHistories.{slot-follows, reached_from}, BusRuns.{IsHeld, held_at}, BusLaws.{bus-before, bus-slot-step, bus-frame-step}}
 
 -- One step.
 

@@ -1,36 +1,11 @@
 -- Whatever is taken in a lawful scenario has four bytes, also what nodes say that are not good.
-use Rattle.std.proofs.Common.{◌≡◌, ℕ, ◌+◌, ◌<◌, ◌^◌, ◌&&◌, Bool, true, false, List, [], ◌∷◌, map, Option, Some, None, get_or, slice_get, if◌then◌else◌, refl, sym, ◌∙◌, ap, subst, arith, inl, inr}
+use Rattle.std.proofs.{Common.{◌≡◌, ℕ, ◌+◌, ◌<◌, ◌^◌, ◌&&◌, Bool, true, false, List, [], ◌∷◌, map, Option, Some, None, get_or, slice_get, if◌then◌else◌, refl, sym, ◌∙◌, ap, subst, arith, inl, inr}, lemmas.List.Elements.All-head}
 use Rattle.std.specs.Prelude.{IfSome, All}
-use Rattle.std.proofs.lemmas.List.Elements.{All-head}
 use Rattle.rb_base.specs.Nodes.{Side, other}
-use Rattle.rb_rules.specs.declared.message.Message.{Message}
-use Rattle.rb_rules.specs.declared.message.Tag.{Tag}
+use Rattle.rb_rules.specs.{declared.message.Message.Message, declared.message.Tag.Tag, declared.message.Version.Version, declared.sense.Expect.Expect, declared.sense.Sense.Sense, declared.sense.Sense.TheVariants.{One, Bad}, Book.of_kind, Clock.Timeline, Goodness.{Scenario, is_good, clock_of}, Hearing.{Coming, Span, span_of, said_by, arrival_of}, NodeState.NodeState, NodeSteps.expect_of, Ports.HandIn, Rounds.{Moment, sent_in}, Sense.{suits, sense_of, sense_of_one, value_of, value_in}, Spelling.{IsMessage, HasValue, AreBytes, message_in}, Standing.{Standing, is_eligible, taken_of}}
+use Rattle.rb_rules.proofs.{Senses.IsCarried, Spellings.only_so}
+use Rattle.rb_laws_agreement.proofs.{Tests.{true_or_false, Present}, SaidWindows.all-said, Invariant.{Shared, IsGoodNode, is_good_now}, NodeWindows.{Windows, kept_in, own_window, heard_in, sense_in, from-faulty}, ExactWindows.expected_at, Exchanges.IsHeard, Speaking.get-all, Settings.{Setting, windows, good_here, good_state, AllCarried, all_heard, taken}}
 use Rattle.rb_rules.specs.declared.message.Tag.TheVariants as tag
-use Rattle.rb_rules.specs.declared.message.Version.{Version}
-use Rattle.rb_rules.specs.declared.sense.Expect.{Expect}
-use Rattle.rb_rules.specs.declared.sense.Sense.{Sense}
-use Rattle.rb_rules.specs.declared.sense.Sense.TheVariants.{One, Bad}
-use Rattle.rb_rules.specs.Book.{of_kind}
-use Rattle.rb_rules.specs.Clock.{Timeline}
-use Rattle.rb_rules.specs.Goodness.{Scenario, is_good, clock_of}
-use Rattle.rb_rules.specs.Hearing.{Coming, Span, span_of, said_by, arrival_of}
-use Rattle.rb_rules.specs.NodeState.{NodeState}
-use Rattle.rb_rules.specs.NodeSteps.{expect_of}
-use Rattle.rb_rules.specs.Ports.{HandIn}
-use Rattle.rb_rules.specs.Rounds.{Moment, sent_in}
-use Rattle.rb_rules.specs.Sense.{suits, sense_of, sense_of_one, value_of, value_in}
-use Rattle.rb_rules.specs.Spelling.{IsMessage, HasValue, AreBytes, message_in}
-use Rattle.rb_rules.specs.Standing.{Standing, is_eligible, taken_of}
-use Rattle.rb_rules.proofs.Senses.{IsCarried}
-use Rattle.rb_rules.proofs.Spellings.{only_so}
-use Rattle.rb_laws_agreement.proofs.Tests.{true_or_false, Present}
-use Rattle.rb_laws_agreement.proofs.SaidWindows.{all-said}
-use Rattle.rb_laws_agreement.proofs.Invariant.{Shared, IsGoodNode, is_good_now}
-use Rattle.rb_laws_agreement.proofs.NodeWindows.{Windows, kept_in, own_window, heard_in, sense_in, from-faulty}
-use Rattle.rb_laws_agreement.proofs.ExactWindows.{expected_at}
-use Rattle.rb_laws_agreement.proofs.Exchanges.{IsHeard}
-use Rattle.rb_laws_agreement.proofs.Speaking.{get-all}
-use Rattle.rb_laws_agreement.proofs.Settings.{Setting, windows, good_here, good_state, AllCarried, all_heard, taken}
 
 -- whatever the bytes spell is a message in range
 abbrev IsReadable : Version → List ℕ → Type 0

@@ -1,35 +1,9 @@
 -- A node of which nobody took anything has no vector.
-use Rattle.std.proofs.Common.{◌≡◌, ℕ, suc, ◌+◌, ◌*◌, ◌<◌, ◌≤◌, true, false, List, slice_get, get_or, if◌then◌else◌, inl, inr, refl, sym, ◌∙◌, ap, subst, arith}
-use Rattle.std.proofs.lemmas.Bool.{cases_lt}
-use Rattle.rb_base.specs.Nodes.{Side, has}
-use Rattle.rb_base.specs.Nodes.Side.{Biu, Rmu}
-use Rattle.rb_base.specs.Sizes.{Sizes, sync_slot_of}
-use Rattle.rb_base.specs.declared.values.Heard.{Heard}
-use Rattle.rb_base.specs.declared.values.Heard.TheVariants.{Fault}
-use Rattle.rb_rules.specs.Book.{of_kind, judged_of}
-use Rattle.rb_rules.specs.Conviction.{is_valid, voted_vector}
-use Rattle.rb_rules.specs.Goodness.{Scenario}
-use Rattle.rb_rules.specs.Judging.{is_benign}
-use Rattle.rb_rules.specs.Lawful.{IsLawful}
-use Rattle.rb_rules.specs.Moments.{before_stage, before_slot, after_slot, IsComplete, IsGoodAfter}
-use Rattle.rb_rules.specs.NodeState.{NodeState}
-use Rattle.rb_rules.specs.Ports.{HandIn}
-use Rattle.rb_rules.specs.Rounds.{Moment}
-use Rattle.rb_rules.specs.Slots.{same_side, has_third_stage, sender_kind, count_of, role_of, sender_in}
-use Rattle.rb_rules.specs.Slots.Sender.{Nobody}
-use Rattle.rb_rules.specs.StandsFor.{votes_on}
+use Rattle.std.proofs.{Common.{◌≡◌, ℕ, suc, ◌+◌, ◌*◌, ◌<◌, ◌≤◌, true, false, List, slice_get, get_or, if◌then◌else◌, inl, inr, refl, sym, ◌∙◌, ap, subst, arith}, lemmas.Bool.cases_lt}
+use Rattle.rb_base.specs.{Nodes.{Side, has}, Nodes.Side.{Biu, Rmu}, Sizes.{Sizes, sync_slot_of}, declared.values.Heard.Heard, declared.values.Heard.TheVariants.Fault}
+use Rattle.rb_rules.specs.{Book.{of_kind, judged_of}, Conviction.{is_valid, voted_vector}, Goodness.Scenario, Judging.is_benign, Lawful.IsLawful, Moments.{before_stage, before_slot, after_slot, IsComplete, IsGoodAfter}, NodeState.NodeState, Ports.HandIn, Rounds.Moment, Slots.{same_side, has_third_stage, sender_kind, count_of, role_of, sender_in}, Slots.Sender.Nobody, StandsFor.votes_on}
 use Rattle.rb_laws_agreement.specs.Laws.{UnheardNodesHaveNoVector}
-use Rattle.rb_laws_agreement.proofs.Tests.{true_or_false}
-use Rattle.rb_laws_agreement.proofs.Invariant.{Shared, IsValue, IsFinished, HasVoted}
-use Rattle.rb_laws_agreement.proofs.JudgedWindows.{rows_of}
-use Rattle.rb_laws_agreement.proofs.NextMoments.{next, stages_after}
-use Rattle.rb_laws_agreement.proofs.SecondStages.{benign-before}
-use Rattle.rb_laws_agreement.proofs.ThirdStages.{voted, held_3, other_votes_kept}
-use Rattle.rb_laws_agreement.proofs.SyncAgrees.{leaves}
-use Rattle.rb_laws_agreement.proofs.Vectors.{vector_slot, vector_role, vector_slot-role, vector_slot-lt}
-use Rattle.rb_laws_agreement.proofs.FrameTurns.{role-votes, role-kind, role-sender}
-use Rattle.rb_laws_agreement.proofs.SlotRuns.{IsSlot, slot_runs, good_in_stage, StateFrom, state_from, third_frame}
-use Rattle.rb_laws_agreement.proofs.SlotLaws.{IsSyncEnd, sync_ends, good_at_end}
+use Rattle.rb_laws_agreement.proofs.{Tests.true_or_false, Invariant.{Shared, IsValue, IsFinished, HasVoted}, JudgedWindows.rows_of, NextMoments.{next, stages_after}, SecondStages.benign-before, ThirdStages.{voted, held_3, other_votes_kept}, SyncAgrees.leaves, Vectors.{vector_slot, vector_role, vector_slot-role, vector_slot-lt}, FrameTurns.{role-votes, role-kind, role-sender}, SlotRuns.{IsSlot, slot_runs, good_in_stage, StateFrom, state_from, third_frame}, SlotLaws.{IsSyncEnd, sync_ends, good_at_end}}
 
 -- A node that nobody heard.
 

@@ -1,39 +1,11 @@
 -- What the BIUs deliver in a slot, and the record of it.
-use Rattle.std.proofs.Common.{◌≡◌, ℕ, suc, ◌+◌, ◌<◌, ◌==◌, ◌&&◌, nat_lt, nat_le, Bool, true, false, List, [], ◌∷◌, ◌++◌, length, map, filter, filter_map, Option, Some, None, option_map, slice_get, cond, if◌then◌else◌, refl, sym, ◌∙◌, ap, subst, arith, inl, inr}
+use Rattle.std.proofs.{Common.{◌≡◌, ℕ, suc, ◌+◌, ◌<◌, ◌==◌, ◌&&◌, nat_lt, nat_le, Bool, true, false, List, [], ◌∷◌, ◌++◌, length, map, filter, filter_map, Option, Some, None, option_map, slice_get, cond, if◌then◌else◌, refl, sym, ◌∙◌, ap, subst, arith, inl, inr}, lemmas.Bool.lt-ltb, lemmas.Bool.Decides.nat_tests, lemmas.List.append-nil, lemmas.Option.same_Some}
 use Rattle.std.specs.List.{range_with_len, cons_option}
-use Rattle.std.proofs.lemmas.Bool.{lt-ltb}
-use Rattle.std.proofs.lemmas.Bool.Decides.{nat_tests}
-use Rattle.std.proofs.lemmas.List.{append-nil}
-use Rattle.std.proofs.lemmas.Option.{same_Some}
-use Rattle.rb_base.specs.Nodes.{Side}
-use Rattle.rb_base.specs.Nodes.Side.{Biu, Rmu}
-use Rattle.rb_base.specs.Sizes.{sync_slot_of}
-use Rattle.rb_base.specs.declared.values.Delivery.{Delivery}
-use Rattle.rb_base.specs.declared.values.Heard.{Heard}
-use Rattle.rb_rules.specs.declared.record.SlotLine.{SlotLine}
-use Rattle.rb_rules.specs.declared.role.Role.{Role}
-use Rattle.rb_rules.specs.declared.role.Role.TheVariants.{Schedule, Data, DiagBiu, DiagRmu, Sync}
-use Rattle.rb_rules.specs.Book.{of_kind, Row, line_in}
-use Rattle.rb_rules.specs.Book.Record.{Slot}
-use Rattle.rb_rules.specs.ExactStage.{delivery_of}
-use Rattle.rb_rules.specs.Goodness.{Scenario, is_good}
-use Rattle.rb_rules.specs.Hearing.{row_of}
-use Rattle.rb_rules.specs.NodeState.{NodeState}
-use Rattle.rb_rules.specs.NodeSteps.{owner_for, owner_at, close}
-use Rattle.rb_rules.specs.Ports.{HandIn}
-use Rattle.rb_rules.specs.Rounds.{Moment, Result, window_in, sent_in, close_on, go_through, results_of}
-use Rattle.rb_rules.specs.Slots.{Sender, sender_kind, if_owned, sender_in, role_of}
-use Rattle.rb_rules.specs.Slots.Sender.{Nobody, Node, EachTrusted}
+use Rattle.rb_base.specs.{Nodes.Side, Nodes.Side.{Biu, Rmu}, Sizes.sync_slot_of, declared.values.Delivery.Delivery, declared.values.Heard.Heard}
+use Rattle.rb_rules.specs.{declared.record.SlotLine.SlotLine, declared.role.Role.Role, declared.role.Role.TheVariants.{Schedule, Data, DiagBiu, DiagRmu, Sync}, Book.{of_kind, Row, line_in}, Book.Record.Slot, ExactStage.delivery_of, Goodness.{Scenario, is_good}, Hearing.row_of, NodeState.NodeState, NodeSteps.{owner_for, owner_at, close}, Ports.HandIn, Rounds.{Moment, Result, window_in, sent_in, close_on, go_through, results_of}, Slots.{Sender, sender_kind, if_owned, sender_in, role_of}, Slots.Sender.{Nobody, Node, EachTrusted}}
 use Rattle.rb_rules.proofs.WindowNumbers.{length-each}
 use Rattle.rb_laws_agreement.specs.Values.{lines_in}
-use Rattle.rb_laws_agreement.proofs.Tests.{true_or_false}
-use Rattle.rb_laws_agreement.proofs.Invariant.{Shared, sender_of, kind_in, IsGoodNode, Holds}
-use Rattle.rb_laws_agreement.proofs.JudgedWindows.{rows_of, row-at}
-use Rattle.rb_laws_agreement.proofs.NodeWindows.{Windows, own_window, kept_in, heard_in, sense_in, goes}
-use Rattle.rb_laws_agreement.proofs.Exchanges.{sender-held, closes_exactly}
-use Rattle.rb_laws_agreement.proofs.Settings.{Setting, windows, ticks, good_here}
-use Rattle.rb_laws_agreement.proofs.SecondStages.{vote_of}
-use Rattle.rb_laws_agreement.proofs.NextMoments.{next, book_exact}
+use Rattle.rb_laws_agreement.proofs.{Tests.true_or_false, Invariant.{Shared, sender_of, kind_in, IsGoodNode, Holds}, JudgedWindows.{rows_of, row-at}, NodeWindows.{Windows, own_window, kept_in, heard_in, sense_in, goes}, Exchanges.{sender-held, closes_exactly}, Settings.{Setting, windows, ticks, good_here}, SecondStages.vote_of, NextMoments.{next, book_exact}}
 
 -- What one BIU delivers.
 

@@ -1,32 +1,9 @@
 -- From one window below the sync slot to the next: all good nodes still agree.
-use Rattle.std.proofs.Common.{◌≡◌, ℕ, suc, ◌+◌, ◌*◌, ◌<◌, ◌≤◌, ◌==◌, ◌&&◌, inl, inr, Bool, true, false, List, length, map, take, Some, None, slice_set, if◌then◌else◌, refl, sym, ◌∙◌, ap, subst, arith}
-use Rattle.std.proofs.lemmas.Bool.{cases_lt}
-use Rattle.std.proofs.lemmas.Bool.Decides.{nat_tests}
-use Rattle.std.proofs.Math.ListN.{set, length-set}
-use Rattle.rb_base.specs.Counting.{numbers}
-use Rattle.rb_base.specs.Nodes.{Side, other, has}
-use Rattle.rb_base.specs.Nodes.Side.{Biu, Rmu}
-use Rattle.rb_base.specs.Sizes.{sync_slot_of}
-use Rattle.rb_base.specs.declared.values.Heard.{Heard}
-use Rattle.rb_rules.specs.ExactStage.{votes_in, owners_after}
-use Rattle.rb_rules.specs.Goodness.{Scenario, is_good}
-use Rattle.rb_rules.specs.Lawful.{IsLawful}
-use Rattle.rb_rules.specs.NodeState.{NodeState, trusted_of}
-use Rattle.rb_rules.specs.Owners.{owners_of}
-use Rattle.rb_rules.specs.Ports.{HandIn}
-use Rattle.rb_rules.specs.Rounds.{Moment, moment, sent_in, window_in, after_window, windows_in}
-use Rattle.rb_rules.specs.Slots.{same_side, has_third_stage, role_of, sender_in}
-use Rattle.rb_rules.proofs.RoundStates.{Knows, HasTicks, through-stays, numbered-knows}
-use Rattle.rb_rules.proofs.Slots.{schedule_role}
-use Rattle.rb_laws_agreement.proofs.Invariant.{Shared, sender_of, IsGoodNode, is_good_now, IsFinished, HasRelays, HasVoted, Holds, Agree}
-use Rattle.rb_laws_agreement.proofs.JudgedWindows.{stays-trusted}
-use Rattle.rb_laws_agreement.proofs.NodeWindows.{Windows}
-use Rattle.rb_laws_agreement.proofs.Schedules.{AllIn, owners_are_trusted, take-are, same_requester}
-use Rattle.rb_laws_agreement.proofs.Settings.{Setting, windows, good_here, AllCarried, NoneUnlike, SparesNode, all_spared, after, Closed, closes}
-use Rattle.rb_laws_agreement.proofs.SecondStages.{vote_of, carried_2, none_unlike_2, votes_2}
-use Rattle.rb_laws_agreement.proofs.FirstStages.{carried_1, relays_1}
-use Rattle.rb_laws_agreement.proofs.ThirdStages.{voted, carried_3, none_unlike_3, finished_next, finished_3}
-use Rattle.rb_laws_agreement.proofs.NextMoments.{next, was_good, CameFrom, came_from, counts_after}
+use Rattle.std.proofs.{Common.{◌≡◌, ℕ, suc, ◌+◌, ◌*◌, ◌<◌, ◌≤◌, ◌==◌, ◌&&◌, inl, inr, Bool, true, false, List, length, map, take, Some, None, slice_set, if◌then◌else◌, refl, sym, ◌∙◌, ap, subst, arith}, lemmas.Bool.cases_lt, lemmas.Bool.Decides.nat_tests, Math.ListN.{set, length-set}}
+use Rattle.rb_base.specs.{Counting.numbers, Nodes.{Side, other, has}, Nodes.Side.{Biu, Rmu}, Sizes.sync_slot_of, declared.values.Heard.Heard}
+use Rattle.rb_rules.specs.{ExactStage.{votes_in, owners_after}, Goodness.{Scenario, is_good}, Lawful.IsLawful, NodeState.{NodeState, trusted_of}, Owners.owners_of, Ports.HandIn, Rounds.{Moment, moment, sent_in, window_in, after_window, windows_in}, Slots.{same_side, has_third_stage, role_of, sender_in}}
+use Rattle.rb_rules.proofs.{RoundStates.{Knows, HasTicks, through-stays, numbered-knows}, Slots.schedule_role}
+use Rattle.rb_laws_agreement.proofs.{Invariant.{Shared, sender_of, IsGoodNode, is_good_now, IsFinished, HasRelays, HasVoted, Holds, Agree}, JudgedWindows.stays-trusted, NodeWindows.Windows, Schedules.{AllIn, owners_are_trusted, take-are, same_requester}, Settings.{Setting, windows, good_here, AllCarried, NoneUnlike, SparesNode, all_spared, after, Closed, closes}, SecondStages.{vote_of, carried_2, none_unlike_2, votes_2}, FirstStages.{carried_1, relays_1}, ThirdStages.{voted, carried_3, none_unlike_3, finished_next, finished_3}, NextMoments.{next, was_good, CameFrom, came_from, counts_after}}
 
 -- One node.
 

@@ -1,24 +1,9 @@
 -- A window below the sync slot at one good node: what it takes of a good source is what that one
 -- says, and what its close makes.
 use Rattle.std.proofs.Common.{◌≡◌, ℕ, zero, suc, ◌+◌, ◌<◌, ◌==◌, ◌&&◌, Bool, true, false, map, Option, Some, None, is_some, if◌then◌else◌, refl, sym, ◌∙◌, ap, subst, arith}
-use Rattle.rb_base.specs.Nodes.{Side, other, has}
-use Rattle.rb_base.specs.Nodes.Side.{Biu, Rmu}
-use Rattle.rb_base.specs.Sizes.{Sizes}
-use Rattle.rb_base.specs.declared.values.Heard.{Heard}
-use Rattle.rb_rules.specs.declared.closing.Closing.{Closing}
-use Rattle.rb_rules.specs.declared.role.Role.{Role}
-use Rattle.rb_rules.specs.declared.sense.Sense.{Sense}
-use Rattle.rb_rules.specs.declared.sense.Sense.TheVariants.{Silent}
-use Rattle.rb_rules.specs.ExactStage.{Outcome, own_value, value_said, says_of, says, message_of, keep_sent, at_source, closing_of, taken_of_sender, reference_value, compare_with, votes_after, owners_after, delivery_of, see_value, close_exact, outcome_of}
-use Rattle.rb_rules.specs.NodeState.{NodeState, sender_at}
-use Rattle.rb_rules.specs.Sense.{value_in}
-use Rattle.rb_rules.specs.Slots.{Sender, same_side, sender_kind, listens, expects_of, expects, role_of}
-use Rattle.rb_rules.specs.Slots.Sender.{Nobody, Node, EachTrusted}
-use Rattle.rb_rules.specs.Standing.{Standing, is_eligible, taken_of, does_wrong, has_evidence, with_evidence, is_unlike}
-use Rattle.rb_rules.proofs.Senses.{value_is_in}
-use Rattle.rb_rules.proofs.Slots.{other_twice}
-use Rattle.rb_rules.proofs.Standings.{unexpected_not_taken, expected_is_taken, right_is_no_evidence, others_stay, alike_stay}
-use Rattle.rb_rules.proofs.Votes.{taken_at}
+use Rattle.rb_base.specs.{Nodes.{Side, other, has}, Nodes.Side.{Biu, Rmu}, Sizes.Sizes, declared.values.Heard.Heard}
+use Rattle.rb_rules.specs.{declared.closing.Closing.Closing, declared.role.Role.Role, declared.sense.Sense.Sense, declared.sense.Sense.TheVariants.Silent, ExactStage.{Outcome, own_value, value_said, says_of, says, message_of, keep_sent, at_source, closing_of, taken_of_sender, reference_value, compare_with, votes_after, owners_after, delivery_of, see_value, close_exact, outcome_of}, NodeState.{NodeState, sender_at}, Sense.value_in, Slots.{Sender, same_side, sender_kind, listens, expects_of, expects, role_of}, Slots.Sender.{Nobody, Node, EachTrusted}, Standing.{Standing, is_eligible, taken_of, does_wrong, has_evidence, with_evidence, is_unlike}}
+use Rattle.rb_rules.proofs.{Senses.value_is_in, Slots.other_twice, Standings.{unexpected_not_taken, expected_is_taken, right_is_no_evidence, others_stay, alike_stay}, Votes.taken_at}
 use Rattle.rb_laws_agreement.proofs.NodeWindows.{IsOne}
 
 -- Who is expected, and who speaks.

@@ -1,39 +1,12 @@
 -- What good nodes exchange in a window below the sync slot: a good receiver takes of a good source
 -- just what that one says, and what it takes of any source is seen.
-use Rattle.std.proofs.Common.{◌≡◌, ℕ, zero, suc, ◌+◌, ◌<◌, ◌≤◌, ◌^◌, ◌==◌, ◌&&◌, inl, inr, not, Bool, true, false, List, [], ◌∷◌, map, Option, Some, None, is_some, option_map, slice_get, get_or, if◌then◌else◌, refl, sym, ◌∙◌, ap, subst, arith}
-use Rattle.std.specs.Prelude.{IfSome}
-use Rattle.std.specs.List.{list_any}
-use Rattle.std.proofs.lemmas.Bool.{or_left}
-use Rattle.rb_base.specs.Nodes.{Side, other, has}
-use Rattle.rb_base.specs.Nodes.Side.{Biu, Rmu}
-use Rattle.rb_base.specs.Sizes.{IsShape, sync_slot_of}
-use Rattle.rb_base.specs.declared.values.Heard.{Heard}
-use Rattle.rb_base.specs.declared.values.Place.{Place}
-use Rattle.rb_base.specs.declared.values.See.TheVariants.{Nothing}
+use Rattle.std.proofs.{Common.{◌≡◌, ℕ, zero, suc, ◌+◌, ◌<◌, ◌≤◌, ◌^◌, ◌==◌, ◌&&◌, inl, inr, not, Bool, true, false, List, [], ◌∷◌, map, Option, Some, None, is_some, option_map, slice_get, get_or, if◌then◌else◌, refl, sym, ◌∙◌, ap, subst, arith}, lemmas.Bool.or_left}
+use Rattle.std.specs.{Prelude.IfSome, List.list_any}
+use Rattle.rb_base.specs.{Nodes.{Side, other, has}, Nodes.Side.{Biu, Rmu}, Sizes.{IsShape, sync_slot_of}, declared.values.Heard.Heard, declared.values.Place.Place, declared.values.See.TheVariants.Nothing}
 use Rattle.rb_base.proofs.Plain.{less-differs}
-use Rattle.rb_rules.specs.declared.sense.Sense.{Sense}
-use Rattle.rb_rules.specs.Book.{of_kind, judged_of}
-use Rattle.rb_rules.specs.ExactStage.{says_of, says, message_of, see_value, close_exact}
-use Rattle.rb_rules.specs.Goodness.{Scenario, is_good}
-use Rattle.rb_rules.specs.Hearing.{sole_time, judged_see}
-use Rattle.rb_rules.specs.Judging.{JudgedStage, are_alike, is_something, was_taken, was_unlike, is_asymmetric, is_benign}
-use Rattle.rb_rules.specs.NodeState.{NodeState, trusted_of, sender_at}
-use Rattle.rb_rules.specs.NodeSteps.{close}
-use Rattle.rb_rules.specs.Rounds.{Moment}
-use Rattle.rb_rules.specs.Sense.{value_in}
-use Rattle.rb_rules.specs.Slots.{Sender, expects, role_of, sender_in}
-use Rattle.rb_rules.specs.Standing.{Standing, is_eligible, taken_of, does_wrong}
-use Rattle.rb_rules.specs.Windows.{send_offset_of}
-use Rattle.rb_rules.proofs.RoundStates.{keeping-stays}
-use Rattle.rb_rules.proofs.Senses.{IsCarried, value_suits, value_is_message}
-use Rattle.rb_rules.proofs.Slots.{close-exact, few_slots}
-use Rattle.rb_rules.proofs.Votes.{taken_at}
-use Rattle.rb_laws_agreement.proofs.Tests.{true_or_false, or_neither_first}
-use Rattle.rb_laws_agreement.proofs.NodeWindows.{Windows, word_at, kept_in, heard_in, sense_in, good_is_silent, good_is_heard}
-use Rattle.rb_laws_agreement.proofs.ExactWindows.{IsSingle, expects_who_speaks, expected_at, take_at, closing_at, IsSenseOf, takes_what_is_said, does_right, sent_by, with_sent, keeping-is, ExactClose, exact_close}
-use Rattle.rb_laws_agreement.proofs.JudgedWindows.{rows_of, sight-is, taken_in_stage, unlike_in_stage, alike_values, some_is_something, judged_value}
-use Rattle.rb_laws_agreement.proofs.Invariant.{Shared, sender_of, Holds}
-use Rattle.rb_laws_agreement.proofs.Goodnesses.{exact_role, single_sender}
+use Rattle.rb_rules.specs.{declared.sense.Sense.Sense, Book.{of_kind, judged_of}, ExactStage.{says_of, says, message_of, see_value, close_exact}, Goodness.{Scenario, is_good}, Hearing.{sole_time, judged_see}, Judging.{JudgedStage, are_alike, is_something, was_taken, was_unlike, is_asymmetric, is_benign}, NodeState.{NodeState, trusted_of, sender_at}, NodeSteps.close, Rounds.Moment, Sense.value_in, Slots.{Sender, expects, role_of, sender_in}, Standing.{Standing, is_eligible, taken_of, does_wrong}, Windows.send_offset_of}
+use Rattle.rb_rules.proofs.{RoundStates.keeping-stays, Senses.{IsCarried, value_suits, value_is_message}, Slots.{close-exact, few_slots}, Votes.taken_at}
+use Rattle.rb_laws_agreement.proofs.{Tests.{true_or_false, or_neither_first}, NodeWindows.{Windows, word_at, kept_in, heard_in, sense_in, good_is_silent, good_is_heard}, ExactWindows.{IsSingle, expects_who_speaks, expected_at, take_at, closing_at, IsSenseOf, takes_what_is_said, does_right, sent_by, with_sent, keeping-is, ExactClose, exact_close}, JudgedWindows.{rows_of, sight-is, taken_in_stage, unlike_in_stage, alike_values, some_is_something, judged_value}, Invariant.{Shared, sender_of, Holds}, Goodnesses.{exact_role, single_sender}}
 
 -- What all good nodes hold.
 

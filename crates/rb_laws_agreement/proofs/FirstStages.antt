@@ -1,47 +1,11 @@
 -- Stage 1 of a slot: after it the good nodes of the other kind have what they relay.
-use Rattle.std.proofs.Common.{◌≡◌, ℕ, ◌+◌, ◌-◌, ◌*◌, ◌<◌, ◌≤◌, ◌^◌, ◌&&◌, ◌||◌, nat_lt, bit_and, Bool, true, false, List, length, inl, inr, Some, None, is_some, slice_get, if◌then◌else◌, refl, sym, ◌∙◌, ap, subst, arith}
+use Rattle.std.proofs.{Common.{◌≡◌, ℕ, ◌+◌, ◌-◌, ◌*◌, ◌<◌, ◌≤◌, ◌^◌, ◌&&◌, ◌||◌, nat_lt, bit_and, Bool, true, false, List, length, inl, inr, Some, None, is_some, slice_get, if◌then◌else◌, refl, sym, ◌∙◌, ap, subst, arith}, lemmas.Bool.{and_right, cases_lt, lt-ltb, or_from}, lemmas.List.get_or_past, lemmas.List.FromFn.length-map-range_with_len, lemmas.Nat.{and_le_l, and_le_r}, lemmas.Option.same_Some, Math.Pow.pow_mono}
 use Rattle.std.specs.Prelude.{IfSome}
-use Rattle.std.proofs.lemmas.Bool.{and_right, cases_lt, lt-ltb, or_from}
-use Rattle.std.proofs.lemmas.List.{get_or_past}
-use Rattle.std.proofs.lemmas.List.FromFn.{length-map-range_with_len}
-use Rattle.rb_base.specs.Nodes.{Side, other, has, set_of}
-use Rattle.std.proofs.lemmas.Nat.{and_le_l, and_le_r}
-use Rattle.std.proofs.lemmas.Option.{same_Some}
-use Rattle.std.proofs.Math.Pow.{pow_mono}
-use Rattle.rb_base.proofs.Sets.{has-set_of, has-and, same_set, first_is}
-use Rattle.rb_base.specs.declared.values.Heard.{Heard}
-use Rattle.rb_base.specs.declared.values.Heard.TheVariants.{Word}
-use Rattle.rb_base.proofs.Plain.{and_first, none-if}
-use Rattle.rb_rules.specs.declared.role.Role.{Role}
-use Rattle.rb_rules.specs.declared.role.Role.TheVariants.{Schedule, Data, DiagBiu, DiagRmu, Sync}
-use Rattle.rb_rules.specs.declared.sense.Sense.{Sense}
-use Rattle.rb_rules.specs.Book.{of_kind}
-use Rattle.rb_rules.specs.ExactStage.{own_value, says, at_source, closing_of, taken_of_sender}
-use Rattle.rb_rules.specs.Goodness.{Scenario}
-use Rattle.rb_rules.specs.Hearing.{word_for}
-use Rattle.rb_rules.specs.Judging.{is_asymmetric, is_benign}
-use Rattle.rb_rules.specs.NodeState.{NodeState}
-use Rattle.rb_rules.specs.Ports.{HandIn}
-use Rattle.rb_rules.specs.Rounds.{Moment, moment, windows_in, after_window}
-use Rattle.rb_rules.specs.Sense.{value_in}
-use Rattle.rb_rules.specs.Slots.{Sender, count_of, role_of}
-use Rattle.rb_rules.specs.Slots.Sender.{Nobody, Node, EachTrusted}
-use Rattle.rb_rules.specs.Standing.{Standing, taken_of, vector_of}
-use Rattle.rb_rules.specs.Moments.{before_slot}
-use Rattle.rb_rules.proofs.Senses.{IsCarried}
-use Rattle.rb_rules.proofs.Slots.{other_twice}
-use Rattle.rb_rules.proofs.Votes.{taken_at}
-use Rattle.rb_laws_agreement.proofs.Tests.{Present}
-use Rattle.rb_laws_agreement.proofs.Goodnesses.{good_below_16, few_nodes}
-use Rattle.rb_laws_agreement.proofs.Invariant.{Shared, sender_of, kind_in, IsGoodNode, is_good_now, slot_numbered, is_diagnosis, IsVector, GoodSent, HasRelays, Holds}
-use Rattle.rb_laws_agreement.proofs.ExactWindows.{expected_at, closing_at}
-use Rattle.rb_laws_agreement.proofs.Exchanges.{IsHeard, sender-held, far-held}
-use Rattle.rb_laws_agreement.proofs.NodeWindows.{sense_in, word_at}
-use Rattle.rb_laws_agreement.proofs.StageVotes.{IsSeen}
-use Rattle.rb_laws_agreement.proofs.Speaking.{says_own, only-fits, own_is_said, word_fits, vector_fits, own_fits}
-use Rattle.rb_laws_agreement.proofs.Settings.{Setting, windows, stages_with, good_state, AllCarried, all_heard, all_seen, all_alike, taken, after, Closed, closes}
-use Rattle.rb_laws_agreement.proofs.Carrying.{all_carried}
-use Rattle.rb_laws_agreement.proofs.NextMoments.{next, was_good, CameFrom, came_from, stages_after}
+use Rattle.rb_base.specs.{Nodes.{Side, other, has, set_of}, declared.values.Heard.Heard, declared.values.Heard.TheVariants.Word}
+use Rattle.rb_base.proofs.{Sets.{has-set_of, has-and, same_set, first_is}, Plain.{and_first, none-if}}
+use Rattle.rb_rules.specs.{declared.role.Role.Role, declared.role.Role.TheVariants.{Schedule, Data, DiagBiu, DiagRmu, Sync}, declared.sense.Sense.Sense, Book.of_kind, ExactStage.{own_value, says, at_source, closing_of, taken_of_sender}, Goodness.Scenario, Hearing.word_for, Judging.{is_asymmetric, is_benign}, NodeState.NodeState, Ports.HandIn, Rounds.{Moment, moment, windows_in, after_window}, Sense.value_in, Slots.{Sender, count_of, role_of}, Slots.Sender.{Nobody, Node, EachTrusted}, Standing.{Standing, taken_of, vector_of}, Moments.before_slot}
+use Rattle.rb_rules.proofs.{Senses.IsCarried, Slots.other_twice, Votes.taken_at}
+use Rattle.rb_laws_agreement.proofs.{Tests.Present, Goodnesses.{good_below_16, few_nodes}, Invariant.{Shared, sender_of, kind_in, IsGoodNode, is_good_now, slot_numbered, is_diagnosis, IsVector, GoodSent, HasRelays, Holds}, ExactWindows.{expected_at, closing_at}, Exchanges.{IsHeard, sender-held, far-held}, NodeWindows.{sense_in, word_at}, StageVotes.IsSeen, Speaking.{says_own, only-fits, own_is_said, word_fits, vector_fits, own_fits}, Settings.{Setting, windows, stages_with, good_state, AllCarried, all_heard, all_seen, all_alike, taken, after, Closed, closes}, Carrying.all_carried, NextMoments.{next, was_good, CameFrom, came_from, stages_after}}
 
 -- what good nodes say in stage 1 has four bytes
 pub carried_1 : (sc : Scenario) (hands : List HandIn) (n : ℕ) (m : Moment) (s : Shared) (slot : ℕ) → Setting sc hands n m s slot 0 → AllCarried sc m slot 1

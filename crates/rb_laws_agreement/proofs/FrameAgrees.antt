@@ -1,34 +1,10 @@
 -- Over the end of a frame all good nodes agree, and at the run's start.
-use Rattle.std.proofs.Common.{◌≡◌, ℕ, suc, ◌+◌, ◌-◌, ◌*◌, ◌<◌, ◌&&◌, nat_lt, not, true, false, List, [], length, inl, inr, Option, Some, None, is_some, slice_get, refl, sym, ◌∙◌, ap, subst, arith}
-use Rattle.std.proofs.lemmas.Bool.{and_from, cases_lt, lt-ltb, ltb-true, not_from_false}
-use Rattle.rb_base.specs.Nodes.{Side, other, has, set_of}
-use Rattle.rb_base.specs.Nodes.Side.{Biu, Rmu}
-use Rattle.rb_base.specs.Sizes.{Sizes, sync_slot_of}
-use Rattle.rb_base.proofs.Sets.{has-set_of, has_above, has_none, set_of-lt}
-use Rattle.rb_base.specs.declared.values.Heard.TheVariants.{Fault}
-use Rattle.rb_base.proofs.Plain.{and_first, is_some-map}
-use Rattle.rb_rules.specs.declared.plan.Plan.{Plan}
-use Rattle.rb_rules.specs.Book.{of_kind, each_of}
-use Rattle.rb_rules.specs.Conviction.{convicted_at, turn}
-use Rattle.rb_rules.specs.Goodness.{Scenario}
-use Rattle.rb_rules.specs.Lawful.{IsLawful}
-use Rattle.rb_rules.specs.NodeState.{NodeState, first_state, trusted_of}
-use Rattle.rb_rules.specs.NodeSteps.{turn_if_known}
-use Rattle.rb_rules.specs.Ports.{HandIn}
-use Rattle.rb_rules.specs.Rounds.{Moment, moment, begin_frame, next_frame, first_moment, windows_in}
-use Rattle.rb_rules.specs.Slots.{count_of}
-use Rattle.rb_rules.specs.Standing.{Standing, lapses, standing_at_end, without}
-use Rattle.rb_rules.specs.SyncStage.{new_epoch_of}
-use Rattle.rb_rules.proofs.RoundStates.{Knows, knows-none, state-turned}
-use Rattle.rb_rules.proofs.WindowNumbers.{length-each, get-made}
-use Rattle.std.proofs.lemmas.List.FromFn.{length-map-range_with_len}
-use Rattle.std.proofs.lemmas.List.{length-replicate}
-use Rattle.std.proofs.lemmas.Option.{same_Some}
-use Rattle.rb_laws_agreement.proofs.Tests.{Present}
-use Rattle.rb_laws_agreement.proofs.Goodnesses.{good_before, good_counts, good_below_16}
-use Rattle.rb_laws_agreement.proofs.Invariant.{Shared, IsGoodNode, is_good_now, slot_numbered, Holds, Agree}
-use Rattle.rb_laws_agreement.proofs.Settings.{good_state}
-use Rattle.rb_laws_agreement.proofs.FrameTurns.{AtEnd, convicted_all, convicted_held, good_not_convicted}
+use Rattle.std.proofs.{Common.{◌≡◌, ℕ, suc, ◌+◌, ◌-◌, ◌*◌, ◌<◌, ◌&&◌, nat_lt, not, true, false, List, [], length, inl, inr, Option, Some, None, is_some, slice_get, refl, sym, ◌∙◌, ap, subst, arith}, lemmas.Bool.{and_from, cases_lt, lt-ltb, ltb-true, not_from_false}, lemmas.List.FromFn.length-map-range_with_len, lemmas.List.length-replicate, lemmas.Option.same_Some}
+use Rattle.rb_base.specs.{Nodes.{Side, other, has, set_of}, Nodes.Side.{Biu, Rmu}, Sizes.{Sizes, sync_slot_of}, declared.values.Heard.TheVariants.Fault}
+use Rattle.rb_base.proofs.{Sets.{has-set_of, has_above, has_none, set_of-lt}, Plain.{and_first, is_some-map}}
+use Rattle.rb_rules.specs.{declared.plan.Plan.Plan, Book.{of_kind, each_of}, Conviction.{convicted_at, turn}, Goodness.Scenario, Lawful.IsLawful, NodeState.{NodeState, first_state, trusted_of}, NodeSteps.turn_if_known, Ports.HandIn, Rounds.{Moment, moment, begin_frame, next_frame, first_moment, windows_in}, Slots.count_of, Standing.{Standing, lapses, standing_at_end, without}, SyncStage.new_epoch_of}
+use Rattle.rb_rules.proofs.{RoundStates.{Knows, knows-none, state-turned}, WindowNumbers.{length-each, get-made}}
+use Rattle.rb_laws_agreement.proofs.{Tests.Present, Goodnesses.{good_before, good_counts, good_below_16}, Invariant.{Shared, IsGoodNode, is_good_now, slot_numbered, Holds, Agree}, Settings.good_state, FrameTurns.{AtEnd, convicted_all, convicted_held, good_not_convicted}}
 
 -- What a turn makes of a node.
 

@@ -1,19 +1,9 @@
 -- A frame that is reached begins before the first breach.
-use Rattle.std.proofs.Common.{◌≡◌, ℕ, zero, suc, ◌+◌, ◌-◌, ◌*◌, ◌<◌, ◌≤◌, ◌==◌, nat_lt, Bool, true, false, List, inl, inr, refl, sym, ◌∙◌, ap, arith}
-use Rattle.std.proofs.lemmas.Bool.{le-ltb, lt-ltb}
+use Rattle.std.proofs.{Common.{◌≡◌, ℕ, zero, suc, ◌+◌, ◌-◌, ◌*◌, ◌<◌, ◌≤◌, ◌==◌, nat_lt, Bool, true, false, List, inl, inr, refl, sym, ◌∙◌, ap, arith}, lemmas.Bool.{le-ltb, lt-ltb}}
 use Rattle.rb_base.specs.Sizes.{sync_slot_of}
-use Rattle.rb_rules.specs.Book.{with_frame}
-use Rattle.rb_rules.specs.Goodness.{Scenario}
-use Rattle.rb_rules.specs.Lawful.{IsLawful}
-use Rattle.rb_rules.specs.Moments.{before_stage, before_slot, after_slot, IsRunning, IsComplete, IsReached, BeginsFrame, IsSettled}
-use Rattle.rb_rules.specs.Ports.{HandIn}
-use Rattle.rb_rules.specs.Rounds.{Moment, first_moment, begin_frame, next_frame, step, moment, windows_in}
+use Rattle.rb_rules.specs.{Book.with_frame, Goodness.Scenario, Lawful.IsLawful, Moments.{before_stage, before_slot, after_slot, IsRunning, IsComplete, IsReached, BeginsFrame, IsSettled}, Ports.HandIn, Rounds.{Moment, first_moment, begin_frame, next_frame, step, moment, windows_in}}
 use Rattle.rb_rules.proofs.Books.{begun-open, stepped}
-use Rattle.rb_laws_agreement.proofs.Agreement.{ended-end}
-use Rattle.rb_laws_agreement.proofs.NextMoments.{next}
-use Rattle.rb_laws_agreement.proofs.Places.{IsPlaced, placed, complete_before}
-use Rattle.rb_laws_agreement.proofs.SlotRuns.{stage_next, next-frame, next-window}
-use Rattle.rb_laws_agreement.proofs.SyncAgrees.{book_tail}
+use Rattle.rb_laws_agreement.proofs.{Agreement.ended-end, NextMoments.next, Places.{IsPlaced, placed, complete_before}, SlotRuns.{stage_next, next-frame, next-window}, SyncAgrees.book_tail}
 
 -- a step after which the run goes on is not its end
 pub not-over : (sc : Scenario) (hands : List HandIn) (m : Moment) → IsRunning (step sc hands m) → (m.frame == sc.frames) ≡ false

@@ -1,40 +1,10 @@
 -- If good nodes begin frames near each other, and frames take as long as they must, times are kept.
-use Rattle.std.proofs.Common.{◌≡◌, ℕ, zero, suc, ◌+◌, ◌-◌, ◌*◌, ◌≤◌, Bool, true, false, List, [], length, inl, inr, ◌⊎◌, Option, Some, None, option_map, slice_get, if◌then◌else◌, refl, sym, ◌∙◌, ap, subst, arith}
-use Rattle.std.proofs.lemmas.Option.{same_Some}
-use Rattle.rb_base.specs.Nodes.{Side}
-use Rattle.rb_base.specs.Sizes.{Sizes, sync_slot_of}
-use Rattle.rb_rules.specs.declared.plan.Plan.{Plan}
-use Rattle.rb_rules.specs.Book.{of_kind}
-use Rattle.rb_rules.specs.Clock.{Timeline, time_of}
-use Rattle.rb_rules.specs.Conviction.{turn}
-use Rattle.rb_rules.specs.Goodness.{Scenario, is_good, clock_of, clock_place}
-use Rattle.rb_rules.specs.Lawful.{IsLawful}
-use Rattle.rb_rules.specs.Moments.{before_slot, after_slot, IsRunning, IsComplete, IsReached, BeginsFrame, IsSettled, IsGoodBefore, IsGoodAfter, time_in_frame}
-use Rattle.rb_rules.specs.NodeState.{NodeState}
-use Rattle.rb_rules.specs.NodeSteps.{turn_if_known}
-use Rattle.rb_rules.specs.Plan.{shortest_of, longest_of, tail_start_of}
-use Rattle.rb_rules.specs.Ports.{HandIn}
-use Rattle.rb_rules.specs.Rounds.{Moment, moment, windows_in}
-use Rattle.rb_rules.specs.StandsFor.{FrameTakes, IsLow}
-use Rattle.rb_rules.specs.SyncStage.{new_epoch_of}
-use Rattle.rb_rules.proofs.Drift.{HasLengths, drift, has_lengths, times_rise_to}
-use Rattle.rb_rules.proofs.RoundStates.{state-after}
-use Rattle.rb_rules.proofs.Slots.{place-within}
+use Rattle.std.proofs.{Common.{◌≡◌, ℕ, zero, suc, ◌+◌, ◌-◌, ◌*◌, ◌≤◌, Bool, true, false, List, [], length, inl, inr, ◌⊎◌, Option, Some, None, option_map, slice_get, if◌then◌else◌, refl, sym, ◌∙◌, ap, subst, arith}, lemmas.Option.same_Some}
+use Rattle.rb_base.specs.{Nodes.Side, Sizes.{Sizes, sync_slot_of}}
+use Rattle.rb_rules.specs.{declared.plan.Plan.Plan, Book.of_kind, Clock.{Timeline, time_of}, Conviction.turn, Goodness.{Scenario, is_good, clock_of, clock_place}, Lawful.IsLawful, Moments.{before_slot, after_slot, IsRunning, IsComplete, IsReached, BeginsFrame, IsSettled, IsGoodBefore, IsGoodAfter, time_in_frame}, NodeState.NodeState, NodeSteps.turn_if_known, Plan.{shortest_of, longest_of, tail_start_of}, Ports.HandIn, Rounds.{Moment, moment, windows_in}, StandsFor.{FrameTakes, IsLow}, SyncStage.new_epoch_of}
+use Rattle.rb_rules.proofs.{Drift.{HasLengths, drift, has_lengths, times_rise_to}, RoundStates.state-after, Slots.place-within}
 use Rattle.rb_laws_agreement.specs.Times.{KeepsTime}
-use Rattle.rb_laws_agreement.proofs.Tests.{Present}
-use Rattle.rb_laws_agreement.proofs.Goodnesses.{good_earlier, good_before, good_counts, good_below_16}
-use Rattle.rb_laws_agreement.proofs.Invariant.{IsGoodNode, slot_numbered}
-use Rattle.rb_laws_agreement.proofs.Settings.{good_state, after}
-use Rattle.rb_laws_agreement.proofs.NextMoments.{next}
-use Rattle.rb_laws_agreement.proofs.NodeWindows.{tail_windows}
-use Rattle.rb_laws_agreement.proofs.SyncWindows.{tail_keeps_epoch}
-use Rattle.rb_laws_agreement.proofs.FrameAgrees.{TurnedFrom, turned_from}
-use Rattle.rb_laws_agreement.proofs.FrameBegins.{reached, settled_before}
-use Rattle.rb_laws_agreement.proofs.BeginTimes.{IsInTime, BeginsInTime}
-use Rattle.rb_laws_agreement.proofs.Leasts.{IsFirstOf, HaveNone, first_of}
-use Rattle.rb_laws_agreement.proofs.Places.{IsPlaced, placed, running_earlier, good_before_slot}
-use Rattle.rb_laws_agreement.proofs.PortHistories.{reached_from}
-use Rattle.rb_laws_agreement.proofs.WidelyAccused.{HasStayed, stays_on, IsEnd, frame_ends, end_steps}
+use Rattle.rb_laws_agreement.proofs.{Tests.Present, Goodnesses.{good_earlier, good_before, good_counts, good_below_16}, Invariant.{IsGoodNode, slot_numbered}, Settings.{good_state, after}, NextMoments.next, NodeWindows.tail_windows, SyncWindows.tail_keeps_epoch, FrameAgrees.{TurnedFrom, turned_from}, FrameBegins.{reached, settled_before}, BeginTimes.{IsInTime, BeginsInTime}, Leasts.{IsFirstOf, HaveNone, first_of}, Places.{IsPlaced, placed, running_earlier, good_before_slot}, PortHistories.reached_from, WidelyAccused.{HasStayed, stays_on, IsEnd, frame_ends, end_steps}}
 
 -- Clocks.
 

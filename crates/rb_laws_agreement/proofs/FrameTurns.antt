@@ -1,31 +1,10 @@
 -- The end of a frame: all good nodes convict the same nodes, and no good one.
-use Rattle.std.proofs.Common.{◌≡◌, ℕ, ◌+◌, ◌*◌, ◌<◌, ◌≤◌, ◌&&◌, not, Bool, true, false, List, if◌then◌else◌, refl, sym, ◌∙◌, ap, subst, arith}
-use Rattle.std.proofs.lemmas.Bool.{and_from, false_from_ne_true, not_from_false}
-use Rattle.rb_base.specs.Counting.{count_if, numbers}
-use Rattle.rb_base.specs.Nodes.{Side, other, has}
-use Rattle.rb_base.specs.Nodes.Side.{Biu, Rmu}
-use Rattle.rb_base.specs.Sizes.{Sizes, sync_slot_of}
-use Rattle.rb_base.specs.declared.values.Heard.{Heard}
-use Rattle.rb_base.specs.declared.values.Heard.TheVariants.{Fault}
+use Rattle.std.proofs.{Common.{◌≡◌, ℕ, ◌+◌, ◌*◌, ◌<◌, ◌≤◌, ◌&&◌, not, Bool, true, false, List, if◌then◌else◌, refl, sym, ◌∙◌, ap, subst, arith}, lemmas.Bool.{and_from, false_from_ne_true, not_from_false}}
+use Rattle.rb_base.specs.{Counting.{count_if, numbers}, Nodes.{Side, other, has}, Nodes.Side.{Biu, Rmu}, Sizes.{Sizes, sync_slot_of}, declared.values.Heard.Heard, declared.values.Heard.TheVariants.Fault}
 use Rattle.rb_base.proofs.Plain.{and_first, and_second}
-use Rattle.rb_rules.specs.Conviction.{is_valid, names, naming, sparing, convicted_by, voted_vector, convicted_at}
-use Rattle.rb_rules.specs.Goodness.{Scenario, is_good}
-use Rattle.rb_rules.specs.Judging.{is_benign}
-use Rattle.rb_rules.specs.Lawful.{IsLawful}
-use Rattle.rb_rules.specs.NodeState.{NodeState, trusted_of}
-use Rattle.rb_rules.specs.Ports.{HandIn}
-use Rattle.rb_rules.specs.Rounds.{Moment, windows_in}
-use Rattle.rb_rules.specs.Slots.{same_side, sender_kind, has_third_stage, count_of, role_of, sender_in}
-use Rattle.rb_rules.specs.Slots.Sender.{Node}
-use Rattle.rb_rules.proofs.Convictions.{named_is_convicted, spared_is_not_convicted}
-use Rattle.rb_rules.proofs.Slots.{other_twice}
-use Rattle.rb_laws_agreement.proofs.Numbers.{how_many, how_many-le}
-use Rattle.rb_laws_agreement.proofs.Premises.{Premise, is_active, is_sound}
-use Rattle.rb_laws_agreement.proofs.Goodnesses.{good_below_16, few_nodes, slot_last}
-use Rattle.rb_laws_agreement.proofs.Invariant.{Shared, sender_of, kind_in, IsGoodNode, is_good_now, slot_numbered, is_diagnosis, IsVector, IsOwn, IsFinished, Holds, Agree}
-use Rattle.rb_laws_agreement.proofs.Exchanges.{trusted-either}
-use Rattle.rb_laws_agreement.proofs.StageVotes.{how_many-count}
-use Rattle.rb_laws_agreement.proofs.Vectors.{vector_slot, vector_role, vector_slot-role, vector_slot-lt, convicted_same}
+use Rattle.rb_rules.specs.{Conviction.{is_valid, names, naming, sparing, convicted_by, voted_vector, convicted_at}, Goodness.{Scenario, is_good}, Judging.is_benign, Lawful.IsLawful, NodeState.{NodeState, trusted_of}, Ports.HandIn, Rounds.{Moment, windows_in}, Slots.{same_side, sender_kind, has_third_stage, count_of, role_of, sender_in}, Slots.Sender.Node}
+use Rattle.rb_rules.proofs.{Convictions.{named_is_convicted, spared_is_not_convicted}, Slots.other_twice}
+use Rattle.rb_laws_agreement.proofs.{Numbers.{how_many, how_many-le}, Premises.{Premise, is_active, is_sound}, Goodnesses.{good_below_16, few_nodes, slot_last}, Invariant.{Shared, sender_of, kind_in, IsGoodNode, is_good_now, slot_numbered, is_diagnosis, IsVector, IsOwn, IsFinished, Holds, Agree}, Exchanges.trusted-either, StageVotes.how_many-count, Vectors.{vector_slot, vector_role, vector_slot-role, vector_slot-lt, convicted_same}}
 
 -- the end of a frame at which all good nodes agree
 pub record AtEnd (sc : Scenario) (hands : List HandIn) (n : ℕ) (m : Moment) (s : Shared) : Type 0 where

@@ -1,19 +1,10 @@
 -- Good nodes: which there are, and that none becomes good again. The slot of a window, and what a
 -- slot is for.
-use Rattle.std.proofs.Common.{◌≡◌, ℕ, ◌+◌, ◌-◌, ◌*◌, ◌<◌, ◌≤◌, nat_lt, Bool, true, false, Option, Some, None, get_or, slice_get, if◌then◌else◌, List, refl, arith}
-use Rattle.std.proofs.lemmas.Bool.{and_from, lt-ltb, ltb-true}
-use Rattle.std.proofs.lemmas.Bool.Decides.{nat_tests}
-use Rattle.rb_base.specs.Nodes.{Side, has}
-use Rattle.rb_base.specs.Nodes.Side.{Biu, Rmu}
-use Rattle.rb_base.specs.Sizes.{Sizes, IsShape, sync_slot_of}
+use Rattle.std.proofs.{Common.{◌≡◌, ℕ, ◌+◌, ◌-◌, ◌*◌, ◌<◌, ◌≤◌, nat_lt, Bool, true, false, Option, Some, None, get_or, slice_get, if◌then◌else◌, List, refl, arith}, lemmas.Bool.{and_from, lt-ltb, ltb-true}, lemmas.Bool.Decides.nat_tests}
+use Rattle.rb_base.specs.{Nodes.{Side, has}, Nodes.Side.{Biu, Rmu}, Sizes.{Sizes, IsShape, sync_slot_of}}
 use Rattle.rb_base.proofs.Plain.{and_first, and_second}
-use Rattle.rb_rules.specs.declared.role.Role.{Role}
-use Rattle.rb_rules.specs.declared.role.Role.TheVariants.{Schedule, Data, DiagBiu, DiagRmu, Sync}
-use Rattle.rb_rules.specs.Goodness.{Scenario, onsets_of, is_before, is_good}
-use Rattle.rb_rules.specs.Slots.{count_of, first_diagnosis_of, role_of, if_trusted, if_owned, sender_in}
-use Rattle.rb_rules.specs.Slots.Sender.{Nobody, Node}
-use Rattle.rb_laws_agreement.proofs.ExactWindows.{IsSingle}
-use Rattle.rb_laws_agreement.proofs.Invariant.{slot_numbered}
+use Rattle.rb_rules.specs.{declared.role.Role.Role, declared.role.Role.TheVariants.{Schedule, Data, DiagBiu, DiagRmu, Sync}, Goodness.{Scenario, onsets_of, is_before, is_good}, Slots.{count_of, first_diagnosis_of, role_of, if_trusted, if_owned, sender_in}, Slots.Sender.{Nobody, Node}}
+use Rattle.rb_laws_agreement.proofs.{ExactWindows.IsSingle, Invariant.slot_numbered}
 
 pub before-same : (o : Option (ℕ × ℕ)) (frame a b : ℕ) → a ≤ b → is_before o frame b ≡ true → is_before o frame a ≡ true
 before-same None frame a b h g = refl

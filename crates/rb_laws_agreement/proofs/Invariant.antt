@@ -1,28 +1,9 @@
 -- What all good nodes hold before each window of a run that has met no breach.
 use Rattle.std.proofs.Common.{◌≡◌, ℕ, ◌+◌, ◌*◌, ◌/◌, ◌<◌, ◌≤◌, min, Bool, true, false, List, length, Some, None, get_or, slice_get}
 use Rattle.std.specs.Prelude.{IfSome}
-use Rattle.rb_base.specs.Nodes.{Side, other, has}
-use Rattle.rb_base.specs.Nodes.Side.{Biu, Rmu}
-use Rattle.rb_base.specs.Sizes.{Sizes, sync_slot_of}
-use Rattle.rb_base.specs.declared.values.Heard.{Heard}
-use Rattle.rb_base.specs.declared.values.Heard.TheVariants.{Fault}
-use Rattle.rb_rules.specs.declared.role.Role.{Role}
-use Rattle.rb_rules.specs.declared.role.Role.TheVariants.{Schedule, Data, DiagBiu, DiagRmu, Sync}
-use Rattle.rb_rules.specs.Book.{of_kind}
-use Rattle.rb_rules.specs.Conviction.{is_valid, names}
-use Rattle.rb_rules.specs.ExactStage.{own_value}
-use Rattle.rb_rules.specs.Goodness.{Scenario, is_good}
-use Rattle.rb_rules.specs.Hearing.{word_for}
-use Rattle.rb_rules.specs.Judging.{is_asymmetric, is_benign}
-use Rattle.rb_rules.specs.NodeState.{NodeState, trusted_of}
-use Rattle.rb_rules.specs.Ports.{HandIn}
-use Rattle.rb_rules.specs.Rounds.{Moment, moment, windows_in}
-use Rattle.rb_rules.specs.Slots.{Sender, role_of, sender_kind, sender_in, count_of}
-use Rattle.rb_rules.specs.Slots.Sender.{Nobody, Node}
-use Rattle.rb_rules.specs.Moments.{before_slot}
-use Rattle.rb_rules.specs.StandsFor.{votes_on}
-use Rattle.rb_rules.proofs.RoundStates.{Knows}
-use Rattle.rb_rules.proofs.Senses.{IsCarried}
+use Rattle.rb_base.specs.{Nodes.{Side, other, has}, Nodes.Side.{Biu, Rmu}, Sizes.{Sizes, sync_slot_of}, declared.values.Heard.Heard, declared.values.Heard.TheVariants.Fault}
+use Rattle.rb_rules.specs.{declared.role.Role.Role, declared.role.Role.TheVariants.{Schedule, Data, DiagBiu, DiagRmu, Sync}, Book.of_kind, Conviction.{is_valid, names}, ExactStage.own_value, Goodness.{Scenario, is_good}, Hearing.word_for, Judging.{is_asymmetric, is_benign}, NodeState.{NodeState, trusted_of}, Ports.HandIn, Rounds.{Moment, moment, windows_in}, Slots.{Sender, role_of, sender_kind, sender_in, count_of}, Slots.Sender.{Nobody, Node}, Moments.before_slot, StandsFor.votes_on}
+use Rattle.rb_rules.proofs.{RoundStates.Knows, Senses.IsCarried}
 use Rattle.rb_laws_agreement.proofs.Premises.{Premise}
 
 -- what all good nodes have in common in a frame

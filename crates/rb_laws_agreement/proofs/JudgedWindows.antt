@@ -1,38 +1,12 @@
 -- A window as it is judged: whom the good nodes trust there, what each sees of each source, and
 -- what a verdict says that gives no cause.
-use Rattle.std.proofs.Common.{◌≡◌, ℕ, zero, suc, ◌<◌, ◌≤◌, ◌&&◌, ◌⊎◌, inl, inr, not, nat_le, Bool, true, false, List, [], ◌∷◌, ◌++◌, Option, Some, None, is_some, option_map, slice_get, get_or, refl, sym, ◌∙◌, ap, subst, arith}
+use Rattle.std.proofs.{Common.{◌≡◌, ℕ, zero, suc, ◌<◌, ◌≤◌, ◌&&◌, ◌⊎◌, inl, inr, not, nat_le, Bool, true, false, List, [], ◌∷◌, ◌++◌, Option, Some, None, is_some, option_map, slice_get, get_or, refl, sym, ◌∙◌, ap, subst, arith}, lemmas.List.FromFn.get_or-map-range_with_len, lemmas.Option.same_Some, Common.zero-add, lemmas.Bool.{and_from, leb-true, not_from_false}}
 use Rattle.std.specs.List.{list_any}
-use Rattle.std.proofs.lemmas.List.FromFn.{get_or-map-range_with_len}
-use Rattle.std.proofs.lemmas.Option.{same_Some}
-use Rattle.std.proofs.Common.{zero-add}
-use Rattle.std.proofs.lemmas.Bool.{and_from, leb-true, not_from_false}
-use Rattle.rb_base.specs.Counting.{numbers}
-use Rattle.rb_base.specs.Nodes.{Side, other, has}
-use Rattle.rb_base.specs.Nodes.Side.{Biu, Rmu}
-use Rattle.rb_base.proofs.Sets.{has-set_of, has_none}
-use Rattle.rb_base.specs.declared.values.Heard.{Heard}
-use Rattle.rb_base.specs.declared.values.Place.{Place}
-use Rattle.rb_base.specs.declared.values.See.TheVariants.{Nothing}
-use Rattle.rb_base.proofs.Plain.{and_first}
-use Rattle.rb_rules.specs.declared.cause.Cause.{Cause}
-use Rattle.rb_rules.specs.declared.closing.Closed.{Closed}
-use Rattle.rb_rules.specs.declared.plan.Window.{Window}
-use Rattle.rb_rules.specs.Book.{Each, of_kind, in_order, map_each, Row, Book, trusted_in, trusted_by, see_in, judged_of, after_verdict, with_stage}
-use Rattle.rb_rules.specs.ExactStage.{present, see_value}
-use Rattle.rb_rules.specs.Goodness.{Scenario, is_good}
-use Rattle.rb_rules.specs.Hearing.{Coming, sole_time, judged_see, row_of}
-use Rattle.rb_rules.specs.Judging.{JudgedStage, are_alike, is_something, was_taken, was_unlike, verdict_of}
-use Rattle.rb_rules.specs.NodeState.{NodeState, trusted_of}
-use Rattle.rb_rules.specs.NodeSteps.{close}
-use Rattle.rb_rules.specs.Rounds.{Moment, Result, window_in, sent_in, close_on, go_through, results_of}
-use Rattle.rb_rules.proofs.Majorities.{same_heard-is}
-use Rattle.rb_rules.proofs.RoundStates.{Stays, through-stays}
-use Rattle.rb_rules.proofs.Slots.{other_twice}
-use Rattle.rb_rules.proofs.WindowNumbers.{get-each}
-use Rattle.rb_laws_agreement.proofs.Tests.{passes_at, get-some, Passing}
-use Rattle.rb_laws_agreement.proofs.Numbers.{how_many, one_of_many}
-use Rattle.rb_laws_agreement.proofs.Premises.{Premise, premise_holds}
-use Rattle.rb_laws_agreement.proofs.NodeWindows.{Windows, own_window, kept_in, heard_in, sense_in, goes}
+use Rattle.rb_base.specs.{Counting.numbers, Nodes.{Side, other, has}, Nodes.Side.{Biu, Rmu}, declared.values.Heard.Heard, declared.values.Place.Place, declared.values.See.TheVariants.Nothing}
+use Rattle.rb_base.proofs.{Sets.{has-set_of, has_none}, Plain.and_first}
+use Rattle.rb_rules.specs.{declared.cause.Cause.Cause, declared.closing.Closed.Closed, declared.plan.Window.Window, Book.{Each, of_kind, in_order, map_each, Row, Book, trusted_in, trusted_by, see_in, judged_of, after_verdict, with_stage}, ExactStage.{present, see_value}, Goodness.{Scenario, is_good}, Hearing.{Coming, sole_time, judged_see, row_of}, Judging.{JudgedStage, are_alike, is_something, was_taken, was_unlike, verdict_of}, NodeState.{NodeState, trusted_of}, NodeSteps.close, Rounds.{Moment, Result, window_in, sent_in, close_on, go_through, results_of}}
+use Rattle.rb_rules.proofs.{Majorities.same_heard-is, RoundStates.{Stays, through-stays}, Slots.other_twice, WindowNumbers.get-each}
+use Rattle.rb_laws_agreement.proofs.{Tests.{passes_at, get-some, Passing}, Numbers.{how_many, one_of_many}, Premises.{Premise, premise_holds}, NodeWindows.{Windows, own_window, kept_in, heard_in, sense_in, goes}}
 
 -- Rows.
 

@@ -1,28 +1,11 @@
 -- The moment after a window: its good nodes were good before, and each became what its close made
 -- of it.
-use Rattle.std.proofs.Common.{◌≡◌, ℕ, ◌+◌, ◌*◌, ◌/◌, ◌%◌, ◌<◌, true, List, length, map, Some, option_map, slice_get, sym, ◌∙◌, ap, arith}
-use Rattle.std.proofs.lemmas.Option.{same_Some, slice_get-map}
-use Rattle.std.proofs.lemmas.List.FromFn.{length-map-range_with_len}
-use Rattle.rb_base.specs.Counting.{numbers}
-use Rattle.rb_base.specs.Nodes.{Side, other}
-use Rattle.rb_base.specs.Sizes.{Sizes, sync_slot_of}
-use Rattle.rb_rules.specs.declared.plan.Plan.{Plan}
-use Rattle.rb_rules.specs.declared.plan.Window.{Window}
-use Rattle.rb_rules.specs.Book.{of_kind, with_stage}
-use Rattle.rb_rules.specs.Goodness.{Scenario}
-use Rattle.rb_rules.specs.NodeState.{NodeState}
-use Rattle.rb_rules.specs.Ports.{HandIn}
-use Rattle.rb_rules.specs.Rounds.{Moment, Result, window_in, sent_in, go_through, results_of, book_after, after_window}
-use Rattle.rb_rules.specs.Windows.{exact_window, sync_windows, windows_of_frame}
-use Rattle.rb_rules.proofs.RoundStates.{state-after}
-use Rattle.rb_rules.proofs.WindowNumbers.{get-number, length-each}
-use Rattle.rb_laws_agreement.proofs.Tests.{Present}
-use Rattle.rb_laws_agreement.proofs.JudgedWindows.{rows_of}
-use Rattle.rb_base.specs.declared.values.Heard.{Heard}
+use Rattle.std.proofs.{Common.{◌≡◌, ℕ, ◌+◌, ◌*◌, ◌/◌, ◌%◌, ◌<◌, true, List, length, map, Some, option_map, slice_get, sym, ◌∙◌, ap, arith}, lemmas.Option.{same_Some, slice_get-map}, lemmas.List.FromFn.length-map-range_with_len}
+use Rattle.rb_base.specs.{Counting.numbers, Nodes.{Side, other}, Sizes.{Sizes, sync_slot_of}, declared.values.Heard.Heard}
+use Rattle.rb_rules.specs.{declared.plan.Plan.Plan, declared.plan.Window.Window, Book.{of_kind, with_stage}, Goodness.Scenario, NodeState.NodeState, Ports.HandIn, Rounds.{Moment, Result, window_in, sent_in, go_through, results_of, book_after, after_window}, Windows.{exact_window, sync_windows, windows_of_frame}}
+use Rattle.rb_rules.proofs.{RoundStates.state-after, WindowNumbers.{get-number, length-each}}
+use Rattle.rb_laws_agreement.proofs.{Tests.Present, JudgedWindows.rows_of, Invariant.{Shared, kind_in, IsGoodNode, is_good_now, slot_numbered, IsVector, IsOwn, Agree}, Goodnesses.{good_earlier, slot_goes_on}, Settings.{Setting, stages_with, good_state, after}}
 use Rattle.rb_base.proofs.Plain.{slice_get-back, slice_get-front}
-use Rattle.rb_laws_agreement.proofs.Invariant.{Shared, kind_in, IsGoodNode, is_good_now, slot_numbered, IsVector, IsOwn, Agree}
-use Rattle.rb_laws_agreement.proofs.Goodnesses.{good_earlier, slot_goes_on}
-use Rattle.rb_laws_agreement.proofs.Settings.{Setting, stages_with, good_state, after}
 
 abbrev pub next : Scenario → Moment → Moment
 next sc m = after_window sc m (results_of sc m)

@@ -1,29 +1,10 @@
 -- The window of a moment as the nodes go through it: all in one slot and stage. What a good node
 -- says there, what it hears, and how it closes the window.
-use Rattle.std.proofs.Common.{◌≡◌, ℕ, zero, suc, ◌+◌, ◌-◌, ◌*◌, ◌/◌, ◌%◌, ◌<◌, ◌≤◌, nat_le, true, false, List, [], ◌∷◌, map, Option, Some, None, option_map, option_and_then, slice_get, unwrap_or, refl, ◌∙◌, ap, arith}
+use Rattle.std.proofs.{Common.{◌≡◌, ℕ, zero, suc, ◌+◌, ◌-◌, ◌*◌, ◌/◌, ◌%◌, ◌<◌, ◌≤◌, nat_le, true, false, List, [], ◌∷◌, map, Option, Some, None, option_map, option_and_then, slice_get, unwrap_or, refl, ◌∙◌, ap, arith}, lemmas.Bool.Decides.nat_tests}
 use Rattle.std.specs.Prelude.{option_to_list}
-use Rattle.std.proofs.lemmas.Bool.Decides.{nat_tests}
-use Rattle.rb_base.specs.Nodes.{Side, other}
-use Rattle.rb_base.specs.Sizes.{Sizes, sync_slot_of}
-use Rattle.rb_rules.specs.declared.message.Message.{Message}
-use Rattle.rb_rules.specs.declared.plan.Plan.{Plan}
-use Rattle.rb_rules.specs.declared.plan.Window.{Window}
-use Rattle.rb_rules.specs.declared.sense.Sense.{Sense}
-use Rattle.rb_rules.specs.declared.sense.Sense.TheVariants.{Silent, One}
-use Rattle.rb_rules.specs.Book.{of_kind, map_each}
-use Rattle.rb_rules.specs.ExactStage.{at_source, keep_sent}
-use Rattle.rb_rules.specs.Goodness.{Scenario, is_good, clock_of}
-use Rattle.rb_rules.specs.Hearing.{Sending, Coming, Span, span_of, tail_at, window_numbered, sending, coming_of, said_by, heard_from, arrival_of}
-use Rattle.rb_rules.specs.NodeState.{NodeState}
-use Rattle.rb_rules.specs.NodeSteps.{expect_of, message_said, close}
-use Rattle.rb_rules.specs.Rounds.{Moment, window_in, word_for_window, sending_in, sent_in, heard_at, close_on, go_through}
-use Rattle.rb_rules.specs.Sense.{suits, sense_of}
-use Rattle.rb_rules.specs.Spelling.{IsMessage}
-use Rattle.rb_rules.specs.SyncStage.{new_epoch_of, send_tick_of}
-use Rattle.rb_rules.specs.Plan.{f0_of, tail_start_of}
-use Rattle.rb_rules.specs.Windows.{window_of, sync_windows}
-use Rattle.rb_rules.proofs.Senses.{spelled_is_one}
-use Rattle.rb_rules.proofs.WindowNumbers.{get-each, exact-numbered, sync-numbered}
+use Rattle.rb_base.specs.{Nodes.{Side, other}, Sizes.{Sizes, sync_slot_of}}
+use Rattle.rb_rules.specs.{declared.message.Message.Message, declared.plan.Plan.Plan, declared.plan.Window.Window, declared.sense.Sense.Sense, declared.sense.Sense.TheVariants.{Silent, One}, Book.{of_kind, map_each}, ExactStage.{at_source, keep_sent}, Goodness.{Scenario, is_good, clock_of}, Hearing.{Sending, Coming, Span, span_of, tail_at, window_numbered, sending, coming_of, said_by, heard_from, arrival_of}, NodeState.NodeState, NodeSteps.{expect_of, message_said, close}, Rounds.{Moment, window_in, word_for_window, sending_in, sent_in, heard_at, close_on, go_through}, Sense.{suits, sense_of}, Spelling.IsMessage, SyncStage.{new_epoch_of, send_tick_of}, Plan.{f0_of, tail_start_of}, Windows.{window_of, sync_windows}}
+use Rattle.rb_rules.proofs.{Senses.spelled_is_one, WindowNumbers.{get-each, exact-numbered, sync-numbered}}
 use Rattle.rb_laws_agreement.proofs.Tests.{get-some}
 
 -- the windows of a moment have one slot and one stage

@@ -1,10 +1,8 @@
 -- How many nodes pass a test.
 use Rattle.std.proofs.Common.{◌≡◌, ℕ, ◌+◌, ◌<◌, ◌≤◌, Bool, true, ◌||◌, refl, sym, ◌∙◌, ap, inl, inr, arith}
 use Rattle.std.specs.List.{list_any}
-use Rattle.rb_base.specs.Counting.{numbers}
-use Rattle.rb_base.specs.Nodes.{has, set_of, size}
-use Rattle.rb_base.proofs.Sets.{has-set_of}
-use Rattle.rb_base.proofs.SetSizes.{size_none, size_within, size_within_two, size_some}
+use Rattle.rb_base.specs.{Counting.numbers, Nodes.{has, set_of, size}}
+use Rattle.rb_base.proofs.{Sets.has-set_of, SetSizes.{size_none, size_within, size_within_two, size_some}}
 use Rattle.rb_laws_agreement.proofs.Tests.{true_or_false, passes_at, Passing, passing}
 
 -- how many of the nodes pass

@@ -1,37 +1,13 @@
 -- One slot, whatever comes of the nodes that are not good: agreement, validity, and no good node is
 -- accused.
-use Rattle.std.proofs.Common.{◌≡◌, ℕ, zero, suc, ◌<◌, ◌≤◌, ◌&&◌, ◌⊎◌, inl, inr, Bool, true, false, List, Option, Some, None, unwrap_or, if◌then◌else◌, refl, sym, ◌∙◌, ap, subst, arith}
+use Rattle.std.proofs.{Common.{◌≡◌, ℕ, zero, suc, ◌<◌, ◌≤◌, ◌&&◌, ◌⊎◌, inl, inr, Bool, true, false, List, Option, Some, None, unwrap_or, if◌then◌else◌, refl, sym, ◌∙◌, ap, subst, arith}, lemmas.Bool.cases_lt, lemmas.Option.same_Some}
 use Rattle.std.specs.List.{list_any}
-use Rattle.std.proofs.lemmas.Bool.{cases_lt}
-use Rattle.std.proofs.lemmas.Option.{same_Some}
-use Rattle.rb_base.specs.Counting.{count_if, numbers}
-use Rattle.rb_base.specs.Nodes.{Side, other}
-use Rattle.rb_base.specs.Nodes.Side.{Biu, Rmu}
-use Rattle.rb_base.specs.declared.values.Delivery.{Delivery}
-use Rattle.rb_base.specs.declared.values.Heard.{Heard}
-use Rattle.rb_base.specs.declared.values.Heard.TheVariants.{Fault}
+use Rattle.rb_base.specs.{Counting.{count_if, numbers}, Nodes.{Side, other}, Nodes.Side.{Biu, Rmu}, declared.values.Delivery.Delivery, declared.values.Heard.Heard, declared.values.Heard.TheVariants.Fault}
 use Rattle.rb_base.proofs.Plain.{and_first}
-use Rattle.rb_rules.specs.declared.role.Role.{Role}
-use Rattle.rb_rules.specs.declared.role.Role.TheVariants.{Data}
-use Rattle.rb_rules.specs.ExactStage.{at_source, delivery_of, is_sender, votes_in}
-use Rattle.rb_rules.specs.NodeState.{NodeState, sender_at}
-use Rattle.rb_rules.specs.Slots.{Sender, same_side, has_third_stage, listens, role_of, sender_kind}
-use Rattle.rb_rules.specs.Slots.Sender.{Nobody, Node, EachTrusted}
-use Rattle.rb_rules.specs.Standing.{is_unlike}
-use Rattle.rb_rules.specs.StandsFor.{votes_on}
-use Rattle.rb_rules.proofs.Slots.{one_or_other, other_twice, same_side_other}
-use Rattle.rb_rules.proofs.Votes.{closing_vote_is, same_vote, taken_at}
-use Rattle.rb_laws_agreement.specs.OneSlot.{AccuseNoGoodNode, DeliverTheirVotes, Exchange, GoodOutnumber, IsExchange, KeepsPremise, NoneIsAsymmetric, OneSlotAgrees, VotesAgree, VotesAreValid, delivered_by, sender_of, state_after, takes_after, value_sent, vote_after}
-use Rattle.rb_laws_agreement.specs.Values.{vote_on}
-use Rattle.rb_laws_agreement.proofs.ExactWindows.{IsSingle, expected_at, closing_at}
-use Rattle.rb_laws_agreement.proofs.FirstStages.{nothing-past}
-use Rattle.rb_laws_agreement.proofs.Numbers.{how_many, one_of_many}
-use Rattle.rb_laws_agreement.proofs.OneSlotStages.{NoneUnlike, Stands, all-vote, good-below, got-is, hears-good, idle-vote, parts, said, sender-held, sent-is, single, stands-first, stands-next, stays, takes-alike, vote-held, vote-kept, voted}
-use Rattle.rb_laws_agreement.proofs.SecondStages.{sender-is, voters-vote}
-use Rattle.rb_laws_agreement.proofs.Speaking.{IsOnly, got_is_said, listens_third, only-alike, own_is_said, says_got, says_vote, vote_is_said, voters_deaf}
-use Rattle.rb_laws_agreement.proofs.StageVotes.{how_many-count}
-use Rattle.rb_laws_agreement.proofs.Tests.{Passing, passes_at, passing, true_or_false}
-use Rattle.rb_laws_agreement.proofs.ThirdStages.{third-voted}
+use Rattle.rb_rules.specs.{declared.role.Role.Role, declared.role.Role.TheVariants.Data, ExactStage.{at_source, delivery_of, is_sender, votes_in}, NodeState.{NodeState, sender_at}, Slots.{Sender, same_side, has_third_stage, listens, role_of, sender_kind}, Slots.Sender.{Nobody, Node, EachTrusted}, Standing.is_unlike, StandsFor.votes_on}
+use Rattle.rb_rules.proofs.{Slots.{one_or_other, other_twice, same_side_other}, Votes.{closing_vote_is, same_vote, taken_at}}
+use Rattle.rb_laws_agreement.specs.{OneSlot.{AccuseNoGoodNode, DeliverTheirVotes, Exchange, GoodOutnumber, IsExchange, KeepsPremise, NoneIsAsymmetric, OneSlotAgrees, VotesAgree, VotesAreValid, delivered_by, sender_of, state_after, takes_after, value_sent, vote_after}, Values.vote_on}
+use Rattle.rb_laws_agreement.proofs.{ExactWindows.{IsSingle, expected_at, closing_at}, FirstStages.nothing-past, Numbers.{how_many, one_of_many}, OneSlotStages.{NoneUnlike, Stands, all-vote, good-below, got-is, hears-good, idle-vote, parts, said, sender-held, sent-is, single, stands-first, stands-next, stays, takes-alike, vote-held, vote-kept, voted}, SecondStages.{sender-is, voters-vote}, Speaking.{IsOnly, got_is_said, listens_third, only-alike, own_is_said, says_got, says_vote, vote_is_said, voters_deaf}, StageVotes.how_many-count, Tests.{Passing, passes_at, passing, true_or_false}, ThirdStages.third-voted}
 
 -- One stage.
 

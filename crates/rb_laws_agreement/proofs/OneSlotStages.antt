@@ -1,35 +1,12 @@
 -- The stages of one slot, whatever comes of the nodes that are not good: what good nodes take of
 -- each other, and what each close makes.
-use Rattle.std.proofs.Common.{◌≡◌, ℕ, suc, ◌+◌, ◌<◌, ◌≤◌, ◌==◌, ◌&&◌, inl, inr, Bool, true, false, List, length, take, Option, Some, None, is_some, slice_set, get_or, if◌then◌else◌, refl, sym, ◌∙◌, ap, subst, arith}
-use Rattle.std.proofs.lemmas.Bool.Decides.{nat_tests}
-use Rattle.std.proofs.lemmas.List.{get_or-set_same}
-use Rattle.std.proofs.Math.ListN.{length-set}
-use Rattle.rb_base.specs.Nodes.{Side, other, has}
-use Rattle.rb_base.specs.Nodes.Side.{Biu, Rmu}
-use Rattle.rb_base.specs.Sizes.{Sizes, sync_slot_of}
-use Rattle.rb_base.specs.declared.values.Heard.{Heard}
-use Rattle.rb_base.specs.declared.values.Heard.TheVariants.{Fault}
+use Rattle.std.proofs.{Common.{◌≡◌, ℕ, suc, ◌+◌, ◌<◌, ◌≤◌, ◌==◌, ◌&&◌, inl, inr, Bool, true, false, List, length, take, Option, Some, None, is_some, slice_set, get_or, if◌then◌else◌, refl, sym, ◌∙◌, ap, subst, arith}, lemmas.Bool.Decides.nat_tests, lemmas.List.get_or-set_same, Math.ListN.length-set}
+use Rattle.rb_base.specs.{Nodes.{Side, other, has}, Nodes.Side.{Biu, Rmu}, Sizes.{Sizes, sync_slot_of}, declared.values.Heard.Heard, declared.values.Heard.TheVariants.Fault}
 use Rattle.rb_base.proofs.Plain.{less-differs}
-use Rattle.rb_rules.specs.declared.role.Role.{Role}
-use Rattle.rb_rules.specs.declared.sense.Sense.{Sense}
-use Rattle.rb_rules.specs.ExactStage.{says_of, says, keep_sent, at_source, votes_in, reference_value, owners_after, close_exact, taken_of_sender}
-use Rattle.rb_rules.specs.NodeState.{NodeState, trusted_of, sender_at}
-use Rattle.rb_rules.specs.NodeSteps.{close}
-use Rattle.rb_rules.specs.Owners.{owners_of}
-use Rattle.rb_rules.specs.Slots.{Sender, expects, role_of, sender_in}
-use Rattle.rb_rules.specs.Slots.Sender.{Nobody, Node}
-use Rattle.rb_rules.specs.Standing.{does_wrong, is_unlike}
-use Rattle.rb_rules.proofs.ExactStages.{idle_expects_nobody, vote_over_nothing}
-use Rattle.rb_rules.proofs.RoundStates.{Stays, stays-trans, keeping-stays, close-stays}
-use Rattle.rb_rules.proofs.Slots.{close-exact, other_twice}
-use Rattle.rb_rules.proofs.Votes.{closing_vote_is}
-use Rattle.rb_laws_agreement.specs.OneSlot.{Exchange, closes_in, state_after, takes_after, Brings, IsSpared, IsExchange, NoneIsAsymmetric, KeepsPremise, sender_of}
-use Rattle.rb_laws_agreement.specs.Values.{vote_on}
-use Rattle.rb_laws_agreement.proofs.Tests.{true_or_false}
-use Rattle.rb_laws_agreement.proofs.Goodnesses.{few_nodes, exact_role, single_sender}
-use Rattle.rb_laws_agreement.proofs.ExactWindows.{IsSingle, expects_who_speaks, expected_at, closing_at, IsSenseOf, takes_what_is_said, does_right, sent_by, with_sent, keeping-is, ExactClose, exact_close, spares_right, spares_alike}
-use Rattle.rb_laws_agreement.proofs.Exchanges.{trusted-either, far-trusted, eligible}
-use Rattle.rb_laws_agreement.proofs.JudgedWindows.{stays-trusted}
+use Rattle.rb_rules.specs.{declared.role.Role.Role, declared.sense.Sense.Sense, ExactStage.{says_of, says, keep_sent, at_source, votes_in, reference_value, owners_after, close_exact, taken_of_sender}, NodeState.{NodeState, trusted_of, sender_at}, NodeSteps.close, Owners.owners_of, Slots.{Sender, expects, role_of, sender_in}, Slots.Sender.{Nobody, Node}, Standing.{does_wrong, is_unlike}}
+use Rattle.rb_rules.proofs.{ExactStages.{idle_expects_nobody, vote_over_nothing}, RoundStates.{Stays, stays-trans, keeping-stays, close-stays}, Slots.{close-exact, other_twice}, Votes.closing_vote_is}
+use Rattle.rb_laws_agreement.specs.{OneSlot.{Exchange, closes_in, state_after, takes_after, Brings, IsSpared, IsExchange, NoneIsAsymmetric, KeepsPremise, sender_of}, Values.vote_on}
+use Rattle.rb_laws_agreement.proofs.{Tests.true_or_false, Goodnesses.{few_nodes, exact_role, single_sender}, ExactWindows.{IsSingle, expects_who_speaks, expected_at, closing_at, IsSenseOf, takes_what_is_said, does_right, sent_by, with_sent, keeping-is, ExactClose, exact_close, spares_right, spares_alike}, Exchanges.{trusted-either, far-trusted, eligible}, JudgedWindows.stays-trusted}
 
 -- what node `j` of kind `me` says in stage q + 1, and the vote of a node's close of that stage
 abbrev pub said : Exchange → ℕ → Side → ℕ → Option Heard

@@ -1,18 +1,9 @@
 -- The moments of a run by their places.
-use Rattle.std.proofs.Common.{◌≡◌, ℕ, ◌+◌, ◌-◌, ◌*◌, ◌<◌, ◌≤◌, true, false, List, inl, inr, sym, ◌∙◌, ap, arith}
-use Rattle.std.proofs.lemmas.Bool.{cases_order, false_from_ne_true}
-use Rattle.std.proofs.Math.Nat.{mul-le-mul_right, add-sub_of_le}
-use Rattle.rb_base.specs.Nodes.{Side}
-use Rattle.rb_base.specs.Sizes.{sync_slot_of}
-use Rattle.rb_rules.specs.Goodness.{Scenario, is_good}
-use Rattle.rb_rules.specs.Lawful.{IsLawful}
-use Rattle.rb_rules.specs.Moments.{before_stage, before_slot, IsRunning, IsComplete, IsGoodBefore}
-use Rattle.rb_rules.specs.NodeState.{NodeState}
-use Rattle.rb_rules.specs.Ports.{HandIn}
-use Rattle.rb_rules.specs.Rounds.{moment, windows_in}
+use Rattle.std.proofs.{Common.{◌≡◌, ℕ, ◌+◌, ◌-◌, ◌*◌, ◌<◌, ◌≤◌, true, false, List, inl, inr, sym, ◌∙◌, ap, arith}, lemmas.Bool.{cases_order, false_from_ne_true}, Math.Nat.{mul-le-mul_right, add-sub_of_le}}
+use Rattle.rb_base.specs.{Nodes.Side, Sizes.sync_slot_of}
+use Rattle.rb_rules.specs.{Goodness.{Scenario, is_good}, Lawful.IsLawful, Moments.{before_stage, before_slot, IsRunning, IsComplete, IsGoodBefore}, NodeState.NodeState, Ports.HandIn, Rounds.{moment, windows_in}}
 use Rattle.rb_rules.proofs.Books.{moments-on}
-use Rattle.rb_laws_agreement.proofs.Invariant.{Shared, IsGoodNode, slot_numbered, Agree}
-use Rattle.rb_laws_agreement.proofs.Agreement.{IsAgreed, agreement}
+use Rattle.rb_laws_agreement.proofs.{Invariant.{Shared, IsGoodNode, slot_numbered, Agree}, Agreement.{IsAgreed, agreement}}
 
 -- A number of steps is one place.
 

@@ -1,29 +1,9 @@
 -- A good BIU's port is what the bus's values and its hand-ins make of it.
-use Rattle.std.proofs.Common.{◌≡◌, ℕ, zero, suc, ◌+◌, ◌-◌, ◌*◌, ◌<◌, ◌≤◌, true, List, length, None, slice_get, get_or, inl, inr, sym, ◌∙◌, ap, subst, arith, lit<}
-use Rattle.std.proofs.lemmas.Bool.{cases_lt}
-use Rattle.rb_base.specs.Nodes.Side.{Biu}
-use Rattle.rb_base.specs.Sizes.{sync_slot_of}
-use Rattle.rb_rules.specs.Book.{of_kind}
-use Rattle.rb_rules.specs.Goodness.{Scenario, is_good}
-use Rattle.rb_rules.specs.Hearing.{port_at}
-use Rattle.rb_rules.specs.Lawful.{IsLawful}
-use Rattle.rb_rules.specs.Moments.{before_stage, before_slot, after_slot, IsRunning, IsComplete, IsReached}
-use Rattle.rb_rules.specs.Ports.{PortState, HandIn, fresh_port}
-use Rattle.rb_rules.specs.Rounds.{Moment, moment, step, windows_in}
-use Rattle.rb_laws_agreement.specs.Histories.{value_in_lines, delivered_in, with_delivery, states_for, with_states, port_through, port_begun, AreAlike}
-use Rattle.rb_laws_agreement.specs.Laws.{PortsFollowTheBus, PortsHoldOneState}
-use Rattle.rb_laws_agreement.proofs.Tests.{Present}
-use Rattle.rb_laws_agreement.proofs.Goodnesses.{good_counts, good_earlier, good_before}
-use Rattle.rb_laws_agreement.proofs.JudgedWindows.{rows_of, IsPassed, passed}
-use Rattle.rb_laws_agreement.proofs.NextMoments.{next}
-use Rattle.rb_laws_agreement.proofs.NodeWindows.{sync_windows_are, tail_windows}
-use Rattle.rb_laws_agreement.proofs.Settings.{item_at}
-use Rattle.rb_laws_agreement.proofs.SyncAgrees.{book_sync}
-use Rattle.rb_laws_agreement.proofs.Places.{IsPlaced, placed, complete_before, running_earlier}
-use Rattle.rb_laws_agreement.proofs.SlotRuns.{slot_runs, step_through, stage_next, next-frame}
-use Rattle.rb_laws_agreement.proofs.FrameBegins.{IsTurn, frame_turns}
-use Rattle.rb_laws_agreement.proofs.PortLists.{ports_long, first-port, turned-port}
-use Rattle.rb_laws_agreement.proofs.PortSlots.{slot_port, sync_port, sync_lines}
+use Rattle.std.proofs.{Common.{◌≡◌, ℕ, zero, suc, ◌+◌, ◌-◌, ◌*◌, ◌<◌, ◌≤◌, true, List, length, None, slice_get, get_or, inl, inr, sym, ◌∙◌, ap, subst, arith, lit<}, lemmas.Bool.cases_lt}
+use Rattle.rb_base.specs.{Nodes.Side.Biu, Sizes.sync_slot_of}
+use Rattle.rb_rules.specs.{Book.of_kind, Goodness.{Scenario, is_good}, Hearing.port_at, Lawful.IsLawful, Moments.{before_stage, before_slot, after_slot, IsRunning, IsComplete, IsReached}, Ports.{PortState, HandIn, fresh_port}, Rounds.{Moment, moment, step, windows_in}}
+use Rattle.rb_laws_agreement.specs.{Histories.{value_in_lines, delivered_in, with_delivery, states_for, with_states, port_through, port_begun, AreAlike}, Laws.{PortsFollowTheBus, PortsHoldOneState}}
+use Rattle.rb_laws_agreement.proofs.{Tests.Present, Goodnesses.{good_counts, good_earlier, good_before}, JudgedWindows.{rows_of, IsPassed, passed}, NextMoments.next, NodeWindows.{sync_windows_are, tail_windows}, Settings.item_at, SyncAgrees.book_sync, Places.{IsPlaced, placed, complete_before, running_earlier}, SlotRuns.{slot_runs, step_through, stage_next, next-frame}, FrameBegins.{IsTurn, frame_turns}, PortLists.{ports_long, first-port, turned-port}, PortSlots.{slot_port, sync_port, sync_lines}}
 
 -- The stages of a complete sync slot.
 

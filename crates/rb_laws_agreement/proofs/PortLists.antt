@@ -1,19 +1,8 @@
 -- Ports through a window, and as a frame begins.
-use Rattle.std.proofs.Common.{◌≡◌, ℕ, zero, suc, ◌+◌, ◌<◌, ◌==◌, ◌&&◌, nat_lt, Bool, true, false, cond, List, [], ◌∷◌, length, map, filter, Option, None, option_map, get_or, if◌then◌else◌, refl, sym, ◌∙◌, ap, arith}
-use Rattle.std.proofs.lemmas.Bool.Decides.{nat_tests}
-use Rattle.std.proofs.lemmas.List.FromFn.{length-map-range_with_len, get_or-map-range_with_len}
-use Rattle.std.proofs.lemmas.Option.{slice_get-get_or}
-use Rattle.std.proofs.Common.{zero-add}
-use Rattle.rb_base.specs.Counting.{numbers}
-use Rattle.rb_base.specs.Nodes.{Side}
-use Rattle.rb_base.specs.Nodes.Side.{Biu}
-use Rattle.rb_rules.specs.Book.{Each, Row, line_in}
-use Rattle.rb_rules.specs.Goodness.{Scenario}
-use Rattle.rb_rules.specs.Hearing.{port_at}
-use Rattle.rb_rules.specs.Ports.{PortState, HandIn, fresh_port, with_state, hand_over}
-use Rattle.rb_rules.specs.Rounds.{Moment, port_after, ports_after, after_window, begin_frame, first_moment, next_frame, step, moment, windows_in}
-use Rattle.rb_rules.proofs.Books.{stepped}
-use Rattle.rb_rules.proofs.WindowNumbers.{get-each, length-each}
+use Rattle.std.proofs.{Common.{◌≡◌, ℕ, zero, suc, ◌+◌, ◌<◌, ◌==◌, ◌&&◌, nat_lt, Bool, true, false, cond, List, [], ◌∷◌, length, map, filter, Option, None, option_map, get_or, if◌then◌else◌, refl, sym, ◌∙◌, ap, arith}, lemmas.Bool.Decides.nat_tests, lemmas.List.FromFn.{length-map-range_with_len, get_or-map-range_with_len}, lemmas.Option.slice_get-get_or, Common.zero-add}
+use Rattle.rb_base.specs.{Counting.numbers, Nodes.Side, Nodes.Side.Biu}
+use Rattle.rb_rules.specs.{Book.{Each, Row, line_in}, Goodness.Scenario, Hearing.port_at, Ports.{PortState, HandIn, fresh_port, with_state, hand_over}, Rounds.{Moment, port_after, ports_after, after_window, begin_frame, first_moment, next_frame, step, moment, windows_in}}
+use Rattle.rb_rules.proofs.{Books.stepped, WindowNumbers.{get-each, length-each}}
 use Rattle.rb_laws_agreement.specs.Histories.{states_for, with_states}
 use Rattle.rb_laws_agreement.proofs.Tests.{get-some}
 

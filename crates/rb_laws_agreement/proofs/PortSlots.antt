@@ -1,41 +1,10 @@
 -- The port of a good BIU through a slot: it takes what the bus delivers there.
-use Rattle.std.proofs.Common.{◌≡◌, ℕ, suc, ◌+◌, ◌<◌, ◌==◌, ◌&&◌, ◌||◌, nat_le, Bool, true, false, List, [], ◌∷◌, length, map, filter, filter_map, Option, Some, None, option_map, slice_get, get_or, cond, refl, sym, ◌∙◌, ap, subst, arith, zero-add}
+use Rattle.std.proofs.{Common.{◌≡◌, ℕ, suc, ◌+◌, ◌<◌, ◌==◌, ◌&&◌, ◌||◌, nat_le, Bool, true, false, List, [], ◌∷◌, length, map, filter, filter_map, Option, Some, None, option_map, slice_get, get_or, cond, refl, sym, ◌∙◌, ap, subst, arith, zero-add}, lemmas.List.Folds.list_any_at, lemmas.List.FromFn.{get_or-range_with_len, length-range_with_len}}
 use Rattle.std.specs.List.{list_any}
-use Rattle.std.proofs.lemmas.List.Folds.{list_any_at}
-use Rattle.std.proofs.lemmas.List.FromFn.{get_or-range_with_len, length-range_with_len}
-use Rattle.rb_base.specs.Counting.{numbers}
-use Rattle.rb_base.specs.Nodes.{Side}
-use Rattle.rb_base.specs.Nodes.Side.{Biu}
-use Rattle.rb_base.specs.Sizes.{Sizes, sync_slot_of}
-use Rattle.rb_base.specs.declared.values.Heard.{Heard}
-use Rattle.rb_rules.specs.declared.record.SlotLine.{SlotLine}
-use Rattle.rb_rules.specs.declared.sense.Sense.{Sense}
-use Rattle.rb_rules.specs.declared.role.Role.{Role}
-use Rattle.rb_rules.specs.declared.role.Role.TheVariants.{Schedule, Data, DiagBiu, DiagRmu, Sync}
-use Rattle.rb_rules.specs.Book.{of_kind, line_in}
-use Rattle.rb_rules.specs.Goodness.{Scenario, is_good}
-use Rattle.rb_rules.specs.Hearing.{port_at}
-use Rattle.rb_rules.specs.Moments.{before_slot, after_slot}
-use Rattle.rb_rules.specs.NodeState.{NodeState}
-use Rattle.rb_rules.specs.Ports.{PortState, HandIn, delivered_to}
-use Rattle.rb_rules.specs.Rounds.{Moment, Result, port_after, ports_after, after_window, moment, sent_in, close_on, go_through}
-use Rattle.rb_rules.specs.Slots.{Sender, sender_kind, role_of}
-use Rattle.rb_rules.specs.SyncStage.{close_sync, sync_outcome_of}
-use Rattle.rb_laws_agreement.specs.Histories.{value_in_lines, delivered_in, with_delivery}
-use Rattle.rb_laws_agreement.specs.Values.{lines_in}
-use Rattle.rb_laws_agreement.proofs.Tests.{get-some, Present}
-use Rattle.rb_laws_agreement.proofs.Goodnesses.{good_counts}
-use Rattle.rb_laws_agreement.proofs.Invariant.{Shared, sender_of, kind_in, IsGoodNode, is_good_now}
-use Rattle.rb_laws_agreement.proofs.JudgedWindows.{rows_of, row-at}
-use Rattle.rb_laws_agreement.proofs.NodeWindows.{Windows, own_window, kept_in, heard_in, sense_in}
-use Rattle.rb_laws_agreement.proofs.NextMoments.{next}
-use Rattle.rb_laws_agreement.proofs.Settings.{Setting, good_state}
-use Rattle.rb_laws_agreement.proofs.SecondStages.{vote_of}
-use Rattle.rb_laws_agreement.proofs.SyncWindows.{close-sync}
-use Rattle.rb_laws_agreement.proofs.SlotRuns.{IsSlot, good_in_stage, second_frame, third_frame}
-use Rattle.rb_laws_agreement.proofs.SlotValues.{value_of_slot, votes_for}
-use Rattle.rb_laws_agreement.proofs.Deliveries.{owner_sending, delivery_from, line_from, row_after, delivery-2, no-delivery, line-good, line-closed, none-delivered, row-of, lines_2, lines_after_2}
-use Rattle.rb_laws_agreement.proofs.PortLists.{port-after}
+use Rattle.rb_base.specs.{Counting.numbers, Nodes.Side, Nodes.Side.Biu, Sizes.{Sizes, sync_slot_of}, declared.values.Heard.Heard}
+use Rattle.rb_rules.specs.{declared.record.SlotLine.SlotLine, declared.sense.Sense.Sense, declared.role.Role.Role, declared.role.Role.TheVariants.{Schedule, Data, DiagBiu, DiagRmu, Sync}, Book.{of_kind, line_in}, Goodness.{Scenario, is_good}, Hearing.port_at, Moments.{before_slot, after_slot}, NodeState.NodeState, Ports.{PortState, HandIn, delivered_to}, Rounds.{Moment, Result, port_after, ports_after, after_window, moment, sent_in, close_on, go_through}, Slots.{Sender, sender_kind, role_of}, SyncStage.{close_sync, sync_outcome_of}}
+use Rattle.rb_laws_agreement.specs.{Histories.{value_in_lines, delivered_in, with_delivery}, Values.lines_in}
+use Rattle.rb_laws_agreement.proofs.{Tests.{get-some, Present}, Goodnesses.good_counts, Invariant.{Shared, sender_of, kind_in, IsGoodNode, is_good_now}, JudgedWindows.{rows_of, row-at}, NodeWindows.{Windows, own_window, kept_in, heard_in, sense_in}, NextMoments.next, Settings.{Setting, good_state}, SecondStages.vote_of, SyncWindows.close-sync, SlotRuns.{IsSlot, good_in_stage, second_frame, third_frame}, SlotValues.{value_of_slot, votes_for}, Deliveries.{owner_sending, delivery_from, line_from, row_after, delivery-2, no-delivery, line-good, line-closed, none-delivered, row-of, lines_2, lines_after_2}, PortLists.port-after}
 
 nothing-delivered : (sizes : Sizes) (me : Side) (st : NodeState) (stage first : ℕ) (sense : ℕ → Sense) → (close_sync sizes me st stage first sense).closed.delivered ≡ None
 unfolding close_sync sync_outcome_of

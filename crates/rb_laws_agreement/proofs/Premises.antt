@@ -1,20 +1,11 @@
 -- What a verdict that gives no cause says of the frame so far: of each kind the trusted good nodes
 -- outnumber the others of which something was taken, and of one kind none of these others was seen
 -- unlike.
-use Rattle.std.proofs.Common.{◌≡◌, ℕ, ◌+◌, ◌<◌, ◌≤◌, Bool, true, false, ◌&&◌, ◌||◌, not, if◌then◌else◌, Option, Some, None, List, refl, sym, ◌∙◌, ap, nat_lt, ◌⊎◌, inl, inr, arith}
-use Rattle.std.proofs.lemmas.Bool.{and_from, not_from_false}
-use Rattle.std.proofs.lemmas.Bool.Decides.{nat_tests}
-use Rattle.rb_base.specs.Nodes.{Side, has, set_of, size}
-use Rattle.rb_base.specs.Nodes.Side.{Biu, Rmu}
-use Rattle.rb_base.proofs.Plain.{none_below}
-use Rattle.rb_base.proofs.Sets.{has-set_of, same_set_of}
-use Rattle.rb_base.proofs.SetSizes.{size_some, size_within_two}
-use Rattle.rb_rules.specs.declared.cause.Cause.{Cause}
-use Rattle.rb_rules.specs.declared.cause.Cause.TheVariants.{FewGoodBiu, FewGoodRmu, TwoSided}
-use Rattle.rb_rules.specs.Goodness.{Scenario, is_good, good_at}
-use Rattle.rb_rules.specs.Judging.{JudgedStage, ClassSets, good_now, trusted_now, is_suspect, is_asymmetric, is_benign, classes_of, are_few_good, some_asymmetric, cause_of, verdict_of}
-use Rattle.rb_laws_agreement.proofs.Tests.{true_or_false}
-use Rattle.rb_laws_agreement.proofs.Numbers.{how_many, how_many-is}
+use Rattle.std.proofs.{Common.{◌≡◌, ℕ, ◌+◌, ◌<◌, ◌≤◌, Bool, true, false, ◌&&◌, ◌||◌, not, if◌then◌else◌, Option, Some, None, List, refl, sym, ◌∙◌, ap, nat_lt, ◌⊎◌, inl, inr, arith}, lemmas.Bool.{and_from, not_from_false}, lemmas.Bool.Decides.nat_tests}
+use Rattle.rb_base.specs.{Nodes.{Side, has, set_of, size}, Nodes.Side.{Biu, Rmu}}
+use Rattle.rb_base.proofs.{Plain.none_below, Sets.{has-set_of, same_set_of}, SetSizes.{size_some, size_within_two}}
+use Rattle.rb_rules.specs.{declared.cause.Cause.Cause, declared.cause.Cause.TheVariants.{FewGoodBiu, FewGoodRmu, TwoSided}, Goodness.{Scenario, is_good, good_at}, Judging.{JudgedStage, ClassSets, good_now, trusted_now, is_suspect, is_asymmetric, is_benign, classes_of, are_few_good, some_asymmetric, cause_of, verdict_of}}
+use Rattle.rb_laws_agreement.proofs.{Tests.true_or_false, Numbers.{how_many, how_many-is}}
 
 -- a trusted node that is not good and of which something was taken in the frame
 abbrev pub is_active : Scenario → Side → ℕ → ℕ → (Side → ℕ) → List JudgedStage → ℕ → Bool

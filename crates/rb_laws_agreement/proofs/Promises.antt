@@ -1,35 +1,10 @@
 -- What follows for those who use the bus: one value for all, the owner's word, one schedule, the
 -- same convicted nodes.
 use Rattle.std.proofs.Common.{◌≡◌, ℕ, ◌&&◌, nat_lt, not, true, List, Option, Some, None, slice_get, refl, sym, ◌∙◌, ap, subst}
-use Rattle.rb_base.specs.Nodes.{has, set_of}
-use Rattle.rb_base.specs.Nodes.Side.{Biu}
-use Rattle.rb_base.specs.declared.values.Heard.{Heard}
-use Rattle.rb_base.specs.declared.values.Heard.TheVariants.{Word}
-use Rattle.rb_rules.specs.declared.role.Role.{Role}
-use Rattle.rb_rules.specs.declared.role.Role.TheVariants.{Schedule, Data, DiagBiu, DiagRmu, Sync}
-use Rattle.rb_rules.specs.Book.{of_kind}
-use Rattle.rb_rules.specs.ExactStage.{own_value}
-use Rattle.rb_rules.specs.Goodness.{Scenario}
-use Rattle.rb_rules.specs.Headline.{lines_of, HasRecord, DeliversOneValue, DeliverAlike, DeliverTheWord, ConvictAlike}
-use Rattle.rb_rules.specs.Hearing.{word_for}
-use Rattle.rb_rules.specs.Lawful.{IsLawful}
-use Rattle.rb_rules.specs.Moments.{before_slot, IsGoodBefore, offered_in}
-use Rattle.rb_rules.specs.NodeState.{sender_at}
-use Rattle.rb_rules.specs.NodeSteps.{owner_at}
-use Rattle.rb_rules.specs.Ports.{HandIn}
-use Rattle.rb_rules.specs.Rounds.{Moment}
-use Rattle.rb_rules.specs.Slots.{Sender, sender_kind, role_of, count_of}
-use Rattle.rb_rules.specs.Slots.Sender.{Nobody, Node, EachTrusted}
-use Rattle.rb_laws_agreement.specs.Values.{lines_in, IsGoodSender}
-use Rattle.rb_laws_agreement.specs.Laws.{DeliveriesAreRight, GoodNodesHoldOneSchedule}
-use Rattle.rb_laws_agreement.proofs.Tests.{Present}
-use Rattle.rb_laws_agreement.proofs.Invariant.{sender_of, IsGoodNode, is_good_now}
-use Rattle.rb_laws_agreement.proofs.Deliveries.{owner_sending, owner-held}
-use Rattle.rb_laws_agreement.proofs.Exchanges.{sender-held, trusted-either}
-use Rattle.rb_laws_agreement.proofs.Settings.{good_state}
-use Rattle.rb_laws_agreement.proofs.SlotLaws.{one-schedule, trust-alike}
-use Rattle.rb_laws_agreement.proofs.SlotRuns.{IsSlot, slot_runs, good_in_stage}
-use Rattle.rb_laws_agreement.proofs.SlotValues.{value_of_slot, has_value, own-value}
+use Rattle.rb_base.specs.{Nodes.{has, set_of}, Nodes.Side.Biu, declared.values.Heard.Heard, declared.values.Heard.TheVariants.Word}
+use Rattle.rb_rules.specs.{declared.role.Role.Role, declared.role.Role.TheVariants.{Schedule, Data, DiagBiu, DiagRmu, Sync}, Book.of_kind, ExactStage.own_value, Goodness.Scenario, Headline.{lines_of, HasRecord, DeliversOneValue, DeliverAlike, DeliverTheWord, ConvictAlike}, Hearing.word_for, Lawful.IsLawful, Moments.{before_slot, IsGoodBefore, offered_in}, NodeState.sender_at, NodeSteps.owner_at, Ports.HandIn, Rounds.Moment, Slots.{Sender, sender_kind, role_of, count_of}, Slots.Sender.{Nobody, Node, EachTrusted}}
+use Rattle.rb_laws_agreement.specs.{Values.{lines_in, IsGoodSender}, Laws.{DeliveriesAreRight, GoodNodesHoldOneSchedule}}
+use Rattle.rb_laws_agreement.proofs.{Tests.Present, Invariant.{sender_of, IsGoodNode, is_good_now}, Deliveries.{owner_sending, owner-held}, Exchanges.{sender-held, trusted-either}, Settings.good_state, SlotLaws.{one-schedule, trust-alike}, SlotRuns.{IsSlot, slot_runs, good_in_stage}, SlotValues.{value_of_slot, has_value, own-value}}
 
 one-value : (sc : Scenario) (hands : List HandIn) (frame slot : ℕ) (owner : Option ℕ) (value : Heard) → HasRecord sc hands frame slot (lines_in sc frame slot owner value)
     → DeliversOneValue sc hands frame slot owner

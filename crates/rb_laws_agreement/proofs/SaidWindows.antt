@@ -1,14 +1,8 @@
 -- What is heard from nodes that are not good, whatever they do.
-use Rattle.std.proofs.Common.{◌≡◌, ℕ, zero, suc, ◌<◌, ◌≤◌, ◌^◌, ◌&&◌, nat_le, nat_lt, Bool, true, false, cond, List, [], ◌∷◌, map, filter, refl, ap, ◌∙◌, sym, arith}
+use Rattle.std.proofs.{Common.{◌≡◌, ℕ, zero, suc, ◌<◌, ◌≤◌, ◌^◌, ◌&&◌, nat_le, nat_lt, Bool, true, false, cond, List, [], ◌∷◌, map, filter, refl, ap, ◌∙◌, sym, arith}, lemmas.Bool.{and_parts, leb-true, ltb-true}, lemmas.List.Elements.{All-cons, All-nil}}
 use Rattle.std.specs.Prelude.{All}
-use Rattle.std.proofs.lemmas.Bool.{and_parts, leb-true, ltb-true}
-use Rattle.std.proofs.lemmas.List.Elements.{All-cons, All-nil}
 use Rattle.rb_base.specs.Nodes.{Side, other}
-use Rattle.rb_rules.specs.Behavior.{Said, are_bytes, is_after_previous, is_within}
-use Rattle.rb_rules.specs.Clock.{Timeline, time_of}
-use Rattle.rb_rules.specs.Goodness.{Scenario, clock_of}
-use Rattle.rb_rules.specs.Hearing.{Coming, Span, is_heard, said_by}
-use Rattle.rb_rules.specs.Slots.{count_of}
+use Rattle.rb_rules.specs.{Behavior.{Said, are_bytes, is_after_previous, is_within}, Clock.{Timeline, time_of}, Goodness.{Scenario, clock_of}, Hearing.{Coming, Span, is_heard, said_by}, Slots.count_of}
 
 -- what comes from source j to node i of a kind in a window: bytes of a node of the bus, with the
 -- stamp of a tick of the window

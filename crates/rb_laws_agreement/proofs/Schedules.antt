@@ -1,15 +1,9 @@
 -- The schedule: equal votes give equal owners, and each owner is trusted.
-use Rattle.std.proofs.Common.{◌≡◌, ℕ, zero, suc, ◌+◌, ◌<◌, ◌≤◌, ◌&&◌, nat_lt, Bool, true, false, cond, List, [], ◌∷◌, ◌++◌, length, map, take, filter, Some, slice_get, get_or, refl, sym, ◌∙◌, ap, subst, arith}
+use Rattle.std.proofs.{Common.{◌≡◌, ℕ, zero, suc, ◌+◌, ◌<◌, ◌≤◌, ◌&&◌, nat_lt, Bool, true, false, cond, List, [], ◌∷◌, ◌++◌, length, map, take, filter, Some, slice_get, get_or, refl, sym, ◌∙◌, ap, subst, arith}, lemmas.Option.same_Some}
 use Rattle.std.specs.List.{flat_map, range_with_len}
-use Rattle.std.proofs.lemmas.Option.{same_Some}
-use Rattle.rb_base.specs.Counting.{numbers}
-use Rattle.rb_base.specs.Nodes.{has}
-use Rattle.rb_base.specs.Sizes.{Sizes}
-use Rattle.rb_base.specs.declared.values.Heard.{Heard}
-use Rattle.rb_base.specs.declared.values.Heard.TheVariants.{Fault}
+use Rattle.rb_base.specs.{Counting.numbers, Nodes.has, Sizes.Sizes, declared.values.Heard.Heard, declared.values.Heard.TheVariants.Fault}
 use Rattle.rb_base.proofs.Plain.{and_first}
-use Rattle.rb_rules.specs.Owners.{request_in, owners_in_pass, owners_of}
-use Rattle.rb_rules.specs.Slots.{role_of, sender_in}
+use Rattle.rb_rules.specs.{Owners.{request_in, owners_in_pass, owners_of}, Slots.{role_of, sender_in}}
 use Rattle.rb_rules.proofs.Slots.{schedule_role}
 
 -- `P` holds for each item of the list

@@ -1,50 +1,11 @@
 -- Stage 2 of a slot: after it the good nodes of the sender's kind hold one vote.
-use Rattle.std.proofs.Common.{◌≡◌, ℕ, ◌+◌, ◌*◌, ◌<◌, ◌==◌, ◌&&◌, ◌||◌, not, nat_lt, Bool, true, false, List, [], ◌∷◌, length, map, inl, inr, Option, Some, None, unwrap_or, slice_get, slice_set, get_or, if◌then◌else◌, refl, sym, ◌∙◌, ap, subst, arith}
-use Rattle.std.specs.Prelude.{IfSome}
-use Rattle.std.specs.List.{list_any, cons_option}
-use Rattle.std.proofs.lemmas.Bool.{eqb-true}
-use Rattle.std.proofs.lemmas.List.{get_or-set_same}
-use Rattle.std.proofs.lemmas.Option.{same_Some}
-use Rattle.rb_base.specs.Counting.{numbers}
-use Rattle.rb_base.specs.Nodes.{Side, other, has}
-use Rattle.rb_base.specs.Nodes.Side.{Biu, Rmu}
-use Rattle.rb_base.specs.Sizes.{sync_slot_of}
-use Rattle.rb_base.specs.declared.values.Heard.{Heard}
-use Rattle.rb_base.specs.declared.values.Heard.TheVariants.{Fault}
+use Rattle.std.proofs.{Common.{◌≡◌, ℕ, ◌+◌, ◌*◌, ◌<◌, ◌==◌, ◌&&◌, ◌||◌, not, nat_lt, Bool, true, false, List, [], ◌∷◌, length, map, inl, inr, Option, Some, None, unwrap_or, slice_get, slice_set, get_or, if◌then◌else◌, refl, sym, ◌∙◌, ap, subst, arith}, lemmas.Bool.eqb-true, lemmas.List.get_or-set_same, lemmas.Option.same_Some}
+use Rattle.std.specs.{Prelude.IfSome, List.{list_any, cons_option}}
+use Rattle.rb_base.specs.{Counting.numbers, Nodes.{Side, other, has}, Nodes.Side.{Biu, Rmu}, Sizes.sync_slot_of, declared.values.Heard.Heard, declared.values.Heard.TheVariants.Fault}
 use Rattle.rb_base.proofs.Plain.{and_first, and_second, none-if}
-use Rattle.rb_rules.specs.declared.role.Role.{Role}
-use Rattle.rb_rules.specs.declared.sense.Sense.{Sense}
-use Rattle.rb_rules.specs.Book.{of_kind, judged_of}
-use Rattle.rb_rules.specs.ExactStage.{says, present, closing_of, votes_in, is_sender}
-use Rattle.rb_rules.specs.Goodness.{Scenario, is_good}
-use Rattle.rb_rules.specs.Judging.{JudgedStage, was_taken, was_unlike, is_asymmetric, is_benign}
-use Rattle.rb_rules.specs.Majority.{winner_among, times}
-use Rattle.rb_rules.specs.NodeState.{NodeState, sender_at}
-use Rattle.rb_rules.specs.Ports.{HandIn}
-use Rattle.rb_rules.specs.Rounds.{Moment}
-use Rattle.rb_rules.specs.Sense.{value_in}
-use Rattle.rb_rules.specs.Slots.{Sender, same_side, sender_kind, listens, expects, role_of}
-use Rattle.rb_rules.specs.Slots.Sender.{Nobody, Node, EachTrusted}
-use Rattle.rb_rules.specs.Standing.{Standing, taken_of, is_unlike}
-use Rattle.rb_rules.proofs.ExactStages.{idle_expects_nobody, vote_over_nothing}
-use Rattle.rb_rules.proofs.Senses.{IsCarried}
-use Rattle.rb_rules.proofs.Slots.{one_or_other, other_twice, same_side-is}
-use Rattle.rb_rules.proofs.Votes.{same_vote}
-use Rattle.rb_laws_agreement.proofs.Tests.{true_or_false, Present, Passing, or_neither_second}
-use Rattle.rb_laws_agreement.proofs.Numbers.{one_of_many}
-use Rattle.rb_laws_agreement.proofs.Premises.{Premise, is_sound}
-use Rattle.rb_laws_agreement.proofs.Goodnesses.{few_nodes, exact_role, single_sender}
-use Rattle.rb_laws_agreement.proofs.Invariant.{Shared, sender_of, kind_in, IsGoodNode, is_good_now, IsOwn, GoodSent, HasRelays, HasVoted}
-use Rattle.rb_laws_agreement.proofs.ExactWindows.{IsSingle, expected_at, closing_at}
-use Rattle.rb_laws_agreement.proofs.Exchanges.{sender-held}
-use Rattle.rb_laws_agreement.proofs.NodeWindows.{Windows, sense_in, word_at}
-use Rattle.rb_laws_agreement.proofs.StageVotes.{one_voice}
-use Rattle.rb_laws_agreement.proofs.Senders.{sender_is_trusted}
-use Rattle.rb_laws_agreement.proofs.Speaking.{IsOnly, only-fits, only-alike, says_got, says_nothing, got_is_said, listens_second, voters_listen}
-use Rattle.rb_laws_agreement.proofs.Settings.{Setting, windows, stages_with, good_here, good_state, premise, AllCarried, all_heard, all_seen, all_alike, taken, after, Closed, closes, NoneUnlike}
-use Rattle.rb_laws_agreement.proofs.Carrying.{all_carried}
-use Rattle.rb_laws_agreement.proofs.JudgedWindows.{rows_of}
-use Rattle.rb_laws_agreement.proofs.NextMoments.{next, was_good, CameFrom, came_from, stages_after, own_next}
+use Rattle.rb_rules.specs.{declared.role.Role.Role, declared.sense.Sense.Sense, Book.{of_kind, judged_of}, ExactStage.{says, present, closing_of, votes_in, is_sender}, Goodness.{Scenario, is_good}, Judging.{JudgedStage, was_taken, was_unlike, is_asymmetric, is_benign}, Majority.{winner_among, times}, NodeState.{NodeState, sender_at}, Ports.HandIn, Rounds.Moment, Sense.value_in, Slots.{Sender, same_side, sender_kind, listens, expects, role_of}, Slots.Sender.{Nobody, Node, EachTrusted}, Standing.{Standing, taken_of, is_unlike}}
+use Rattle.rb_rules.proofs.{ExactStages.{idle_expects_nobody, vote_over_nothing}, Senses.IsCarried, Slots.{one_or_other, other_twice, same_side-is}, Votes.same_vote}
+use Rattle.rb_laws_agreement.proofs.{Tests.{true_or_false, Present, Passing, or_neither_second}, Numbers.one_of_many, Premises.{Premise, is_sound}, Goodnesses.{few_nodes, exact_role, single_sender}, Invariant.{Shared, sender_of, kind_in, IsGoodNode, is_good_now, IsOwn, GoodSent, HasRelays, HasVoted}, ExactWindows.{IsSingle, expected_at, closing_at}, Exchanges.sender-held, NodeWindows.{Windows, sense_in, word_at}, StageVotes.one_voice, Senders.sender_is_trusted, Speaking.{IsOnly, only-fits, only-alike, says_got, says_nothing, got_is_said, listens_second, voters_listen}, Settings.{Setting, windows, stages_with, good_here, good_state, premise, AllCarried, all_heard, all_seen, all_alike, taken, after, Closed, closes, NoneUnlike}, Carrying.all_carried, JudgedWindows.rows_of, NextMoments.{next, was_good, CameFrom, came_from, stages_after, own_next}}
 
 pub relays : (sc : Scenario) (hands : List HandIn) (n : ℕ) (m : Moment) (s : Shared) (slot : ℕ) → Setting sc hands n m s slot 1 → HasRelays sc hands m s slot
 relays sc hands n m s slot c = c.agree.relayed slot c.below c.at

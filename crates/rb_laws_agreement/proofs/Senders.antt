@@ -1,11 +1,7 @@
 -- The sender of a slot is a trusted node.
 use Rattle.std.proofs.Common.{◌≡◌, ℕ, Bool, true, false, List, Option, Some, None, slice_get, if◌then◌else◌, refl, sym, ◌∙◌, ap}
-use Rattle.rb_base.specs.Nodes.{Side, has}
-use Rattle.rb_base.specs.Nodes.Side.{Biu, Rmu}
-use Rattle.rb_rules.specs.declared.role.Role.{Role}
-use Rattle.rb_rules.specs.declared.role.Role.TheVariants.{Schedule, Data, DiagBiu, DiagRmu, Sync}
-use Rattle.rb_rules.specs.Slots.{sender_kind, if_trusted, if_owned, sender_in}
-use Rattle.rb_rules.specs.Slots.Sender.{Nobody, Node}
+use Rattle.rb_base.specs.{Nodes.{Side, has}, Nodes.Side.{Biu, Rmu}}
+use Rattle.rb_rules.specs.{declared.role.Role.Role, declared.role.Role.TheVariants.{Schedule, Data, DiagBiu, DiagRmu, Sync}, Slots.{sender_kind, if_trusted, if_owned, sender_in}, Slots.Sender.{Nobody, Node}}
 
 pub same_node : (a b : ℕ) → Node a ≡ Node b → a ≡ b
 same_node a b h = cc

@@ -2,31 +2,10 @@
 -- what holds of it whatever its stage.
 use Rattle.std.proofs.Common.{◌≡◌, ℕ, zero, suc, ◌+◌, ◌*◌, ◌<◌, true, false, List, [], ◌∷◌, length, Option, Some, is_some, slice_get, refl, sym, ◌∙◌, ap, arith}
 use Rattle.std.specs.Prelude.{IfSome}
-use Rattle.rb_base.specs.Nodes.{Side, other, has}
-use Rattle.rb_base.specs.Sizes.{sync_slot_of}
-use Rattle.rb_base.specs.declared.values.Heard.{Heard}
-use Rattle.rb_rules.specs.declared.sense.Sense.{Sense}
-use Rattle.rb_rules.specs.Book.{of_kind, judged_of}
-use Rattle.rb_rules.specs.ExactStage.{Outcome, says, reference_value}
-use Rattle.rb_rules.specs.Goodness.{Scenario, is_good}
-use Rattle.rb_rules.specs.Judging.{JudgedStage, is_asymmetric}
-use Rattle.rb_rules.specs.Lawful.{IsLawful}
-use Rattle.rb_rules.specs.NodeState.{NodeState, sender_at}
-use Rattle.rb_rules.specs.NodeSteps.{close}
-use Rattle.rb_rules.specs.Ports.{HandIn}
-use Rattle.rb_rules.specs.Rounds.{Moment, window_in, sent_in, go_through}
-use Rattle.rb_rules.specs.Slots.{count_of, role_of}
-use Rattle.rb_rules.specs.Standing.{is_unlike}
+use Rattle.rb_base.specs.{Nodes.{Side, other, has}, Sizes.sync_slot_of, declared.values.Heard.Heard}
+use Rattle.rb_rules.specs.{declared.sense.Sense.Sense, Book.{of_kind, judged_of}, ExactStage.{Outcome, says, reference_value}, Goodness.{Scenario, is_good}, Judging.{JudgedStage, is_asymmetric}, Lawful.IsLawful, NodeState.{NodeState, sender_at}, NodeSteps.close, Ports.HandIn, Rounds.{Moment, window_in, sent_in, go_through}, Slots.{count_of, role_of}, Standing.is_unlike}
 use Rattle.rb_rules.proofs.Senses.{IsCarried}
-use Rattle.rb_laws_agreement.proofs.Tests.{Present}
-use Rattle.rb_laws_agreement.proofs.Premises.{Premise}
-use Rattle.rb_laws_agreement.proofs.NodeWindows.{Windows, HasTick, word_at, kept_in, sense_in, exact_windows, exact_tick, goes, state-closed}
-use Rattle.rb_laws_agreement.proofs.ExactWindows.{ExactClose, take_at, expected_at, closing_at, sent_by, with_sent, spares_right, spares_alike}
-use Rattle.rb_laws_agreement.proofs.JudgedWindows.{rows_of, IsPassed, premise_after}
-use Rattle.rb_laws_agreement.proofs.Invariant.{Shared, IsGoodNode, is_good_now, slot_numbered, Holds, Agree}
-use Rattle.rb_laws_agreement.proofs.Goodnesses.{good_below_16, good_counts, slot_here}
-use Rattle.rb_laws_agreement.proofs.Exchanges.{IsHeard, far-held, good_heard, closes_exactly, taken_is_seen, alike_is_same, taken_is_trusted}
-use Rattle.rb_laws_agreement.proofs.StageVotes.{IsSeen}
+use Rattle.rb_laws_agreement.proofs.{Tests.Present, Premises.Premise, NodeWindows.{Windows, HasTick, word_at, kept_in, sense_in, exact_windows, exact_tick, goes, state-closed}, ExactWindows.{ExactClose, take_at, expected_at, closing_at, sent_by, with_sent, spares_right, spares_alike}, JudgedWindows.{rows_of, IsPassed, premise_after}, Invariant.{Shared, IsGoodNode, is_good_now, slot_numbered, Holds, Agree}, Goodnesses.{good_below_16, good_counts, slot_here}, Exchanges.{IsHeard, far-held, good_heard, closes_exactly, taken_is_seen, alike_is_same, taken_is_trusted}, StageVotes.IsSeen}
 
 -- moment `m` is before stage q + 1 of `slot`, and all good nodes agree in it
 pub record Setting (sc : Scenario) (hands : List HandIn) (n : ℕ) (m : Moment) (s : Shared) (slot q : ℕ) : Type 0 where

@@ -1,24 +1,8 @@
 -- What all good nodes hold in common is what the abstract bus holds.
-use Rattle.std.proofs.Common.{◌≡◌, ℕ, zero, suc, ◌+◌, ◌<◌, ◌==◌, nat_lt, Bool, true, false, List, [], ◌∷◌, ◌++◌, length, length-append, map, take, get_or, if◌then◌else◌, inl, inr, refl, sym, ◌∙◌, ap, subst, arith}
-use Rattle.std.proofs.lemmas.Bool.{cases_lt, eqb-true}
-use Rattle.rb_base.specs.Counting.{numbers}
-use Rattle.rb_base.specs.Nodes.{Side, other, has, set_of}
-use Rattle.rb_base.specs.Nodes.Side.{Biu, Rmu}
-use Rattle.rb_base.specs.Sizes.{Sizes, sync_slot_of}
-use Rattle.rb_base.specs.declared.values.Heard.{Heard}
-use Rattle.rb_base.specs.declared.values.Heard.TheVariants.{Fault}
-use Rattle.rb_rules.specs.AbstractBus.{AbstractBus, trusted_on, first_bus, sender_on, bus_after_slot, convicted_on, bus_after_frame}
-use Rattle.rb_rules.specs.Conviction.{convicted_by}
-use Rattle.rb_rules.specs.Goodness.{Scenario}
-use Rattle.rb_rules.specs.Owners.{owners_of}
-use Rattle.rb_rules.specs.Slots.{count_of, first_diagnosis_of, role_of, sender_in}
-use Rattle.rb_rules.specs.Standing.{without}
-use Rattle.rb_laws_agreement.proofs.ExactAgrees.{with_value, same-trusted, owners-slot, value-at, value-before}
-use Rattle.rb_laws_agreement.proofs.FrameAgrees.{first_shared, first-shared-trusted, first-shared-owners, shared_next, next-trusted, next-owners}
-use Rattle.rb_laws_agreement.proofs.FrameTurns.{convicted_all}
-use Rattle.rb_laws_agreement.proofs.Invariant.{Shared, sender_of}
-use Rattle.rb_laws_agreement.proofs.Schedules.{take-are}
-use Rattle.rb_laws_agreement.proofs.Vectors.{vector_slot, vector_slot-lt, convicted_same}
+use Rattle.std.proofs.{Common.{◌≡◌, ℕ, zero, suc, ◌+◌, ◌<◌, ◌==◌, nat_lt, Bool, true, false, List, [], ◌∷◌, ◌++◌, length, length-append, map, take, get_or, if◌then◌else◌, inl, inr, refl, sym, ◌∙◌, ap, subst, arith}, lemmas.Bool.{cases_lt, eqb-true}}
+use Rattle.rb_base.specs.{Counting.numbers, Nodes.{Side, other, has, set_of}, Nodes.Side.{Biu, Rmu}, Sizes.{Sizes, sync_slot_of}, declared.values.Heard.Heard, declared.values.Heard.TheVariants.Fault}
+use Rattle.rb_rules.specs.{AbstractBus.{AbstractBus, trusted_on, first_bus, sender_on, bus_after_slot, convicted_on, bus_after_frame}, Conviction.convicted_by, Goodness.Scenario, Owners.owners_of, Slots.{count_of, first_diagnosis_of, role_of, sender_in}, Standing.without}
+use Rattle.rb_laws_agreement.proofs.{ExactAgrees.{with_value, same-trusted, owners-slot, value-at, value-before}, FrameAgrees.{first_shared, first-shared-trusted, first-shared-owners, shared_next, next-trusted, next-owners}, FrameTurns.convicted_all, Invariant.{Shared, sender_of}, Schedules.take-are, Vectors.{vector_slot, vector_slot-lt, convicted_same}}
 
 -- the bus holds what all good nodes do before a slot
 pub record IsBusOf (s : Shared) (frame slot : ℕ) (bus : AbstractBus) : Type 0 where

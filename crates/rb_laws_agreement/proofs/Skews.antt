@@ -1,19 +1,8 @@
 -- If times are kept, good nodes begin slots near each other, and all that the bus promises holds.
 use Rattle.std.proofs.Common.{◌≡◌, ℕ, ◌+◌, ◌-◌, ◌*◌, ◌<◌, ◌≤◌, List, ◌∙◌, ap, arith}
-use Rattle.rb_rules.specs.declared.plan.Plan.{Plan}
-use Rattle.rb_rules.specs.Goodness.{Scenario}
-use Rattle.rb_rules.specs.Headline.{BeginSlotsNear}
-use Rattle.rb_rules.specs.Lawful.{IsLawful}
-use Rattle.rb_rules.specs.Moments.{time_in_frame}
-use Rattle.rb_rules.specs.Plan.{shortest_of, longest_of, drift_in}
-use Rattle.rb_rules.specs.Ports.{HandIn}
-use Rattle.rb_laws_agreement.specs.Laws.{TimeIsAllThatIsLeft, TimeKeepsThePromise}
-use Rattle.rb_laws_agreement.specs.Times.{KeepsTime}
-use Rattle.rb_laws_agreement.proofs.BeginTimes.{IsInTime, BeginsInTime}
-use Rattle.rb_laws_agreement.proofs.BusStands.{stands_in_time}
-use Rattle.rb_laws_agreement.proofs.FrameTimes.{first_time, begins_in_time}
-use Rattle.rb_laws_agreement.proofs.Promises.{deliver-alike, deliver-word, convict-alike}
-use Rattle.rb_laws_agreement.proofs.SlotLaws.{one-schedule, none_convicted}
+use Rattle.rb_rules.specs.{declared.plan.Plan.Plan, Goodness.Scenario, Headline.BeginSlotsNear, Lawful.IsLawful, Moments.time_in_frame, Plan.{shortest_of, longest_of, drift_in}, Ports.HandIn}
+use Rattle.rb_laws_agreement.specs.{Laws.{TimeIsAllThatIsLeft, TimeKeepsThePromise}, Times.KeepsTime}
+use Rattle.rb_laws_agreement.proofs.{BeginTimes.{IsInTime, BeginsInTime}, BusStands.stands_in_time, FrameTimes.{first_time, begins_in_time}, Promises.{deliver-alike, deliver-word, convict-alike}, SlotLaws.{one-schedule, none_convicted}}
 
 -- n of the longest ticks take longer than n of the shortest ones by the drift in n ticks
 ticks-drift : (plan : Plan) (n : ℕ) → plan.r < plan.u → n * longest_of plan ≡ n * shortest_of plan + drift_in plan n

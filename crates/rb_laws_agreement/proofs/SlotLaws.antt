@@ -1,32 +1,10 @@
 -- What good nodes hold before a slot, and whom they accuse after it.
-use Rattle.std.proofs.Common.{◌≡◌, ℕ, suc, ◌+◌, ◌-◌, ◌*◌, ◌<◌, ◌≤◌, ◌&&◌, nat_lt, not, true, List, slice_get, inl, inr, sym, ◌∙◌, ap, subst, arith, lit<}
-use Rattle.std.proofs.lemmas.Bool.{and_right, cases_lt}
-use Rattle.rb_base.specs.Nodes.{Side, other, has}
-use Rattle.rb_base.specs.Sizes.{sync_slot_of}
+use Rattle.std.proofs.{Common.{◌≡◌, ℕ, suc, ◌+◌, ◌-◌, ◌*◌, ◌<◌, ◌≤◌, ◌&&◌, nat_lt, not, true, List, slice_get, inl, inr, sym, ◌∙◌, ap, subst, arith, lit<}, lemmas.Bool.{and_right, cases_lt}}
+use Rattle.rb_base.specs.{Nodes.{Side, other, has}, Sizes.sync_slot_of}
 use Rattle.rb_base.proofs.Sets.{has-set_of}
-use Rattle.rb_rules.specs.Book.{of_kind}
-use Rattle.rb_rules.specs.Goodness.{Scenario, is_good}
-use Rattle.rb_rules.specs.Headline.{HoldOneSchedule}
-use Rattle.rb_rules.specs.Lawful.{IsLawful}
-use Rattle.rb_rules.specs.Moments.{before_stage, before_slot, after_slot, IsRunning, IsComplete, IsGoodBefore, IsGoodAfter}
-use Rattle.rb_rules.specs.NodeState.{NodeState, trusted_of}
-use Rattle.rb_rules.specs.Ports.{HandIn}
-use Rattle.rb_rules.specs.Rounds.{Moment, step}
-use Rattle.rb_rules.specs.Slots.{count_of}
-use Rattle.rb_rules.specs.StandsFor.{SparesAllGood}
+use Rattle.rb_rules.specs.{Book.of_kind, Goodness.{Scenario, is_good}, Headline.HoldOneSchedule, Lawful.IsLawful, Moments.{before_stage, before_slot, after_slot, IsRunning, IsComplete, IsGoodBefore, IsGoodAfter}, NodeState.{NodeState, trusted_of}, Ports.HandIn, Rounds.{Moment, step}, Slots.count_of, StandsFor.SparesAllGood}
 use Rattle.rb_laws_agreement.specs.Laws.{TrustAlike, NoGoodNodeIsAccused, NoGoodNodeIsConvicted}
-use Rattle.rb_laws_agreement.proofs.Invariant.{Shared, is_good_now, slot_numbered, Holds}
-use Rattle.rb_laws_agreement.proofs.Goodnesses.{good_below_16, slot_last}
-use Rattle.rb_laws_agreement.proofs.JudgedWindows.{rows_of, IsPassed, passed}
-use Rattle.rb_laws_agreement.proofs.Exchanges.{trusted-either}
-use Rattle.rb_laws_agreement.proofs.NodeWindows.{Windows, sync_windows_are}
-use Rattle.rb_laws_agreement.proofs.NextMoments.{next}
-use Rattle.rb_laws_agreement.proofs.Settings.{SparesNode, all_spared, after}
-use Rattle.rb_laws_agreement.proofs.ThirdStages.{carried_3, none_unlike_3}
-use Rattle.rb_laws_agreement.proofs.SyncAgrees.{SyncSetting, stage_setting, leaves, spared, book_sync}
-use Rattle.rb_laws_agreement.proofs.Places.{IsPlaced, placed, complete_before, good_before_slot}
-use Rattle.rb_laws_agreement.proofs.SlotRuns.{IsSlot, slot_runs, good_in_stage, StateFrom, state_from, third_frame, step_through, stage_next}
-use Rattle.rb_laws_agreement.proofs.FrameBegins.{settled_before}
+use Rattle.rb_laws_agreement.proofs.{Invariant.{Shared, is_good_now, slot_numbered, Holds}, Goodnesses.{good_below_16, slot_last}, JudgedWindows.{rows_of, IsPassed, passed}, Exchanges.trusted-either, NodeWindows.{Windows, sync_windows_are}, NextMoments.next, Settings.{SparesNode, all_spared, after}, ThirdStages.{carried_3, none_unlike_3}, SyncAgrees.{SyncSetting, stage_setting, leaves, spared, book_sync}, Places.{IsPlaced, placed, complete_before, good_before_slot}, SlotRuns.{IsSlot, slot_runs, good_in_stage, StateFrom, state_from, third_frame, step_through, stage_next}, FrameBegins.settled_before}
 
 -- What is held before a slot.
 

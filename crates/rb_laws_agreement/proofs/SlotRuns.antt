@@ -1,23 +1,9 @@
 -- A complete slot below the sync slot, stage by stage: all good nodes hold the same through it.
-use Rattle.std.proofs.Common.{◌≡◌, ℕ, suc, ◌+◌, ◌-◌, ◌*◌, ◌<◌, ◌≤◌, true, List, Some, slice_get, inl, inr, refl, sym, ◌∙◌, ap, arith}
-use Rattle.std.proofs.lemmas.Option.{same_Some}
-use Rattle.rb_base.specs.Nodes.{Side}
-use Rattle.rb_base.specs.Sizes.{sync_slot_of}
-use Rattle.rb_rules.specs.Book.{of_kind}
-use Rattle.rb_rules.specs.Goodness.{Scenario, is_good}
-use Rattle.rb_rules.specs.Lawful.{IsLawful}
-use Rattle.rb_rules.specs.Moments.{before_stage, before_slot, after_slot, IsRunning, IsComplete}
-use Rattle.rb_rules.specs.NodeState.{NodeState}
-use Rattle.rb_rules.specs.Ports.{HandIn}
-use Rattle.rb_rules.specs.Rounds.{Moment, after_window, step, moment, windows_in}
+use Rattle.std.proofs.{Common.{◌≡◌, ℕ, suc, ◌+◌, ◌-◌, ◌*◌, ◌<◌, ◌≤◌, true, List, Some, slice_get, inl, inr, refl, sym, ◌∙◌, ap, arith}, lemmas.Option.same_Some}
+use Rattle.rb_base.specs.{Nodes.Side, Sizes.sync_slot_of}
+use Rattle.rb_rules.specs.{Book.of_kind, Goodness.{Scenario, is_good}, Lawful.IsLawful, Moments.{before_stage, before_slot, after_slot, IsRunning, IsComplete}, NodeState.NodeState, Ports.HandIn, Rounds.{Moment, after_window, step, moment, windows_in}}
 use Rattle.rb_rules.proofs.RoundStates.{state-after}
-use Rattle.rb_laws_agreement.proofs.Tests.{Present}
-use Rattle.rb_laws_agreement.proofs.Invariant.{Shared, IsGoodNode, is_good_now, Agree}
-use Rattle.rb_laws_agreement.proofs.NextMoments.{next}
-use Rattle.rb_laws_agreement.proofs.Settings.{Setting, good_here, good_state, after}
-use Rattle.rb_laws_agreement.proofs.ExactAgrees.{agree_1, agree_2}
-use Rattle.rb_laws_agreement.proofs.Agreement.{step_is, exact-setting}
-use Rattle.rb_laws_agreement.proofs.Places.{IsPlaced, placed, complete_before}
+use Rattle.rb_laws_agreement.proofs.{Tests.Present, Invariant.{Shared, IsGoodNode, is_good_now, Agree}, NextMoments.next, Settings.{Setting, good_here, good_state, after}, ExactAgrees.{agree_1, agree_2}, Agreement.{step_is, exact-setting}, Places.{IsPlaced, placed, complete_before}}
 
 -- the step through a window is the window
 pub step_through : (sc : Scenario) (hands : List HandIn) (m : Moment) → m.window < windows_in sc.sizes → IsRunning (step sc hands m) → step sc hands m ≡ next sc m

@@ -1,32 +1,11 @@
 -- Each complete slot below the sync slot has one value, and if its sender is good this is the
 -- sender's own.
 use Rattle.std.proofs.Common.{◌≡◌, ℕ, suc, true, List, [], ◌∷◌, ◌++◌, slice_get, refl, sym, ◌∙◌, ap, subst, arith}
-use Rattle.rb_base.specs.Nodes.{Side}
-use Rattle.rb_base.specs.declared.values.Heard.{Heard}
-use Rattle.rb_rules.specs.Book.{of_kind}
-use Rattle.rb_rules.specs.Book.Record.{Slot}
-use Rattle.rb_rules.specs.ExactStage.{own_value}
-use Rattle.rb_rules.specs.Goodness.{Scenario, is_good}
-use Rattle.rb_rules.specs.Headline.{HasRecord}
-use Rattle.rb_rules.specs.Hearing.{word_for}
-use Rattle.rb_rules.specs.Moments.{before_slot, IsGoodBefore}
-use Rattle.rb_rules.specs.NodeState.{NodeState}
-use Rattle.rb_rules.specs.NodeSteps.{owner_at}
-use Rattle.rb_rules.specs.Ports.{HandIn}
-use Rattle.rb_rules.specs.Rounds.{Moment}
-use Rattle.rb_rules.specs.Slots.{role_of}
-use Rattle.rb_rules.specs.Slots.Sender.{Node}
+use Rattle.rb_base.specs.{Nodes.Side, declared.values.Heard.Heard}
+use Rattle.rb_rules.specs.{Book.of_kind, Book.Record.Slot, ExactStage.own_value, Goodness.{Scenario, is_good}, Headline.HasRecord, Hearing.word_for, Moments.{before_slot, IsGoodBefore}, NodeState.NodeState, NodeSteps.owner_at, Ports.HandIn, Rounds.Moment, Slots.role_of, Slots.Sender.Node}
 use Rattle.rb_rules.proofs.RoundStates.{state-after}
-use Rattle.rb_laws_agreement.specs.Values.{lines_in, HasValue, IsGoodSender, value_of_sender}
-use Rattle.rb_laws_agreement.specs.Laws.{GoodNodesAgree, GoodSendersAreHeard}
-use Rattle.rb_laws_agreement.proofs.Invariant.{sender_of, kind_in, IsGoodNode, is_good_now, IsOwn, HasVoted}
-use Rattle.rb_laws_agreement.proofs.Exchanges.{sender-held}
-use Rattle.rb_laws_agreement.proofs.Settings.{after, good_here}
-use Rattle.rb_laws_agreement.proofs.SecondStages.{GoodOne, some_good, vote_of, vote-held, voters-vote}
-use Rattle.rb_laws_agreement.proofs.ThirdStages.{voted, held_3}
-use Rattle.rb_laws_agreement.proofs.NextMoments.{next}
-use Rattle.rb_laws_agreement.proofs.SlotRuns.{IsSlot, slot_runs, good_in_stage, StateFrom, state_from, second_frame, third_frame, next-slot-good}
-use Rattle.rb_laws_agreement.proofs.Deliveries.{owner_sending, owner-held, lines_2, lines_after_2, given_before, given_after}
+use Rattle.rb_laws_agreement.specs.{Values.{lines_in, HasValue, IsGoodSender, value_of_sender}, Laws.{GoodNodesAgree, GoodSendersAreHeard}}
+use Rattle.rb_laws_agreement.proofs.{Invariant.{sender_of, kind_in, IsGoodNode, is_good_now, IsOwn, HasVoted}, Exchanges.sender-held, Settings.{after, good_here}, SecondStages.{GoodOne, some_good, vote_of, vote-held, voters-vote}, ThirdStages.{voted, held_3}, NextMoments.next, SlotRuns.{IsSlot, slot_runs, good_in_stage, StateFrom, state_from, second_frame, third_frame, next-slot-good}, Deliveries.{owner_sending, owner-held, lines_2, lines_after_2, given_before, given_after}}
 
 -- the value of a slot
 abbrev pub value_of_slot : (sc : Scenario) (hands : List HandIn) (frame slot : ℕ) → IsSlot sc hands frame slot → Heard

@@ -1,28 +1,10 @@
 -- What a good node says in each stage below the sync slot.
-use Rattle.std.proofs.Common.{◌≡◌, ℕ, zero, suc, ◌<◌, ◌≤◌, ◌^◌, ◌==◌, ◌&&◌, ◌||◌, ◌⊎◌, inl, inr, Bool, true, false, List, [], ◌∷◌, Option, Some, None, unwrap_or, get_or, if◌then◌else◌, refl, sym, ◌∙◌, ap, subst, arith}
+use Rattle.std.proofs.{Common.{◌≡◌, ℕ, zero, suc, ◌<◌, ◌≤◌, ◌^◌, ◌==◌, ◌&&◌, ◌||◌, ◌⊎◌, inl, inr, Bool, true, false, List, [], ◌∷◌, Option, Some, None, unwrap_or, get_or, if◌then◌else◌, refl, sym, ◌∙◌, ap, subst, arith}, lemmas.Bool.Decides.nat_tests, lemmas.List.Elements.{All-head, All-tail}}
 use Rattle.std.specs.Prelude.{IfSome, All}
-use Rattle.std.proofs.lemmas.Bool.Decides.{nat_tests}
-use Rattle.std.proofs.lemmas.List.Elements.{All-head, All-tail}
-use Rattle.rb_base.specs.Nodes.{Side, other}
-use Rattle.rb_base.specs.Nodes.Side.{Biu, Rmu}
-use Rattle.rb_base.specs.Sizes.{Sizes}
+use Rattle.rb_base.specs.{Nodes.{Side, other}, Nodes.Side.{Biu, Rmu}, Sizes.Sizes, declared.values.Heard.Heard, declared.values.Heard.TheVariants.Fault}
 use Rattle.rb_base.proofs.Sets.{set_of-lt}
-use Rattle.rb_base.specs.declared.values.Heard.{Heard}
-use Rattle.rb_base.specs.declared.values.Heard.TheVariants.{Fault}
-use Rattle.rb_rules.specs.declared.role.Role.{Role}
-use Rattle.rb_rules.specs.declared.role.Role.TheVariants.{Schedule, Data, DiagBiu, DiagRmu, Sync}
-use Rattle.rb_rules.specs.ExactStage.{own_value, is_sender, value_said, says_of, says}
-use Rattle.rb_rules.specs.Goodness.{Scenario}
-use Rattle.rb_rules.specs.Hearing.{word_for}
-use Rattle.rb_rules.specs.Lawful.{IsLawful}
-use Rattle.rb_rules.specs.NodeState.{NodeState, sender_at}
-use Rattle.rb_rules.specs.Ports.{PortState}
-use Rattle.rb_rules.specs.Slots.{Sender, same_side, sender_kind, has_third_stage, listens, role_of}
-use Rattle.rb_rules.specs.Slots.Sender.{Nobody, Node, EachTrusted}
-use Rattle.rb_rules.specs.Standing.{is_unlike, vector_of}
-use Rattle.rb_rules.proofs.Standings.{alike_is_not_unlike}
-use Rattle.rb_rules.proofs.Senses.{IsCarried}
-use Rattle.rb_rules.proofs.Slots.{same_side-is, same_side_other, same_side_self}
+use Rattle.rb_rules.specs.{declared.role.Role.Role, declared.role.Role.TheVariants.{Schedule, Data, DiagBiu, DiagRmu, Sync}, ExactStage.{own_value, is_sender, value_said, says_of, says}, Goodness.Scenario, Hearing.word_for, Lawful.IsLawful, NodeState.{NodeState, sender_at}, Ports.PortState, Slots.{Sender, same_side, sender_kind, has_third_stage, listens, role_of}, Slots.Sender.{Nobody, Node, EachTrusted}, Standing.{is_unlike, vector_of}}
+use Rattle.rb_rules.proofs.{Standings.alike_is_not_unlike, Senses.IsCarried, Slots.{same_side-is, same_side_other, same_side_self}}
 
 pub not_same_side : (a b : Side) → same_side a b ≡ false → a ≡ other b
 not_same_side Biu Biu h = cc

@@ -1,21 +1,11 @@
 -- The votes of one stage, under the premise: good nodes that hear one value of all good sources
 -- vote for it.
-use Rattle.std.proofs.Common.{◌≡◌, ℕ, ◌<◌, ◌≤◌, ◌&&◌, not, Bool, true, false, List, Some, is_some, ◌∙◌, arith}
-use Rattle.std.proofs.lemmas.Bool.{and_from, not_from_false}
-use Rattle.rb_base.specs.Counting.{count_if, numbers}
-use Rattle.rb_base.specs.Nodes.{Side, has}
-use Rattle.rb_base.proofs.SetSizes.{size-set_of}
-use Rattle.rb_base.specs.declared.values.Heard.{Heard}
-use Rattle.rb_base.proofs.Plain.{and_first, and_second, less-same, not_both}
-use Rattle.rb_rules.specs.declared.sense.Sense.{Sense}
-use Rattle.rb_rules.specs.ExactStage.{closing_of}
-use Rattle.rb_rules.specs.Goodness.{Scenario, is_good}
-use Rattle.rb_rules.specs.Judging.{JudgedStage, is_benign}
-use Rattle.rb_rules.specs.Sense.{value_in}
-use Rattle.rb_rules.specs.Standing.{Standing, taken_of}
+use Rattle.std.proofs.{Common.{◌≡◌, ℕ, ◌<◌, ◌≤◌, ◌&&◌, not, Bool, true, false, List, Some, is_some, ◌∙◌, arith}, lemmas.Bool.{and_from, not_from_false}}
+use Rattle.rb_base.specs.{Counting.{count_if, numbers}, Nodes.{Side, has}, declared.values.Heard.Heard}
+use Rattle.rb_base.proofs.{SetSizes.size-set_of, Plain.{and_first, and_second, less-same, not_both}}
+use Rattle.rb_rules.specs.{declared.sense.Sense.Sense, ExactStage.closing_of, Goodness.{Scenario, is_good}, Judging.{JudgedStage, is_benign}, Sense.value_in, Standing.{Standing, taken_of}}
 use Rattle.rb_rules.proofs.Votes.{closing_vote_is}
-use Rattle.rb_laws_agreement.proofs.Numbers.{how_many, how_many-is, how_many-le}
-use Rattle.rb_laws_agreement.proofs.Premises.{Premise, is_active, is_sound}
+use Rattle.rb_laws_agreement.proofs.{Numbers.{how_many, how_many-is, how_many-le}, Premises.{Premise, is_active, is_sound}}
 
 pub how_many-count : (p : ℕ → Bool) → how_many p ≡ count_if p (numbers 16)
 how_many-count p = how_many-is p ∙ size-set_of p

@@ -1,30 +1,9 @@
 -- From one window of the sync slot to the next, and over the tail: all good nodes still agree.
 use Rattle.std.proofs.Common.{◌≡◌, ℕ, suc, ◌+◌, ◌*◌, ◌<◌, ◌≤◌, true, false, List, ◌∷◌, length, slice_get, get_or, sym, ◌∙◌, ap, subst, arith}
-use Rattle.rb_base.specs.Nodes.{Side, other, has}
-use Rattle.rb_base.specs.Sizes.{sync_slot_of}
-use Rattle.rb_base.specs.declared.values.Heard.TheVariants.{Fault}
-use Rattle.rb_rules.specs.Book.{of_kind, judged_of, with_stage}
-use Rattle.rb_rules.specs.Goodness.{Scenario, is_good}
-use Rattle.rb_rules.specs.Judging.{JudgedStage, is_benign}
-use Rattle.rb_rules.specs.Lawful.{IsLawful}
-use Rattle.rb_rules.specs.NodeState.{NodeState, trusted_of}
-use Rattle.rb_rules.specs.Ports.{HandIn}
-use Rattle.rb_rules.specs.Rounds.{Moment, moment, sent_in, window_in, book_after, after_window, windows_in}
-use Rattle.rb_rules.specs.Standing.{does_wrong}
-use Rattle.rb_rules.specs.SyncStage.{expects_call}
-use Rattle.rb_rules.specs.Windows.{windows_of_frame}
+use Rattle.rb_base.specs.{Nodes.{Side, other, has}, Sizes.sync_slot_of, declared.values.Heard.TheVariants.Fault}
+use Rattle.rb_rules.specs.{Book.{of_kind, judged_of, with_stage}, Goodness.{Scenario, is_good}, Judging.{JudgedStage, is_benign}, Lawful.IsLawful, NodeState.{NodeState, trusted_of}, Ports.HandIn, Rounds.{Moment, moment, sent_in, window_in, book_after, after_window, windows_in}, Standing.does_wrong, SyncStage.expects_call, Windows.windows_of_frame}
 use Rattle.rb_rules.proofs.RoundStates.{Knows, through-stays}
-use Rattle.rb_laws_agreement.proofs.Tests.{Present}
-use Rattle.rb_laws_agreement.proofs.Premises.{Premise}
-use Rattle.rb_laws_agreement.proofs.Goodnesses.{good_below_16, slot_last}
-use Rattle.rb_laws_agreement.proofs.Invariant.{Shared, kind_in, IsGoodNode, is_good_now, slot_numbered, IsFinished, Holds, Agree}
-use Rattle.rb_laws_agreement.proofs.ExactAgrees.{knows_next, suc-place}
-use Rattle.rb_laws_agreement.proofs.JudgedWindows.{rows_of, IsPassed, premise_after, stays-trusted}
-use Rattle.rb_laws_agreement.proofs.NodeWindows.{Windows, sense_in, sync_window, sync_windows_are, tail_windows}
-use Rattle.rb_laws_agreement.proofs.SecondStages.{benign-before}
-use Rattle.rb_laws_agreement.proofs.Settings.{good_state, after}
-use Rattle.rb_laws_agreement.proofs.SyncWindows.{HasTicksOf, stage_ticks, tail_ticks, sync_right, IsAfterSync, sync_closes}
-use Rattle.rb_laws_agreement.proofs.NextMoments.{next, was_good, CameFrom, came_from, counts_after, sync-there, own_next}
+use Rattle.rb_laws_agreement.proofs.{Tests.Present, Premises.Premise, Goodnesses.{good_below_16, slot_last}, Invariant.{Shared, kind_in, IsGoodNode, is_good_now, slot_numbered, IsFinished, Holds, Agree}, ExactAgrees.{knows_next, suc-place}, JudgedWindows.{rows_of, IsPassed, premise_after, stays-trusted}, NodeWindows.{Windows, sense_in, sync_window, sync_windows_are, tail_windows}, SecondStages.benign-before, Settings.{good_state, after}, SyncWindows.{HasTicksOf, stage_ticks, tail_ticks, sync_right, IsAfterSync, sync_closes}, NextMoments.{next, was_good, CameFrom, came_from, counts_after, sync-there, own_next}}
 
 -- moment `m` is before a window of the sync slot or before the tail
 pub record SyncSetting (sc : Scenario) (hands : List HandIn) (n : ℕ) (m : Moment) (s : Shared) (q : ℕ) (ws : Windows sc m (sync_slot_of sc.sizes) (q + 1)) : Type 0 where

@@ -1,37 +1,11 @@
 -- The windows of the sync slot, the tail with them: a good node calls when it is expected, and is
 -- not accused.
-use Rattle.std.proofs.Common.{◌≡◌, ℕ, zero, suc, ◌+◌, ◌-◌, ◌*◌, ◌<◌, ◌≤◌, ◌%◌, ◌==◌, ◌&&◌, nat_le, Bool, true, false, Option, Some, None, is_some, option_map, slice_get, if◌then◌else◌, refl, sym, ◌∙◌, ap, subst, arith, inl, inr}
-use Rattle.std.proofs.lemmas.Bool.{leb-true, lt-ltb}
-use Rattle.rb_base.specs.Nodes.{Side, other, has}
-use Rattle.rb_base.specs.Nodes.Side.{Biu, Rmu}
-use Rattle.rb_base.specs.Sizes.{Sizes, IsShape, sync_slot_of}
-use Rattle.rb_base.specs.declared.values.Heard.{Heard}
+use Rattle.std.proofs.{Common.{◌≡◌, ℕ, zero, suc, ◌+◌, ◌-◌, ◌*◌, ◌<◌, ◌≤◌, ◌%◌, ◌==◌, ◌&&◌, nat_le, Bool, true, false, Option, Some, None, is_some, option_map, slice_get, if◌then◌else◌, refl, sym, ◌∙◌, ap, subst, arith, inl, inr}, lemmas.Bool.{leb-true, lt-ltb}}
+use Rattle.rb_base.specs.{Nodes.{Side, other, has}, Nodes.Side.{Biu, Rmu}, Sizes.{Sizes, IsShape, sync_slot_of}, declared.values.Heard.Heard}
 use Rattle.rb_base.proofs.Plain.{eq_self}
-use Rattle.rb_rules.specs.declared.message.Message.{Message}
-use Rattle.rb_rules.specs.declared.message.Version.{Version}
-use Rattle.rb_rules.specs.declared.plan.Plan.{Plan}
-use Rattle.rb_rules.specs.declared.role.Role.TheVariants.{Sync}
-use Rattle.rb_rules.specs.declared.sense.Sense.{Sense}
-use Rattle.rb_rules.specs.declared.sense.Sense.TheVariants.{Silent}
-use Rattle.rb_rules.specs.Book.{of_kind}
-use Rattle.rb_rules.specs.ExactStage.{Outcome, close_exact}
-use Rattle.rb_rules.specs.Goodness.{Scenario, is_good}
-use Rattle.rb_rules.specs.NodeState.{NodeState}
-use Rattle.rb_rules.specs.NodeSteps.{expect_of, message_said, close}
-use Rattle.rb_rules.specs.Rounds.{Moment, Result, window_in, sent_in, close_on, go_through}
-use Rattle.rb_rules.specs.Sense.{suits}
-use Rattle.rb_rules.specs.Slots.{listens}
-use Rattle.rb_rules.specs.Spelling.{IsMessage}
-use Rattle.rb_rules.specs.Standing.{does_wrong, has_evidence}
-use Rattle.rb_rules.specs.SyncStage.{calls, call_of, expects_call, close_sync, sync_outcome_of, call_tick_of, new_epoch_of}
-use Rattle.rb_rules.proofs.RoundStates.{Knows}
-use Rattle.rb_rules.proofs.Slots.{few_slots, other_twice}
-use Rattle.rb_rules.proofs.Standings.{right_is_no_evidence, others_stay}
-use Rattle.rb_laws_agreement.proofs.Tests.{true_or_false, Present, present_if}
-use Rattle.rb_laws_agreement.proofs.Invariant.{Shared, Holds}
-use Rattle.rb_laws_agreement.proofs.Exchanges.{far-held, kept-frame}
-use Rattle.rb_laws_agreement.proofs.ExactWindows.{with_sent, sent_by, keeping-is}
-use Rattle.rb_laws_agreement.proofs.NodeWindows.{Windows, own_window, word_at, kept_in, heard_in, sense_in, IsOne, good_is_silent, good_is_heard, goes, state-closed}
+use Rattle.rb_rules.specs.{declared.message.Message.Message, declared.message.Version.Version, declared.plan.Plan.Plan, declared.role.Role.TheVariants.Sync, declared.sense.Sense.Sense, declared.sense.Sense.TheVariants.Silent, Book.of_kind, ExactStage.{Outcome, close_exact}, Goodness.{Scenario, is_good}, NodeState.NodeState, NodeSteps.{expect_of, message_said, close}, Rounds.{Moment, Result, window_in, sent_in, close_on, go_through}, Sense.suits, Slots.listens, Spelling.IsMessage, Standing.{does_wrong, has_evidence}, SyncStage.{calls, call_of, expects_call, close_sync, sync_outcome_of, call_tick_of, new_epoch_of}}
+use Rattle.rb_rules.proofs.{RoundStates.Knows, Slots.{few_slots, other_twice}, Standings.{right_is_no_evidence, others_stay}}
+use Rattle.rb_laws_agreement.proofs.{Tests.{true_or_false, Present, present_if}, Invariant.{Shared, Holds}, Exchanges.{far-held, kept-frame}, ExactWindows.{with_sent, sent_by, keeping-is}, NodeWindows.{Windows, own_window, word_at, kept_in, heard_in, sense_in, IsOne, good_is_silent, good_is_heard, goes, state-closed}}
 
 -- Who calls.
 

@@ -1,25 +1,9 @@
 -- A table holds the state that was handed to it last, and offers it.
-use Rattle.std.proofs.Common.{◌≡◌, ℕ, zero, suc, ◌+◌, ◌^◌, ◌%◌, ◌≤◌, ◌==◌, Bool, true, false, nat_lt, Option, Some, None, List, [], ◌∷◌, get_or, if◌then◌else◌, refl, sym, ◌∙◌, ap, subst, arith}
-use Rattle.std.proofs.lemmas.Bool.Decides.{nat_tests}
-use Rattle.rb_base.specs.Nodes.Side.{Biu}
-use Rattle.rb_base.specs.Sizes.{Sizes, sync_slot_of}
-use Rattle.rb_base.specs.declared.values.Heard.{Heard}
-use Rattle.rb_base.specs.declared.values.Heard.TheVariants.{Word}
-use Rattle.rb_rules.specs.declared.role.Role.{Role}
-use Rattle.rb_rules.specs.declared.role.Role.TheVariants.{Schedule}
-use Rattle.rb_rules.specs.Goodness.{Scenario, is_good}
-use Rattle.rb_rules.specs.Headline.{DeliverTheWord, HasRecord, lines_of}
-use Rattle.rb_rules.specs.Hearing.{port_at}
-use Rattle.rb_rules.specs.Lawful.{IsLawful}
-use Rattle.rb_rules.specs.Moments.{IsComplete, offered_in}
-use Rattle.rb_rules.specs.NodeState.{NodeState}
-use Rattle.rb_rules.specs.NodeSteps.{owner_at, owner_for}
-use Rattle.rb_rules.specs.Ports.{HandIn, PortState, fresh_port, learned_by, offered_at, word_in}
-use Rattle.rb_laws_agreement.specs.Held.{DeliverTheHeldWord, last_state, state_held}
-use Rattle.rb_laws_agreement.specs.Histories.{delivered_in, port_begun, port_through, states_for, with_delivery, with_states}
-use Rattle.rb_laws_agreement.proofs.Goodnesses.{good_earlier}
-use Rattle.rb_laws_agreement.proofs.Places.{complete_before}
-use Rattle.rb_laws_agreement.proofs.PortHistories.{ports_follow, slot-follows}
+use Rattle.std.proofs.{Common.{◌≡◌, ℕ, zero, suc, ◌+◌, ◌^◌, ◌%◌, ◌≤◌, ◌==◌, Bool, true, false, nat_lt, Option, Some, None, List, [], ◌∷◌, get_or, if◌then◌else◌, refl, sym, ◌∙◌, ap, subst, arith}, lemmas.Bool.Decides.nat_tests}
+use Rattle.rb_base.specs.{Nodes.Side.Biu, Sizes.{Sizes, sync_slot_of}, declared.values.Heard.Heard, declared.values.Heard.TheVariants.Word}
+use Rattle.rb_rules.specs.{declared.role.Role.Role, declared.role.Role.TheVariants.Schedule, Goodness.{Scenario, is_good}, Headline.{DeliverTheWord, HasRecord, lines_of}, Hearing.port_at, Lawful.IsLawful, Moments.{IsComplete, offered_in}, NodeState.NodeState, NodeSteps.{owner_at, owner_for}, Ports.{HandIn, PortState, fresh_port, learned_by, offered_at, word_in}}
+use Rattle.rb_laws_agreement.specs.{Held.{DeliverTheHeldWord, last_state, state_held}, Histories.{delivered_in, port_begun, port_through, states_for, with_delivery, with_states}}
+use Rattle.rb_laws_agreement.proofs.{Goodnesses.good_earlier, Places.complete_before, PortHistories.{ports_follow, slot-follows}}
 
 -- A port through a frame.
 

@@ -1,9 +1,6 @@
 -- Tests that hold, and tests of which one holds.
-use Rattle.std.proofs.Common.{◌≡◌, ℕ, zero, suc, ◌+◌, ◌<◌, ◌≤◌, Bool, true, false, ◌&&◌, ◌||◌, List, [], ◌∷◌, get_or, Option, Some, None, is_some, slice_get, refl, ◌∙◌, ap, ◌⊎◌, inl, inr, arith, zero-add}
+use Rattle.std.proofs.{Common.{◌≡◌, ℕ, zero, suc, ◌+◌, ◌<◌, ◌≤◌, Bool, true, false, ◌&&◌, ◌||◌, List, [], ◌∷◌, get_or, Option, Some, None, is_some, slice_get, refl, ◌∙◌, ap, ◌⊎◌, inl, inr, arith, zero-add}, lemmas.Bool.or_cases, lemmas.List.Folds.list_any_at, lemmas.List.FromFn.get_or-range_with_len}
 use Rattle.std.specs.List.{list_any, range_with_len}
-use Rattle.std.proofs.lemmas.Bool.{or_cases}
-use Rattle.std.proofs.lemmas.List.Folds.{list_any_at}
-use Rattle.std.proofs.lemmas.List.FromFn.{get_or-range_with_len}
 use Rattle.rb_base.specs.Counting.{numbers}
 
 pub true_or_false : (b : Bool) → (b ≡ true) ⊎ (b ≡ false)

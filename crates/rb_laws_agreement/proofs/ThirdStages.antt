@@ -1,40 +1,12 @@
 -- Stage 3 of a slot: after it the good nodes of the other kind hold the same vote, if they vote.
 -- Data slots have none.
-use Rattle.std.proofs.Common.{◌≡◌, ℕ, ◌+◌, ◌<◌, ◌&&◌, ◌||◌, Bool, true, false, List, inl, inr, Some, None, slice_set, get_or, if◌then◌else◌, refl, sym, ◌∙◌, ap, subst, arith}
+use Rattle.std.proofs.{Common.{◌≡◌, ℕ, ◌+◌, ◌<◌, ◌&&◌, ◌||◌, Bool, true, false, List, inl, inr, Some, None, slice_set, get_or, if◌then◌else◌, refl, sym, ◌∙◌, ap, subst, arith}, lemmas.List.get_or-set_other, lemmas.Option.same_Some}
 use Rattle.std.specs.Prelude.{IfSome}
-use Rattle.std.proofs.lemmas.List.{get_or-set_other}
-use Rattle.std.proofs.lemmas.Option.{same_Some}
-use Rattle.rb_base.specs.Nodes.{Side, other}
-use Rattle.rb_base.specs.Nodes.Side.{Biu, Rmu}
-use Rattle.rb_base.specs.declared.values.Heard.{Heard}
-use Rattle.rb_base.specs.declared.values.Heard.TheVariants.{Fault}
+use Rattle.rb_base.specs.{Nodes.{Side, other}, Nodes.Side.{Biu, Rmu}, declared.values.Heard.Heard, declared.values.Heard.TheVariants.Fault}
 use Rattle.rb_base.proofs.Plain.{and_first}
-use Rattle.rb_rules.specs.declared.role.Role.{Role}
-use Rattle.rb_rules.specs.declared.role.Role.TheVariants.{Schedule, Data, DiagBiu, DiagRmu, Sync}
-use Rattle.rb_rules.specs.Book.{judged_of}
-use Rattle.rb_rules.specs.ExactStage.{says, votes_in}
-use Rattle.rb_rules.specs.Goodness.{Scenario}
-use Rattle.rb_rules.specs.Judging.{is_benign}
-use Rattle.rb_rules.specs.NodeState.{NodeState}
-use Rattle.rb_rules.specs.Ports.{HandIn}
-use Rattle.rb_rules.specs.Rounds.{Moment}
-use Rattle.rb_rules.specs.Slots.{Sender, same_side, sender_kind, has_third_stage, listens, role_of}
-use Rattle.rb_rules.specs.Slots.Sender.{Nobody, Node, EachTrusted}
-use Rattle.rb_rules.specs.Standing.{is_unlike}
-use Rattle.rb_rules.specs.StandsFor.{votes_on}
-use Rattle.rb_rules.proofs.Senses.{IsCarried}
-use Rattle.rb_rules.proofs.Slots.{one_or_other, other_twice, same_side_other}
-use Rattle.rb_laws_agreement.proofs.Tests.{true_or_false}
-use Rattle.rb_laws_agreement.proofs.Goodnesses.{exact_role, single_sender}
-use Rattle.rb_laws_agreement.proofs.Invariant.{Shared, sender_of, kind_in, IsGoodNode, IsValue, IsFinished, HasVoted}
-use Rattle.rb_laws_agreement.proofs.ExactWindows.{IsSingle}
-use Rattle.rb_laws_agreement.proofs.Exchanges.{sender-held}
-use Rattle.rb_laws_agreement.proofs.JudgedWindows.{rows_of}
-use Rattle.rb_laws_agreement.proofs.NodeWindows.{word_at}
-use Rattle.rb_laws_agreement.proofs.Speaking.{IsOnly, only-fits, only-alike, says_vote, says_nothing, vote_is_said, listens_third, voters_deaf}
-use Rattle.rb_laws_agreement.proofs.Settings.{Setting, AllCarried, all_heard, after, Closed, closes, NoneUnlike}
-use Rattle.rb_laws_agreement.proofs.SecondStages.{vote_of, vote-held, all_vote, idle-vote, benign-before}
-use Rattle.rb_laws_agreement.proofs.NextMoments.{next, was_good, CameFrom, came_from, stages_after, own_next}
+use Rattle.rb_rules.specs.{declared.role.Role.Role, declared.role.Role.TheVariants.{Schedule, Data, DiagBiu, DiagRmu, Sync}, Book.judged_of, ExactStage.{says, votes_in}, Goodness.Scenario, Judging.is_benign, NodeState.NodeState, Ports.HandIn, Rounds.Moment, Slots.{Sender, same_side, sender_kind, has_third_stage, listens, role_of}, Slots.Sender.{Nobody, Node, EachTrusted}, Standing.is_unlike, StandsFor.votes_on}
+use Rattle.rb_rules.proofs.{Senses.IsCarried, Slots.{one_or_other, other_twice, same_side_other}}
+use Rattle.rb_laws_agreement.proofs.{Tests.true_or_false, Goodnesses.{exact_role, single_sender}, Invariant.{Shared, sender_of, kind_in, IsGoodNode, IsValue, IsFinished, HasVoted}, ExactWindows.IsSingle, Exchanges.sender-held, JudgedWindows.rows_of, NodeWindows.word_at, Speaking.{IsOnly, only-fits, only-alike, says_vote, says_nothing, vote_is_said, listens_third, voters_deaf}, Settings.{Setting, AllCarried, all_heard, after, Closed, closes, NoneUnlike}, SecondStages.{vote_of, vote-held, all_vote, idle-vote, benign-before}, NextMoments.{next, was_good, CameFrom, came_from, stages_after, own_next}}
 
 -- the votes of the setting
 pub voted : (sc : Scenario) (hands : List HandIn) (n : ℕ) (m : Moment) (s : Shared) (slot : ℕ) → Setting sc hands n m s slot 2 → HasVoted sc hands m s slot

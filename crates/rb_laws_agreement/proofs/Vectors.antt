@@ -1,17 +1,8 @@
 -- The vectors of a frame: their slots, and whom they convict.
-use Rattle.std.proofs.Common.{◌≡◌, ℕ, ◌+◌, ◌-◌, ◌*◌, ◌<◌, ◌&&◌, nat_lt, not, Bool, true, false, refl, sym, ◌∙◌, ap, arith}
-use Rattle.std.proofs.lemmas.Bool.{le-ltb, lt-ltb}
-use Rattle.rb_base.specs.Counting.{count_if, numbers}
-use Rattle.rb_base.specs.Nodes.{Side, has, size}
-use Rattle.rb_base.specs.Nodes.Side.{Biu, Rmu}
-use Rattle.rb_base.specs.Sizes.{Sizes, sync_slot_of}
-use Rattle.rb_base.proofs.Sets.{same_set_of}
-use Rattle.rb_base.proofs.SetSizes.{size-set_of}
-use Rattle.rb_base.specs.declared.values.Heard.{Heard}
-use Rattle.rb_rules.specs.declared.role.Role.{Role}
-use Rattle.rb_rules.specs.declared.role.Role.TheVariants.{DiagBiu, DiagRmu}
-use Rattle.rb_rules.specs.Conviction.{is_valid, names, naming, sparing, convicted_by}
-use Rattle.rb_rules.specs.Slots.{count_of, first_diagnosis_of, role_of}
+use Rattle.std.proofs.{Common.{◌≡◌, ℕ, ◌+◌, ◌-◌, ◌*◌, ◌<◌, ◌&&◌, nat_lt, not, Bool, true, false, refl, sym, ◌∙◌, ap, arith}, lemmas.Bool.{le-ltb, lt-ltb}}
+use Rattle.rb_base.specs.{Counting.{count_if, numbers}, Nodes.{Side, has, size}, Nodes.Side.{Biu, Rmu}, Sizes.{Sizes, sync_slot_of}, declared.values.Heard.Heard}
+use Rattle.rb_base.proofs.{Sets.same_set_of, SetSizes.size-set_of}
+use Rattle.rb_rules.specs.{declared.role.Role.Role, declared.role.Role.TheVariants.{DiagBiu, DiagRmu}, Conviction.{is_valid, names, naming, sparing, convicted_by}, Slots.{count_of, first_diagnosis_of, role_of}}
 
 -- the slot of a node's vector
 abbrev pub vector_slot : Sizes → Side → ℕ → ℕ

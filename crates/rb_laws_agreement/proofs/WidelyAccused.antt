@@ -1,43 +1,12 @@
 -- Whoever is accused by all nodes of the other kind that are good at a frame's end is convicted
 -- there.
-use Rattle.std.proofs.Common.{◌≡◌, ℕ, zero, suc, ◌+◌, ◌-◌, ◌*◌, ◌<◌, ◌≤◌, ◌&&◌, ◌||◌, nat_lt, not, true, false, List, Some, slice_get, inl, inr, refl, sym, ◌∙◌, ap, subst, arith}
-use Rattle.std.proofs.lemmas.Bool.{and_from, and_right, lt-ltb, not_from_false}
-use Rattle.rb_base.specs.Nodes.{Side, other, has}
-use Rattle.rb_base.specs.Nodes.Side.{Biu, Rmu}
-use Rattle.rb_base.specs.Sizes.{sync_slot_of}
+use Rattle.std.proofs.{Common.{◌≡◌, ℕ, zero, suc, ◌+◌, ◌-◌, ◌*◌, ◌<◌, ◌≤◌, ◌&&◌, ◌||◌, nat_lt, not, true, false, List, Some, slice_get, inl, inr, refl, sym, ◌∙◌, ap, subst, arith}, lemmas.Bool.{and_from, and_right, lt-ltb, not_from_false}}
+use Rattle.rb_base.specs.{Nodes.{Side, other, has}, Nodes.Side.{Biu, Rmu}, Sizes.sync_slot_of, declared.values.Heard.TheVariants.Word}
 use Rattle.rb_base.proofs.Sets.{has-set_of}
-use Rattle.rb_base.specs.declared.values.Heard.TheVariants.{Word}
-use Rattle.rb_rules.specs.Book.{of_kind}
-use Rattle.rb_rules.specs.Conviction.{names}
-use Rattle.rb_rules.specs.ExactStage.{own_value}
-use Rattle.rb_rules.specs.Goodness.{Scenario, is_good}
-use Rattle.rb_rules.specs.Hearing.{word_for}
-use Rattle.rb_rules.specs.Lawful.{IsLawful}
-use Rattle.rb_rules.specs.Moments.{before_slot, after_slot, IsRunning, IsComplete, IsGoodBefore}
-use Rattle.rb_rules.specs.NodeState.{NodeState, trusted_of}
-use Rattle.rb_rules.specs.Ports.{HandIn}
-use Rattle.rb_rules.specs.Rounds.{Moment, moment, next_frame, step, sent_in, window_in, windows_in}
-use Rattle.rb_rules.specs.Slots.{count_of, role_of}
-use Rattle.rb_rules.specs.Standing.{vector_of, without}
-use Rattle.rb_rules.proofs.RoundStates.{Stays, stays-refl, stays-trans, through-stays, state-after}
-use Rattle.rb_rules.proofs.Slots.{other_twice}
+use Rattle.rb_rules.specs.{Book.of_kind, Conviction.names, ExactStage.own_value, Goodness.{Scenario, is_good}, Hearing.word_for, Lawful.IsLawful, Moments.{before_slot, after_slot, IsRunning, IsComplete, IsGoodBefore}, NodeState.{NodeState, trusted_of}, Ports.HandIn, Rounds.{Moment, moment, next_frame, step, sent_in, window_in, windows_in}, Slots.{count_of, role_of}, Standing.{vector_of, without}}
+use Rattle.rb_rules.proofs.{RoundStates.{Stays, stays-refl, stays-trans, through-stays, state-after}, Slots.other_twice}
 use Rattle.rb_laws_agreement.specs.Laws.{Accuses, IsAccusedByAll, AccusedByAllIsConvicted}
-use Rattle.rb_laws_agreement.proofs.Tests.{true_or_false, Present}
-use Rattle.rb_laws_agreement.proofs.Goodnesses.{good_earlier, few_nodes, slot_last}
-use Rattle.rb_laws_agreement.proofs.Invariant.{Shared, IsGoodNode, is_good_now, slot_numbered, IsOwn, Holds}
-use Rattle.rb_laws_agreement.proofs.Exchanges.{trusted-either, far-trusted}
-use Rattle.rb_laws_agreement.proofs.JudgedWindows.{stays-trusted}
-use Rattle.rb_laws_agreement.proofs.NextMoments.{next}
-use Rattle.rb_laws_agreement.proofs.NodeWindows.{tail_windows}
-use Rattle.rb_laws_agreement.proofs.Settings.{good_state, after}
-use Rattle.rb_laws_agreement.proofs.SyncAgrees.{agree_sync, book_tail, tail_setting}
-use Rattle.rb_laws_agreement.proofs.Vectors.{vector_slot, vector_role, vector_slot-role, vector_slot-lt}
-use Rattle.rb_laws_agreement.proofs.FrameTurns.{AtEnd, convicted_all, VectorOf, vector_end, named_by_all}
-use Rattle.rb_laws_agreement.proofs.FrameAgrees.{shared_next, next-trusted, holds-turned}
-use Rattle.rb_laws_agreement.proofs.Agreement.{IsAgreed, agreement, running_before}
-use Rattle.rb_laws_agreement.proofs.Places.{IsPlaced, placed, running_earlier, good_before_slot}
-use Rattle.rb_laws_agreement.proofs.SlotRuns.{step_through, next-frame, next-window}
-use Rattle.rb_laws_agreement.proofs.FrameBegins.{IsTurn, frame_turns}
+use Rattle.rb_laws_agreement.proofs.{Tests.{true_or_false, Present}, Goodnesses.{good_earlier, few_nodes, slot_last}, Invariant.{Shared, IsGoodNode, is_good_now, slot_numbered, IsOwn, Holds}, Exchanges.{trusted-either, far-trusted}, JudgedWindows.stays-trusted, NextMoments.next, NodeWindows.tail_windows, Settings.{good_state, after}, SyncAgrees.{agree_sync, book_tail, tail_setting}, Vectors.{vector_slot, vector_role, vector_slot-role, vector_slot-lt}, FrameTurns.{AtEnd, convicted_all, VectorOf, vector_end, named_by_all}, FrameAgrees.{shared_next, next-trusted, holds-turned}, Agreement.{IsAgreed, agreement, running_before}, Places.{IsPlaced, placed, running_earlier, good_before_slot}, SlotRuns.{step_through, next-frame, next-window}, FrameBegins.{IsTurn, frame_turns}}
 
 -- Whom a node trusts through a frame.
 

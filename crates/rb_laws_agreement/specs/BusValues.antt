@@ -1,16 +1,7 @@
 -- The run of the abstract bus that the rounds make, by their values.
 use Rattle.std.specs.Prelude.{ℕ, zero, suc, ◌≡◌, ◌+◌, ◌<◌, ◌≤◌, nat_lt, Bool, true, false, if◌then◌else◌, List, [], ◌∷◌, get_or}
-use Rattle.rb_base.specs.Counting.{numbers}
-use Rattle.rb_base.specs.Nodes.{Side, has}
-use Rattle.rb_base.specs.Sizes.{sync_slot_of}
-use Rattle.rb_base.specs.declared.values.Heard.{Heard}
-use Rattle.rb_rules.specs.AbstractBus.{AbstractBus, trusted_on, first_bus, bus_after_slot, bus_after_frame, SlotStep}
-use Rattle.rb_rules.specs.Book.{of_kind}
-use Rattle.rb_rules.specs.Goodness.{Scenario, is_good}
-use Rattle.rb_rules.specs.Moments.{before_stage, IsComplete, IsSettled, IsGoodBefore, IsGoodAfter, offered_in}
-use Rattle.rb_rules.specs.NodeState.{NodeState, first_state}
-use Rattle.rb_rules.specs.Ports.{HandIn}
-use Rattle.rb_rules.specs.StandsFor.{steps_to, HoldsTrusted, HoldsOwners, HoldsVote, DeliversOn}
+use Rattle.rb_base.specs.{Counting.numbers, Nodes.{Side, has}, Sizes.sync_slot_of, declared.values.Heard.Heard}
+use Rattle.rb_rules.specs.{AbstractBus.{AbstractBus, trusted_on, first_bus, bus_after_slot, bus_after_frame, SlotStep}, Book.of_kind, Goodness.{Scenario, is_good}, Moments.{before_stage, IsComplete, IsSettled, IsGoodBefore, IsGoodAfter, offered_in}, NodeState.{NodeState, first_state}, Ports.HandIn, StandsFor.{steps_to, HoldsTrusted, HoldsOwners, HoldsVote, DeliversOn}}
 use Rattle.rb_laws_agreement.specs.Values.{kind_in, vote_on}
 
 -- the first number that passes

@@ -1,16 +1,7 @@
 -- The word that a table holds, and the law that all good BIUs deliver it.
 use Rattle.std.specs.Prelude.{ℕ, zero, suc, ◌≡◌, ◌^◌, ◌%◌, ◌<◌, true, Some, List, [], ◌∷◌, get_or}
-use Rattle.rb_base.specs.Nodes.{Side}
-use Rattle.rb_base.specs.Nodes.Side.{Biu}
-use Rattle.rb_base.specs.Sizes.{sync_slot_of}
-use Rattle.rb_base.specs.declared.values.Heard.TheVariants.{Word}
-use Rattle.rb_rules.specs.Goodness.{Scenario, is_good}
-use Rattle.rb_rules.specs.Headline.{HasRecord, lines_of}
-use Rattle.rb_rules.specs.Lawful.{IsLawful}
-use Rattle.rb_rules.specs.Moments.{IsComplete, IsGoodBefore}
-use Rattle.rb_rules.specs.NodeState.{NodeState}
-use Rattle.rb_rules.specs.NodeSteps.{owner_at}
-use Rattle.rb_rules.specs.Ports.{HandIn}
+use Rattle.rb_base.specs.{Nodes.Side, Nodes.Side.Biu, Sizes.sync_slot_of, declared.values.Heard.TheVariants.Word}
+use Rattle.rb_rules.specs.{Goodness.{Scenario, is_good}, Headline.{HasRecord, lines_of}, Lawful.IsLawful, Moments.{IsComplete, IsGoodBefore}, NodeState.NodeState, NodeSteps.owner_at, Ports.HandIn}
 use Rattle.rb_laws_agreement.specs.Histories.{states_for}
 
 -- the last of `states`, or `state` if the list is empty

@@ -1,11 +1,7 @@
 -- The port of a BIU as the bus's values and its hand-ins make it.
 use Rattle.std.specs.Prelude.{ℕ, zero, suc, ◌≡◌, ◌==◌, ◌&&◌, Option, Some, None, List, [], ◌∷◌, map, filter, get_or}
-use Rattle.rb_base.specs.Sizes.{sync_slot_of}
-use Rattle.rb_base.specs.declared.values.Heard.{Heard}
-use Rattle.rb_rules.specs.declared.record.SlotLine.{SlotLine}
-use Rattle.rb_rules.specs.Goodness.{Scenario}
-use Rattle.rb_rules.specs.Moments.{before_stage}
-use Rattle.rb_rules.specs.Ports.{PortState, HandIn, fresh_port, delivered_to}
+use Rattle.rb_base.specs.{Sizes.sync_slot_of, declared.values.Heard.Heard}
+use Rattle.rb_rules.specs.{declared.record.SlotLine.SlotLine, Goodness.Scenario, Moments.before_stage, Ports.{PortState, HandIn, fresh_port, delivered_to}}
 
 -- the one value in a slot's lines; none if there is no line
 abbrev pub value_in_lines : List SlotLine → Option Heard

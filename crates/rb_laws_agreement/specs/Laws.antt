@@ -2,28 +2,9 @@
 -- premise on faults: in slots that are complete without one, as are all before them. Of clocks only
 -- the last two laws speak, by their premise.
 use Rattle.std.specs.Prelude.{ℕ, suc, ◌≡◌, ◌+◌, ◌<◌, ◌≤◌, ◌||◌, true, false, Some, List, slice_get}
-use Rattle.rb_base.specs.Nodes.{Side, other, has}
-use Rattle.rb_base.specs.Nodes.Side.{Biu}
-use Rattle.rb_base.specs.Sizes.{sync_slot_of}
-use Rattle.rb_base.specs.declared.values.Heard.{Heard}
-use Rattle.rb_rules.specs.Book.{of_kind}
-use Rattle.rb_rules.specs.Conviction.{is_valid, voted_vector}
-use Rattle.rb_rules.specs.Goodness.{Scenario, is_good}
-use Rattle.rb_rules.specs.Headline.{DeliverAlike, DeliverTheWord, HoldOneSchedule, ConvictAlike, ConvictNoGoodNode, Headline}
-use Rattle.rb_rules.specs.Hearing.{port_at}
-use Rattle.rb_rules.specs.Judging.{is_benign}
-use Rattle.rb_rules.specs.Lawful.{IsLawful}
-use Rattle.rb_rules.specs.Moments.{before_slot, after_slot, IsComplete, IsSettled, IsGoodBefore, IsGoodAfter}
-use Rattle.rb_rules.specs.NodeState.{NodeState, trusted_of}
-use Rattle.rb_rules.specs.NodeSteps.{convicted_of}
-use Rattle.rb_rules.specs.Ports.{HandIn}
-use Rattle.rb_rules.specs.Slots.{count_of, first_diagnosis_of}
-use Rattle.rb_rules.specs.Standing.{Standing}
-use Rattle.rb_rules.specs.StandsFor.{SparesAllGood, StandsFor}
-use Rattle.rb_laws_agreement.specs.BusValues.{StepsTheBus}
-use Rattle.rb_laws_agreement.specs.Histories.{port_through, port_begun, AreAlike}
-use Rattle.rb_laws_agreement.specs.Times.{KeepsTime}
-use Rattle.rb_laws_agreement.specs.Values.{HasValue, IsGoodSender, value_of_sender}
+use Rattle.rb_base.specs.{Nodes.{Side, other, has}, Nodes.Side.Biu, Sizes.sync_slot_of, declared.values.Heard.Heard}
+use Rattle.rb_rules.specs.{Book.of_kind, Conviction.{is_valid, voted_vector}, Goodness.{Scenario, is_good}, Headline.{DeliverAlike, DeliverTheWord, HoldOneSchedule, ConvictAlike, ConvictNoGoodNode, Headline}, Hearing.port_at, Judging.is_benign, Lawful.IsLawful, Moments.{before_slot, after_slot, IsComplete, IsSettled, IsGoodBefore, IsGoodAfter}, NodeState.{NodeState, trusted_of}, NodeSteps.convicted_of, Ports.HandIn, Slots.{count_of, first_diagnosis_of}, Standing.Standing, StandsFor.{SparesAllGood, StandsFor}}
+use Rattle.rb_laws_agreement.specs.{BusValues.StepsTheBus, Histories.{port_through, port_begun, AreAlike}, Times.KeepsTime, Values.{HasValue, IsGoodSender, value_of_sender}}
 
 -- Agreement.
 

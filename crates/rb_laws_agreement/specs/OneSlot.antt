@@ -2,22 +2,8 @@
 -- validity, and that no good node is accused. There are no clocks, links and bytes in it: what came
 -- from a node is its sense, and all bytes have one.
 use Rattle.std.specs.Prelude.{ℕ, zero, suc, ◌≡◌, ◌+◌, ◌<◌, ◌≤◌, ◌&&◌, not, Bool, true, false, Option, Some, None, is_some, List, length, ◌⊎◌}
-use Rattle.rb_base.specs.Counting.{count_if, numbers}
-use Rattle.rb_base.specs.Nodes.{Side, other, has}
-use Rattle.rb_base.specs.Nodes.Side.{Biu, Rmu}
-use Rattle.rb_base.specs.Sizes.{Sizes, IsShape, sync_slot_of}
-use Rattle.rb_base.specs.declared.values.Delivery.{Delivery}
-use Rattle.rb_base.specs.declared.values.Heard.{Heard}
-use Rattle.rb_rules.specs.declared.role.Role.TheVariants.{Data}
-use Rattle.rb_rules.specs.declared.sense.Sense.{Sense}
-use Rattle.rb_rules.specs.declared.sense.Sense.TheVariants.{Silent, One}
-use Rattle.rb_rules.specs.ExactStage.{Outcome, own_value, says, message_of, keep_sent, close_exact, closing_of}
-use Rattle.rb_rules.specs.NodeState.{NodeState, trusted_of, sender_at}
-use Rattle.rb_rules.specs.Sense.{value_in}
-use Rattle.rb_rules.specs.Slots.{Sender, count_of, expects, role_of, sender_in, sender_kind}
-use Rattle.rb_rules.specs.Slots.Sender.{Node}
-use Rattle.rb_rules.specs.Standing.{Standing, taken_of}
-use Rattle.rb_rules.specs.StandsFor.{votes_on}
+use Rattle.rb_base.specs.{Counting.{count_if, numbers}, Nodes.{Side, other, has}, Nodes.Side.{Biu, Rmu}, Sizes.{Sizes, IsShape, sync_slot_of}, declared.values.Delivery.Delivery, declared.values.Heard.Heard}
+use Rattle.rb_rules.specs.{declared.role.Role.TheVariants.Data, declared.sense.Sense.Sense, declared.sense.Sense.TheVariants.{Silent, One}, ExactStage.{Outcome, own_value, says, message_of, keep_sent, close_exact, closing_of}, NodeState.{NodeState, trusted_of, sender_at}, Sense.value_in, Slots.{Sender, count_of, expects, role_of, sender_in, sender_kind}, Slots.Sender.Node, Standing.{Standing, taken_of}, StandsFor.votes_on}
 use Rattle.rb_laws_agreement.specs.Values.{vote_on}
 
 -- One stage at one node.

@@ -1,12 +1,7 @@
 -- What is left of it that the rounds stand for a run of the abstract bus: the times.
 use Rattle.std.specs.Prelude.{ℕ, ◌+◌, ◌≤◌, List}
-use Rattle.rb_base.specs.Nodes.{Side}
-use Rattle.rb_base.specs.Sizes.{sync_slot_of}
-use Rattle.rb_rules.specs.Goodness.{Scenario}
-use Rattle.rb_rules.specs.Moments.{IsComplete, IsReached, IsGoodBefore, IsGoodAfter, time_in_frame}
-use Rattle.rb_rules.specs.NodeState.{NodeState}
-use Rattle.rb_rules.specs.Ports.{HandIn}
-use Rattle.rb_rules.specs.StandsFor.{FrameTakes}
+use Rattle.rb_base.specs.{Nodes.Side, Sizes.sync_slot_of}
+use Rattle.rb_rules.specs.{Goodness.Scenario, Moments.{IsComplete, IsReached, IsGoodBefore, IsGoodAfter, time_in_frame}, NodeState.NodeState, Ports.HandIn, StandsFor.FrameTakes}
 
 -- good nodes begin a frame that is reached at most p apart, and each frame takes as long as it must
 pub record KeepsTime (sc : Scenario) (hands : List HandIn) : Type 0 where

@@ -1,21 +1,7 @@
 -- The value of a slot: what all good nodes that vote on it hold, and what the BIUs deliver.
 use Rattle.std.specs.Prelude.{ℕ, ◌≡◌, true, Option, Some, None, List, [], get_or, slice_get}
-use Rattle.rb_base.specs.Nodes.{Side}
-use Rattle.rb_base.specs.declared.values.Heard.{Heard}
-use Rattle.rb_base.specs.declared.values.Heard.TheVariants.{Fault}
-use Rattle.rb_rules.specs.declared.record.SlotLine.{SlotLine}
-use Rattle.rb_rules.specs.Book.{of_kind}
-use Rattle.rb_rules.specs.ExactStage.{own_value}
-use Rattle.rb_rules.specs.Goodness.{Scenario, is_good}
-use Rattle.rb_rules.specs.Headline.{lines_of, HasRecord}
-use Rattle.rb_rules.specs.Hearing.{word_for}
-use Rattle.rb_rules.specs.Moments.{before_stage, before_slot, IsGoodBefore, IsGoodAfter}
-use Rattle.rb_rules.specs.NodeState.{NodeState, sender_at}
-use Rattle.rb_rules.specs.NodeSteps.{owner_at}
-use Rattle.rb_rules.specs.Ports.{HandIn}
-use Rattle.rb_rules.specs.Slots.{role_of, sender_kind}
-use Rattle.rb_rules.specs.Slots.Sender.{Node}
-use Rattle.rb_rules.specs.StandsFor.{votes_on}
+use Rattle.rb_base.specs.{Nodes.Side, declared.values.Heard.Heard, declared.values.Heard.TheVariants.Fault}
+use Rattle.rb_rules.specs.{declared.record.SlotLine.SlotLine, Book.of_kind, ExactStage.own_value, Goodness.{Scenario, is_good}, Headline.{lines_of, HasRecord}, Hearing.word_for, Moments.{before_stage, before_slot, IsGoodBefore, IsGoodAfter}, NodeState.{NodeState, sender_at}, NodeSteps.owner_at, Ports.HandIn, Slots.{role_of, sender_kind}, Slots.Sender.Node, StandsFor.votes_on}
 
 -- the kind that sends in stage 1 of a slot, and votes in stage 2
 abbrev pub kind_in : Scenario → ℕ → Side

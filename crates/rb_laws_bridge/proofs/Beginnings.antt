@@ -1,38 +1,10 @@
 -- A frame begins with its record. If no BIU is good at its start, the run ends there.
-use Rattle.std.proofs.Common.{◌≡◌, ℕ, zero, suc, ◌+◌, ◌-◌, ◌*◌, ◌<◌, ◌≤◌, ◌==◌, nat_lt, Bool, true, false, inl, inr, Option, Some, None, List, [], ◌∷◌, ◌++◌, append_assoc, length, slice_get, option_map, refl, sym, ◌∙◌, ap, subst, arith}
-use Rattle.std.proofs.Math.Nat.{add-sub_of_le}
-use Rattle.std.proofs.lemmas.Bool.{cases_lt, le-ltb, lt-ltb}
-use Rattle.std.proofs.lemmas.Bool.Decides.{nat_tests}
-use Rattle.std.proofs.lemmas.List.{append-nil}
-use Rattle.rb_base.specs.Nodes.Side.{Biu, Rmu}
-use Rattle.rb_base.specs.Sizes.{sync_slot_of}
-use Rattle.rb_base.specs.declared.values.Place.{Place}
-use Rattle.rb_base.specs.Nodes.{Side}
-use Rattle.rb_rules.specs.declared.cause.Cause.TheVariants.{FewGoodBiu}
-use Rattle.rb_rules.specs.Book.{Begun, Book, Each, Record, Row, after_verdict, in_order, judged_of, map_each, map_from, of_kind, with_end, with_frame, with_stage}
-use Rattle.rb_rules.specs.Book.Record.{Breach, Ended}
-use Rattle.rb_rules.specs.ExactStage.{present}
-use Rattle.rb_rules.specs.Goodness.{Scenario, good_at, is_good}
-use Rattle.rb_rules.specs.Hearing.{begun_of, epoch_of}
-use Rattle.rb_rules.specs.Judging.{JudgedStage, verdict_of}
-use Rattle.rb_rules.specs.NodeState.{NodeState}
-use Rattle.rb_rules.specs.NodeSteps.{turn_if_known}
-use Rattle.rb_rules.specs.Ports.{HandIn}
-use Rattle.rb_rules.specs.Rounds.{Moment, begin_frame, begun_if_good, moment, step, steps_of, windows_in}
-use Rattle.rb_rules.specs.Slots.{count_of}
-use Rattle.rb_rules.specs.WorldStep.{frame_in}
-use Rattle.rb_rules.proofs.Books.{GoesOn, moments-on, records-are, stepped}
-use Rattle.rb_rules.proofs.WindowNumbers.{get-each}
-use Rattle.rb_laws_events.proofs.CloseOrder.{frame-later, IsFrameLater}
-use Rattle.rb_laws_events.proofs.GivenAlone.{breach-alone}
-use Rattle.rb_laws_events.proofs.HandedMoments.{before-frame, place-of}
-use Rattle.rb_laws_events.proofs.RoundNodes.{AllStand, item-at, moments-stand}
-use Rattle.rb_laws_events.proofs.SettledOnce.{FrameGiven, frame-given}
-use Rattle.rb_laws_events.proofs.Waiting.{no-good}
-use Rattle.rb_laws_agreement.proofs.JudgedWindows.{rows_of}
-use Rattle.rb_laws_agreement.proofs.NextMoments.{book_exact}
-use Rattle.rb_laws_agreement.proofs.Goodnesses.{good_counts}
-use Rattle.rb_laws_agreement.proofs.ExactAgrees.{has_ticks}
+use Rattle.std.proofs.{Common.{◌≡◌, ℕ, zero, suc, ◌+◌, ◌-◌, ◌*◌, ◌<◌, ◌≤◌, ◌==◌, nat_lt, Bool, true, false, inl, inr, Option, Some, None, List, [], ◌∷◌, ◌++◌, append_assoc, length, slice_get, option_map, refl, sym, ◌∙◌, ap, subst, arith}, Math.Nat.add-sub_of_le, lemmas.Bool.{cases_lt, le-ltb, lt-ltb}, lemmas.Bool.Decides.nat_tests, lemmas.List.append-nil}
+use Rattle.rb_base.specs.{Nodes.Side.{Biu, Rmu}, Sizes.sync_slot_of, declared.values.Place.Place, Nodes.Side}
+use Rattle.rb_rules.specs.{declared.cause.Cause.TheVariants.FewGoodBiu, Book.{Begun, Book, Each, Record, Row, after_verdict, in_order, judged_of, map_each, map_from, of_kind, with_end, with_frame, with_stage}, Book.Record.{Breach, Ended}, ExactStage.present, Goodness.{Scenario, good_at, is_good}, Hearing.{begun_of, epoch_of}, Judging.{JudgedStage, verdict_of}, NodeState.NodeState, NodeSteps.turn_if_known, Ports.HandIn, Rounds.{Moment, begin_frame, begun_if_good, moment, step, steps_of, windows_in}, Slots.count_of, WorldStep.frame_in}
+use Rattle.rb_rules.proofs.{Books.{GoesOn, moments-on, records-are, stepped}, WindowNumbers.get-each}
+use Rattle.rb_laws_events.proofs.{CloseOrder.{frame-later, IsFrameLater}, GivenAlone.breach-alone, HandedMoments.{before-frame, place-of}, RoundNodes.{AllStand, item-at, moments-stand}, SettledOnce.{FrameGiven, frame-given}, Waiting.no-good}
+use Rattle.rb_laws_agreement.proofs.{JudgedWindows.rows_of, NextMoments.book_exact, Goodnesses.good_counts, ExactAgrees.has_ticks}
 use Rattle.rb_laws_bridge.specs.Laws.{BeginsOrEnds, FramesBeginInOrder, ends_run, frame_told}
 use Rattle.rb_laws_bridge.proofs.Ordered.{IsGivenAt, given-at, split-last}
 

@@ -1,26 +1,13 @@
 -- What is handed in for later frames changes no breach of a frame.
-use Rattle.std.proofs.Common.{◌≡◌, ℕ, zero, suc, ◌+◌, ◌-◌, ◌*◌, ◌/◌, ◌%◌, ◌<◌, ◌≤◌, ◌==◌, ◌&&◌, nat_lt, Bool, true, false, inl, inr, Option, Some, None, List, [], ◌∷◌, ◌++◌, if◌then◌else◌, refl, sym, ◌∙◌, ap, arith}
+use Rattle.std.proofs.{Common.{◌≡◌, ℕ, zero, suc, ◌+◌, ◌-◌, ◌*◌, ◌/◌, ◌%◌, ◌<◌, ◌≤◌, ◌==◌, ◌&&◌, nat_lt, Bool, true, false, inl, inr, Option, Some, None, List, [], ◌∷◌, ◌++◌, if◌then◌else◌, refl, sym, ◌∙◌, ap, arith}, Math.Nat.add-sub_of_le, lemmas.Bool.{cases_lt, eqb-true, ltb-true}}
 use Rattle.std.specs.Option.{option_or}
-use Rattle.std.proofs.Math.Nat.{add-sub_of_le}
-use Rattle.std.proofs.lemmas.Bool.{cases_lt, eqb-true, ltb-true}
-use Rattle.rb_base.specs.Sizes.{sync_slot_of}
-use Rattle.rb_base.specs.declared.values.Place.{Place}
+use Rattle.rb_base.specs.{Sizes.sync_slot_of, declared.values.Place.Place}
 use Rattle.rb_base.proofs.Plain.{option_or-joined, option_or-none}
-use Rattle.rb_rules.specs.declared.cause.Cause.{Cause}
-use Rattle.rb_rules.specs.Book.{Begun, Book, Each, Record, Row, after_verdict, frame_records, judged_of, slot_records, with_end, with_frame, with_stage}
-use Rattle.rb_rules.specs.Book.Milestone.{End, Stage}
-use Rattle.rb_rules.specs.Book.Record.{Slot, Ended}
-use Rattle.rb_rules.specs.Goodness.{Scenario}
-use Rattle.rb_rules.specs.Judging.{JudgedStage, verdict_of}
-use Rattle.rb_rules.specs.Ports.{HandIn}
-use Rattle.rb_rules.specs.Rounds.{Moment, begin_frame, moment, records_of, step, steps_of, windows_in}
+use Rattle.rb_rules.specs.{declared.cause.Cause.Cause, Book.{Begun, Book, Each, Record, Row, after_verdict, frame_records, judged_of, slot_records, with_end, with_frame, with_stage}, Book.Milestone.{End, Stage}, Book.Record.{Slot, Ended}, Goodness.Scenario, Judging.{JudgedStage, verdict_of}, Ports.HandIn, Rounds.{Moment, begin_frame, moment, records_of, step, steps_of, windows_in}}
 use Rattle.rb_rules.proofs.Books.{records-are, stepped}
 use Rattle.rb_laws_events.proofs.MomentBooks.{number-of}
-use Rattle.rb_laws_agreement.proofs.JudgedWindows.{rows_of}
-use Rattle.rb_laws_agreement.proofs.NextMoments.{next, book_exact}
-use Rattle.rb_laws_agreement.proofs.SyncAgrees.{book_sync, book_tail}
-use Rattle.rb_rules_bridge.specs.declared.bank.Bank.{Bank}
-use Rattle.rb_rules_bridge.specs.Texts.{Break, break_in, break_told}
+use Rattle.rb_laws_agreement.proofs.{JudgedWindows.rows_of, NextMoments.{next, book_exact}, SyncAgrees.{book_sync, book_tail}}
+use Rattle.rb_rules_bridge.specs.{declared.bank.Bank.Bank, Texts.{Break, break_in, break_told}}
 use Rattle.rb_laws_bridge.specs.Laws.{LaterHandInsTellNothing}
 use Rattle.rb_laws_bridge.proofs.Later.{AreLater, are-later, deliveries-alike, moments-alike, past_frame}
 

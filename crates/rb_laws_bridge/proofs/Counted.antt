@@ -1,11 +1,8 @@
 -- Counting pairs by one of their BIUs: no two pairs share it, so each counts once.
-use Rattle.std.proofs.Common.{◌≡◌, ℕ, zero, suc, ◌+◌, ◌<◌, ◌≤◌, ◌==◌, ◌&&◌, ◌||◌, not, Bool, true, false, ◌⊎◌, inl, inr, cond, eqb, List, [], ◌∷◌, map, refl, sym, ◌∙◌, ap, arith}
+use Rattle.std.proofs.{Common.{◌≡◌, ℕ, zero, suc, ◌+◌, ◌<◌, ◌≤◌, ◌==◌, ◌&&◌, ◌||◌, not, Bool, true, false, ◌⊎◌, inl, inr, cond, eqb, List, [], ◌∷◌, map, refl, sym, ◌∙◌, ap, arith}, lemmas.Bool.{and_from, cases_lt, eqb-true, not-true}, lemmas.Bool.Decides.nat_tests}
 use Rattle.std.specs.List.{IsDistinct, list_any, range_with_len}
-use Rattle.std.proofs.lemmas.Bool.{and_from, cases_lt, eqb-true, not-true}
-use Rattle.std.proofs.lemmas.Bool.Decides.{nat_tests}
 use Rattle.rb_base.specs.Counting.{count_if, numbers}
-use Rattle.rb_base.proofs.Counts.{count_if-le}
-use Rattle.rb_base.proofs.Plain.{and_first, and_second, differs-turned, more-differs}
+use Rattle.rb_base.proofs.{Counts.count_if-le, Plain.{and_first, and_second, differs-turned, more-differs}}
 
 -- What is in a list.
 

@@ -1,37 +1,17 @@
 -- Words cross a bridge: sound pairs carry the near bus's word, offer it on the far bus, and outvote
 -- the others.
-use Rattle.std.proofs.Common.{◌≡◌, ℕ, zero, suc, ◌+◌, ◌-◌, ◌*◌, ◌^◌, ◌<◌, ◌≤◌, ◌==◌, ◌&&◌, not, All, Bool, true, false, inl, inr, Option, Some, None, is_some, List, [], ◌∷◌, if◌then◌else◌, refl, sym, ◌∙◌, ap, subst, arith}
+use Rattle.std.proofs.{Common.{◌≡◌, ℕ, zero, suc, ◌+◌, ◌-◌, ◌*◌, ◌^◌, ◌<◌, ◌≤◌, ◌==◌, ◌&&◌, not, All, Bool, true, false, inl, inr, Option, Some, None, is_some, List, [], ◌∷◌, if◌then◌else◌, refl, sym, ◌∙◌, ap, subst, arith}, lemmas.Bool.{and_from, cases_lt, not-true}, lemmas.List.Elements.{All-head, All-tail}, Math.Nat.mul-le-mul_right}
 use Rattle.std.specs.List.{list_any, range_with_len}
-use Rattle.std.proofs.lemmas.Bool.{and_from, cases_lt, not-true}
-use Rattle.std.proofs.lemmas.List.Elements.{All-head, All-tail}
-use Rattle.std.proofs.Math.Nat.{mul-le-mul_right}
-use Rattle.rb_base.specs.Counting.{count_if, numbers}
-use Rattle.rb_base.specs.Nodes.{has}
-use Rattle.rb_base.specs.Nodes.Side.{Biu}
-use Rattle.rb_base.specs.Sizes.{IsShape, sync_slot_of}
-use Rattle.rb_base.proofs.Plain.{and_first, and_second, eq_self}
-use Rattle.rb_base.proofs.Sets.{has-set_of, has_above, set_of-lt}
-use Rattle.rb_rules.specs.Goodness.{Scenario, is_good}
-use Rattle.rb_rules.specs.Lawful.{IsLawful}
-use Rattle.rb_rules.specs.Moments.{IsComplete, offered_in}
-use Rattle.rb_rules.specs.Ports.{HandIn}
-use Rattle.rb_rules.specs.Rounds.{steps_of, windows_in}
+use Rattle.rb_base.specs.{Counting.{count_if, numbers}, Nodes.has, Nodes.Side.Biu, Sizes.{IsShape, sync_slot_of}}
+use Rattle.rb_base.proofs.{Plain.{and_first, and_second, eq_self}, Sets.{has-set_of, has_above, set_of-lt}}
+use Rattle.rb_rules.specs.{Goodness.{Scenario, is_good}, Lawful.IsLawful, Moments.{IsComplete, offered_in}, Ports.HandIn, Rounds.{steps_of, windows_in}}
 use Rattle.rb_laws_agreement.specs.Histories.{states_for}
-use Rattle.rb_laws_agreement.proofs.Goodnesses.{good_earlier}
-use Rattle.rb_laws_agreement.proofs.Places.{running_earlier}
-use Rattle.rb_laws_agreement.proofs.Tests.{Present, present_if}
+use Rattle.rb_laws_agreement.proofs.{Goodnesses.good_earlier, Places.running_earlier, Tests.{Present, present_if}}
 use Rattle.rb_laws_groups.specs.Laws.{IsSchedule, Outnumber, first_among, first_slot, has_slot, is_number, last_data_slot, offer_in, offer_of, offers}
-use Rattle.rb_laws_groups.proofs.Frames.{is-early, slot-earlier}
-use Rattle.rb_laws_groups.proofs.Voted.{most-finds}
-use Rattle.rb_rules_bridge.specs.declared.bank.Bank.{Bank}
-use Rattle.rb_rules_bridge.specs.declared.bank.Bank.TheVariants.{Left, Right}
-use Rattle.rb_rules_bridge.specs.declared.bank.Pair.{Pair}
-use Rattle.rb_rules_bridge.specs.Bridges.{Bridge, IsBridge, IsHead, across, biu_on, bus_on, carried_slot, members_on}
-use Rattle.rb_rules_bridge.specs.Crossings.{hands_of, hands_on, word_carried, word_of}
+use Rattle.rb_laws_groups.proofs.{Frames.{is-early, slot-earlier}, Voted.most-finds}
+use Rattle.rb_rules_bridge.specs.{declared.bank.Bank.Bank, declared.bank.Bank.TheVariants.{Left, Right}, declared.bank.Pair.Pair, Bridges.{Bridge, IsBridge, IsHead, across, biu_on, bus_on, carried_slot, members_on}, Crossings.{hands_of, hands_on, word_carried, word_of}}
 use Rattle.rb_laws_bridge.specs.Laws.{AreUnbroken, SoundPairsOutnumber, WordsCross, counts_on, is_good_through, is_sound, word_on}
-use Rattle.rb_laws_bridge.proofs.Counted.{IsIn, any_of, items-few, numbers-few}
-use Rattle.rb_laws_bridge.proofs.Ports.{handed-one, table-offers}
-use Rattle.rb_laws_bridge.proofs.Told.{good-tell, word-fits}
+use Rattle.rb_laws_bridge.proofs.{Counted.{IsIn, any_of, items-few, numbers-few}, Ports.{handed-one, table-offers}, Told.{good-tell, word-fits}}
 
 -- Frames.
 

@@ -1,28 +1,13 @@
 -- What is handed in on both buses comes frame by frame, by the records as they are in the end.
 use Rattle.std.specs.Prelude.{⊤}
-use Rattle.std.proofs.Common.{◌≡◌, ℕ, zero, suc, ◌+◌, ◌-◌, ◌<◌, ◌≤◌, ◌==◌, Bool, true, false, cond, List, [], ◌∷◌, ◌++◌, append_assoc, filter, map, refl, sym, ◌∙◌, ap, arith}
-use Rattle.std.proofs.Math.Nat.{add-sub_of_le}
-use Rattle.std.proofs.Math.Path.{fun_ext}
-use Rattle.std.proofs.lemmas.Bool.Decides.{nat_tests}
-use Rattle.std.proofs.lemmas.List.{append-nil}
-use Rattle.std.proofs.lemmas.List.Elements.{filter-append}
+use Rattle.std.proofs.{Common.{◌≡◌, ℕ, zero, suc, ◌+◌, ◌-◌, ◌<◌, ◌≤◌, ◌==◌, Bool, true, false, cond, List, [], ◌∷◌, ◌++◌, append_assoc, filter, map, refl, sym, ◌∙◌, ap, arith}, Math.Nat.add-sub_of_le, Math.Path.fun_ext, lemmas.Bool.Decides.nat_tests, lemmas.List.append-nil, lemmas.List.Elements.filter-append}
 use Rattle.rb_base.specs.Nodes.Side.{Biu}
 use Rattle.rb_base.proofs.Plain.{eq_self}
-use Rattle.rb_rules.specs.Goodness.{is_good}
-use Rattle.rb_rules.specs.Ports.{HandIn}
-use Rattle.rb_rules.specs.Rounds.{records_of}
-use Rattle.rb_group.specs.Groups.{group_value}
-use Rattle.rb_group.specs.Portions.{port_deliveries}
-use Rattle.rb_group.specs.declared.voters.Which.TheVariants.{Most}
-use Rattle.rb_rules_bridge.specs.declared.bank.Bank.{Bank}
-use Rattle.rb_rules_bridge.specs.declared.bank.Bank.TheVariants.{Left, Right}
-use Rattle.rb_rules_bridge.specs.declared.bank.Pair.{Pair}
-use Rattle.rb_rules_bridge.specs.Bridges.{Bridge, across, biu_on, bus_on, carried_slot, members_on}
-use Rattle.rb_rules_bridge.specs.Crossings.{Hands, carried_to, hand_in_of, hands_of, hands_on, hands_up_to, records_on, value_in, word_of}
-use Rattle.rb_rules_bridge.specs.Texts.{break_in}
+use Rattle.rb_rules.specs.{Goodness.is_good, Ports.HandIn, Rounds.records_of}
+use Rattle.rb_group.specs.{Groups.group_value, Portions.port_deliveries, declared.voters.Which.TheVariants.Most}
+use Rattle.rb_rules_bridge.specs.{declared.bank.Bank.Bank, declared.bank.Bank.TheVariants.{Left, Right}, declared.bank.Pair.Pair, Bridges.{Bridge, across, biu_on, bus_on, carried_slot, members_on}, Crossings.{Hands, carried_to, hand_in_of, hands_of, hands_on, hands_up_to, records_on, value_in, word_of}, Texts.break_in}
 use Rattle.rb_laws_bridge.specs.Laws.{FramesGoByTheEarlier, HandInsAreCarried}
-use Rattle.rb_laws_bridge.proofs.Breaks.{breaks-alike}
-use Rattle.rb_laws_bridge.proofs.Later.{AreLater, deliveries-alike}
+use Rattle.rb_laws_bridge.proofs.{Breaks.breaks-alike, Later.{AreLater, deliveries-alike}}
 
 -- The frame of a hand-in.
 

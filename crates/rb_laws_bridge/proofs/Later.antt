@@ -1,18 +1,10 @@
 -- What is handed in for later frames changes nothing that is told of a frame.
 use Rattle.std.specs.Prelude.{⊤}
-use Rattle.std.proofs.Common.{◌≡◌, ℕ, zero, suc, ◌+◌, ◌-◌, ◌*◌, ◌<◌, ◌≤◌, ◌==◌, All, Bool, true, false, inl, inr, List, [], ◌∷◌, ◌++◌, append_assoc, if◌then◌else◌, refl, sym, ◌∙◌, ap, arith}
-use Rattle.std.proofs.Math.Nat.{add-sub_of_le}
-use Rattle.std.proofs.lemmas.Bool.{cases_lt, eqb-true}
-use Rattle.std.proofs.lemmas.List.{append-nil}
-use Rattle.std.proofs.lemmas.List.Elements.{All-head, All-tail}
+use Rattle.std.proofs.{Common.{◌≡◌, ℕ, zero, suc, ◌+◌, ◌-◌, ◌*◌, ◌<◌, ◌≤◌, ◌==◌, All, Bool, true, false, inl, inr, List, [], ◌∷◌, ◌++◌, append_assoc, if◌then◌else◌, refl, sym, ◌∙◌, ap, arith}, Math.Nat.add-sub_of_le, lemmas.Bool.{cases_lt, eqb-true}, lemmas.List.append-nil, lemmas.List.Elements.{All-head, All-tail}}
 use Rattle.rb_base.specs.Sizes.{sync_slot_of}
-use Rattle.rb_rules.specs.Goodness.{Scenario}
-use Rattle.rb_rules.specs.Ports.{HandIn}
-use Rattle.rb_rules.specs.Rounds.{Moment, moment, records_of, steps_of, windows_in}
-use Rattle.rb_rules.proofs.Books.{records-are}
-use Rattle.rb_rules.proofs.HandIns.{moments-more}
-use Rattle.rb_laws_events.proofs.HandedMoments.{before-frame}
-use Rattle.rb_laws_events.proofs.MomentBooks.{number-of}
+use Rattle.rb_rules.specs.{Goodness.Scenario, Ports.HandIn, Rounds.{Moment, moment, records_of, steps_of, windows_in}}
+use Rattle.rb_rules.proofs.{Books.records-are, HandIns.moments-more}
+use Rattle.rb_laws_events.proofs.{HandedMoments.before-frame, MomentBooks.number-of}
 use Rattle.rb_group.specs.Portions.{deliveries_in, port_deliveries}
 use Rattle.rb_laws_groups.proofs.Added.{step-tells, told-more, told_in}
 

@@ -1,29 +1,14 @@
 -- Records come in the order of frames: once one of a later frame is given, all is told of a frame.
-use Rattle.std.proofs.Common.{◌≡◌, ℕ, zero, suc, ◌+◌, ◌-◌, ◌*◌, ◌/◌, ◌%◌, ◌<◌, ◌≤◌, ◌==◌, ◌&&◌, ◌⊎◌, nat_lt, Bool, true, false, inl, inr, Option, Some, None, List, [], ◌∷◌, ◌++◌, if◌then◌else◌, refl, sym, ◌∙◌, ap, subst, arith}
-use Rattle.std.proofs.Math.Nat.{add-sub_of_le}
-use Rattle.std.proofs.lemmas.Bool.{cases_lt, eqb-true, ltb-true}
-use Rattle.std.proofs.lemmas.List.{append-nil}
-use Rattle.rb_base.specs.Sizes.{sync_slot_of}
-use Rattle.rb_base.specs.declared.values.Place.{Place}
-use Rattle.rb_rules.specs.declared.cause.Cause.{Cause}
-use Rattle.rb_rules.specs.Book.{Begun, Book, Each, Record, Row, after_verdict, frame_records, fresh_book, judged_of, with_end, with_frame, with_stage}
-use Rattle.rb_rules.specs.Book.Milestone.{End, Stage}
-use Rattle.rb_rules.specs.Book.Record.{Breach, Ended, Slot}
-use Rattle.rb_rules.specs.Goodness.{Scenario}
-use Rattle.rb_rules.specs.Judging.{JudgedStage, verdict_of}
-use Rattle.rb_rules.specs.Ports.{HandIn}
-use Rattle.rb_rules.specs.Rounds.{Moment, begin_frame, moment, step, steps_of, windows_in}
+use Rattle.std.proofs.{Common.{◌≡◌, ℕ, zero, suc, ◌+◌, ◌-◌, ◌*◌, ◌/◌, ◌%◌, ◌<◌, ◌≤◌, ◌==◌, ◌&&◌, ◌⊎◌, nat_lt, Bool, true, false, inl, inr, Option, Some, None, List, [], ◌∷◌, ◌++◌, if◌then◌else◌, refl, sym, ◌∙◌, ap, subst, arith}, Math.Nat.add-sub_of_le, lemmas.Bool.{cases_lt, eqb-true, ltb-true}, lemmas.List.append-nil}
+use Rattle.rb_base.specs.{Sizes.sync_slot_of, declared.values.Place.Place}
+use Rattle.rb_rules.specs.{declared.cause.Cause.Cause, Book.{Begun, Book, Each, Record, Row, after_verdict, frame_records, fresh_book, judged_of, with_end, with_frame, with_stage}, Book.Milestone.{End, Stage}, Book.Record.{Breach, Ended, Slot}, Goodness.Scenario, Judging.{JudgedStage, verdict_of}, Ports.HandIn, Rounds.{Moment, begin_frame, moment, step, steps_of, windows_in}}
 use Rattle.rb_rules.proofs.Books.{records-are, stepped}
 use Rattle.rb_laws_events.proofs.HandedMoments.{before-frame}
-use Rattle.rb_laws_agreement.proofs.JudgedWindows.{rows_of}
-use Rattle.rb_laws_agreement.proofs.NextMoments.{next, book_exact}
-use Rattle.rb_laws_agreement.proofs.SlotRuns.{next-frame}
-use Rattle.rb_laws_agreement.proofs.SyncAgrees.{book_sync, book_tail}
+use Rattle.rb_laws_agreement.proofs.{JudgedWindows.rows_of, NextMoments.{next, book_exact}, SlotRuns.next-frame, SyncAgrees.{book_sync, book_tail}}
 use Rattle.rb_group.specs.Portions.{port_deliveries}
 use Rattle.rb_rules_bridge.specs.Texts.{break_in}
 use Rattle.rb_laws_bridge.specs.Laws.{FramesAreToldInOrder, ends_run, frame_told}
-use Rattle.rb_laws_bridge.proofs.Breaks.{break-after, broken_in}
-use Rattle.rb_laws_bridge.proofs.Later.{past_frame, told-after}
+use Rattle.rb_laws_bridge.proofs.{Breaks.{break-after, broken_in}, Later.{past_frame, told-after}}
 
 -- What a step adds.
 

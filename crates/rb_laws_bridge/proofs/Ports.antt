@@ -1,24 +1,14 @@
 -- A table that is handed one word as a frame begins offers it through the frame, and each BIU of
 -- the bridge is handed one word.
-use Rattle.std.proofs.Common.{◌≡◌, ℕ, suc, ◌+◌, ◌^◌, ◌%◌, ◌<◌, ◌≤◌, ◌==◌, ◌&&◌, Bool, true, false, inl, inr, cond, eqb, List, [], ◌∷◌, filter, map, get_or, refl, sym, ◌∙◌, ap, arith}
+use Rattle.std.proofs.{Common.{◌≡◌, ℕ, suc, ◌+◌, ◌^◌, ◌%◌, ◌<◌, ◌≤◌, ◌==◌, ◌&&◌, Bool, true, false, inl, inr, cond, eqb, List, [], ◌∷◌, filter, map, get_or, refl, sym, ◌∙◌, ap, arith}, lemmas.Bool.Decides.nat_tests}
 use Rattle.std.specs.List.{IsDistinct}
-use Rattle.std.proofs.lemmas.Bool.Decides.{nat_tests}
-use Rattle.rb_base.specs.Nodes.Side.{Biu}
-use Rattle.rb_base.specs.Sizes.{sync_slot_of}
+use Rattle.rb_base.specs.{Nodes.Side.Biu, Sizes.sync_slot_of}
 use Rattle.rb_base.proofs.Plain.{eq_self}
-use Rattle.rb_rules.specs.Goodness.{Scenario, is_good}
-use Rattle.rb_rules.specs.Lawful.{IsLawful}
-use Rattle.rb_rules.specs.Moments.{IsComplete, offered_in}
-use Rattle.rb_rules.specs.Ports.{HandIn}
-use Rattle.rb_laws_agreement.specs.Held.{last_state, state_held}
-use Rattle.rb_laws_agreement.specs.Histories.{states_for}
+use Rattle.rb_rules.specs.{Goodness.{Scenario, is_good}, Lawful.IsLawful, Moments.{IsComplete, offered_in}, Ports.HandIn}
+use Rattle.rb_laws_agreement.specs.{Held.{last_state, state_held}, Histories.states_for}
 use Rattle.rb_laws_agreement.proofs.TablesHold.{held-offered}
-use Rattle.rb_rules_bridge.specs.declared.bank.Bank.{Bank}
-use Rattle.rb_rules_bridge.specs.declared.bank.Pair.{Pair}
-use Rattle.rb_rules_bridge.specs.Bridges.{Bridge, biu_on, bus_on}
-use Rattle.rb_rules_bridge.specs.Crossings.{hand_in_of, hands_of, hands_on, word_carried}
-use Rattle.rb_laws_bridge.proofs.Counted.{IsIn, later-apart}
-use Rattle.rb_laws_bridge.proofs.Handed.{hand-ins-are-carried}
+use Rattle.rb_rules_bridge.specs.{declared.bank.Bank.Bank, declared.bank.Pair.Pair, Bridges.{Bridge, biu_on, bus_on}, Crossings.{hand_in_of, hands_of, hands_on, word_carried}}
+use Rattle.rb_laws_bridge.proofs.{Counted.{IsIn, later-apart}, Handed.hand-ins-are-carried}
 
 -- A table that is handed one word as a frame begins offers that word in every slot of the frame but
 -- the first.

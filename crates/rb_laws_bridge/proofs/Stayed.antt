@@ -1,23 +1,13 @@
 -- The first records of a run, up to a frame, stay the first, whatever is handed in for later
 -- frames.
-use Rattle.std.proofs.Common.{◌≡◌, ℕ, zero, suc, ◌+◌, ◌-◌, ◌*◌, ◌<◌, ◌≤◌, ◌⊎◌, true, inl, inr, List, [], ◌∷◌, ◌++◌, append_assoc, refl, sym, ◌∙◌, ap, subst, arith}
-use Rattle.std.proofs.Math.Nat.{add-sub_of_le}
-use Rattle.std.proofs.lemmas.Bool.{cases_lt}
+use Rattle.std.proofs.{Common.{◌≡◌, ℕ, zero, suc, ◌+◌, ◌-◌, ◌*◌, ◌<◌, ◌≤◌, ◌⊎◌, true, inl, inr, List, [], ◌∷◌, ◌++◌, append_assoc, refl, sym, ◌∙◌, ap, subst, arith}, Math.Nat.add-sub_of_le, lemmas.Bool.cases_lt}
 use Rattle.rb_base.proofs.Plain.{times-more}
-use Rattle.rb_rules.specs.Book.{Record}
-use Rattle.rb_rules.specs.Goodness.{Scenario}
-use Rattle.rb_rules.specs.Ports.{HandIn}
-use Rattle.rb_rules.specs.Rounds.{Moment, moment, records_of, steps_of, windows_in}
-use Rattle.rb_rules.specs.WorldStep.{IsPrefix}
+use Rattle.rb_rules.specs.{Book.Record, Goodness.Scenario, Ports.HandIn, Rounds.{Moment, moment, records_of, steps_of, windows_in}, WorldStep.IsPrefix}
 use Rattle.rb_rules.proofs.Books.{all-given, given-are, records-are}
 use Rattle.rb_laws_events.proofs.MomentBooks.{number-of}
-use Rattle.rb_rules_bridge.specs.declared.bank.Bank.{Bank}
-use Rattle.rb_rules_bridge.specs.Bridges.{Bridge, bus_on}
-use Rattle.rb_rules_bridge.specs.Crossings.{hands_of, hands_on, hands_up_to, records_on}
+use Rattle.rb_rules_bridge.specs.{declared.bank.Bank.Bank, Bridges.{Bridge, bus_on}, Crossings.{hands_of, hands_on, hands_up_to, records_on}}
 use Rattle.rb_laws_bridge.specs.Laws.{AreFirstOf, AreUpTo, EarlierRecordsStay, ends_run, frame_told}
-use Rattle.rb_laws_bridge.proofs.Handed.{MoreLater, more-later}
-use Rattle.rb_laws_bridge.proofs.Later.{AreLater, are-later, moments-alike, past_frame}
-use Rattle.rb_laws_bridge.proofs.Ordered.{IsGivenAt, given-at}
+use Rattle.rb_laws_bridge.proofs.{Handed.{MoreLater, more-later}, Later.{AreLater, are-later, moments-alike, past_frame}, Ordered.{IsGivenAt, given-at}}
 
 -- a list is empty, or has a last item
 last-of : {X : Type 0} (xs : List X) → (xs ≡ []) ⊎ ((before : List X) × ((x : X) × (xs ≡ before ++ x ∷ [])))

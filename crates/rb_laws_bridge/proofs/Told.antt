@@ -1,41 +1,15 @@
 -- What a BIU delivers in a slot, by the records: what the bus does, if it is good there, and else
 -- nothing.
-use Rattle.std.proofs.Common.{◌≡◌, ℕ, zero, suc, ◌+◌, ◌-◌, ◌*◌, ◌^◌, ◌<◌, ◌≤◌, ◌==◌, Bool, true, false, inl, inr, cond, Option, Some, None, List, [], ◌∷◌, ◌++◌, filter, map, if◌then◌else◌, refl, sym, ◌∙◌, ap, subst, arith}
-use Rattle.std.specs.List.{range_with_len}
-use Rattle.std.specs.Option.{option_or}
-use Rattle.std.proofs.Math.Nat.{add-sub_of_le}
-use Rattle.std.proofs.lemmas.Bool.{cases_lt, eqb-true}
-use Rattle.rb_base.specs.Counting.{numbers}
-use Rattle.rb_base.specs.Nodes.Side.{Biu}
-use Rattle.rb_base.specs.Sizes.{sync_slot_of}
-use Rattle.rb_base.specs.declared.values.Delivery.{Delivery}
-use Rattle.rb_base.specs.declared.values.Heard.{Heard}
-use Rattle.rb_base.specs.declared.values.Heard.TheVariants.{Word, Fault}
+use Rattle.std.proofs.{Common.{◌≡◌, ℕ, zero, suc, ◌+◌, ◌-◌, ◌*◌, ◌^◌, ◌<◌, ◌≤◌, ◌==◌, Bool, true, false, inl, inr, cond, Option, Some, None, List, [], ◌∷◌, ◌++◌, filter, map, if◌then◌else◌, refl, sym, ◌∙◌, ap, subst, arith}, Math.Nat.add-sub_of_le, lemmas.Bool.{cases_lt, eqb-true}}
+use Rattle.std.specs.{List.range_with_len, Option.option_or}
+use Rattle.rb_base.specs.{Counting.numbers, Nodes.Side.Biu, Sizes.sync_slot_of, declared.values.Delivery.Delivery, declared.values.Heard.Heard, declared.values.Heard.TheVariants.{Word, Fault}}
 use Rattle.rb_base.proofs.Plain.{eq_self, option_or-if, option_or-none}
-use Rattle.rb_rules.specs.declared.record.SlotLine.{SlotLine}
-use Rattle.rb_rules.specs.Book.Record.{Slot}
-use Rattle.rb_rules.specs.Goodness.{Scenario, is_good}
-use Rattle.rb_rules.specs.Headline.{lines_of}
-use Rattle.rb_rules.specs.Lawful.{IsLawful}
-use Rattle.rb_rules.specs.Moments.{before_slot, before_stage, IsComplete}
-use Rattle.rb_rules.specs.Ports.{HandIn}
-use Rattle.rb_rules.specs.Rounds.{Moment, moment, steps_of, windows_in}
-use Rattle.rb_rules.specs.Slots.{role_of}
-use Rattle.rb_rules.proofs.Books.{records-are}
-use Rattle.rb_rules.proofs.Senses.{IsCarried}
-use Rattle.rb_laws_agreement.specs.Histories.{delivered_in, value_in_lines}
-use Rattle.rb_laws_agreement.specs.Values.{lines_in}
-use Rattle.rb_laws_agreement.proofs.Deliveries.{given_after, owner_sending}
-use Rattle.rb_laws_agreement.proofs.Goodnesses.{good_counts}
-use Rattle.rb_laws_agreement.proofs.Invariant.{sender_of}
-use Rattle.rb_laws_agreement.proofs.NextMoments.{next}
-use Rattle.rb_laws_agreement.proofs.SlotRuns.{IsSlot, slot_runs, third_frame}
-use Rattle.rb_laws_agreement.proofs.SlotValues.{slot-lines, value_of_slot}
-use Rattle.rb_laws_agreement.proofs.ThirdStages.{voted}
+use Rattle.rb_rules.specs.{declared.record.SlotLine.SlotLine, Book.Record.Slot, Goodness.{Scenario, is_good}, Headline.lines_of, Lawful.IsLawful, Moments.{before_slot, before_stage, IsComplete}, Ports.HandIn, Rounds.{Moment, moment, steps_of, windows_in}, Slots.role_of}
+use Rattle.rb_rules.proofs.{Books.records-are, Senses.IsCarried}
+use Rattle.rb_laws_agreement.specs.{Histories.{delivered_in, value_in_lines}, Values.lines_in}
+use Rattle.rb_laws_agreement.proofs.{Deliveries.{given_after, owner_sending}, Goodnesses.good_counts, Invariant.sender_of, NextMoments.next, SlotRuns.{IsSlot, slot_runs, third_frame}, SlotValues.{slot-lines, value_of_slot}, ThirdStages.voted}
 use Rattle.rb_group.specs.Portions.{deliveries_in, line_told, port_deliveries, told_of}
-use Rattle.rb_laws_groups.proofs.Added.{first-told, step-tells, told-more, told_in}
-use Rattle.rb_laws_groups.proofs.Frames.{is-early}
-use Rattle.rb_laws_groups.proofs.Served.{IsServed, one-delivery, served}
+use Rattle.rb_laws_groups.proofs.{Added.{first-told, step-tells, told-more, told_in}, Frames.is-early, Served.{IsServed, one-delivery, served}}
 use Rattle.rb_rules_bridge.specs.Crossings.{value_in, word_of}
 use Rattle.rb_laws_bridge.specs.Laws.{GoodBiusTellTheBus, OtherBiusTellNothing}
 

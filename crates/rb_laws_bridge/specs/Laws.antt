@@ -1,27 +1,12 @@
 -- What is proved of a bridge: what is handed in comes from the records as they are in the end, and
 -- words cross.
 use Rattle.std.specs.Prelude.{ℕ, ◌≡◌, ◌⊎◌, ◌+◌, ◌<◌, ◌≤◌, ◌==◌, ◌&&◌, not, All, Bool, true, false, Option, Some, None, is_some, List, [], ◌∷◌, ◌++◌, filter}
-use Rattle.rb_base.specs.Counting.{count_if}
-use Rattle.rb_base.specs.Nodes.Side.{Biu}
-use Rattle.rb_base.specs.Sizes.{sync_slot_of}
-use Rattle.rb_base.specs.declared.values.Heard.TheVariants.{Word}
-use Rattle.rb_rules.specs.Book.{Record}
-use Rattle.rb_rules.specs.Book.Record.{Frame, Slot, Ended, Breach}
-use Rattle.rb_rules.specs.Goodness.{Scenario, is_good}
-use Rattle.rb_rules.specs.Lawful.{IsLawful}
-use Rattle.rb_rules.specs.Moments.{IsComplete}
-use Rattle.rb_rules.specs.Ports.{HandIn}
-use Rattle.rb_rules.specs.Rounds.{records_of}
-use Rattle.rb_rules.specs.WorldStep.{IsPrefix, frame_in}
+use Rattle.rb_base.specs.{Counting.count_if, Nodes.Side.Biu, Sizes.sync_slot_of, declared.values.Heard.TheVariants.Word}
+use Rattle.rb_rules.specs.{Book.Record, Book.Record.{Frame, Slot, Ended, Breach}, Goodness.{Scenario, is_good}, Lawful.IsLawful, Moments.IsComplete, Ports.HandIn, Rounds.records_of, WorldStep.{IsPrefix, frame_in}}
 use Rattle.rb_laws_agreement.specs.Histories.{delivered_in}
-use Rattle.rb_group.specs.Portions.{port_deliveries, value_at}
-use Rattle.rb_group.specs.declared.voters.Which.TheVariants.{Most}
+use Rattle.rb_group.specs.{Portions.{port_deliveries, value_at}, declared.voters.Which.TheVariants.Most}
 use Rattle.rb_laws_groups.specs.Laws.{IsSchedule, first_slot}
-use Rattle.rb_rules_bridge.specs.declared.bank.Bank.{Bank}
-use Rattle.rb_rules_bridge.specs.declared.bank.Pair.{Pair}
-use Rattle.rb_rules_bridge.specs.Bridges.{Bridge, IsBridge, across, biu_on, bus_on, carried_slot, members_on}
-use Rattle.rb_rules_bridge.specs.Crossings.{carried_to, crossing_value, hands_of, hands_on, hands_up_to, records_on, value_told, word_of}
-use Rattle.rb_rules_bridge.specs.Texts.{break_in}
+use Rattle.rb_rules_bridge.specs.{declared.bank.Bank.Bank, declared.bank.Pair.Pair, Bridges.{Bridge, IsBridge, across, biu_on, bus_on, carried_slot, members_on}, Crossings.{carried_to, crossing_value, hands_of, hands_on, hands_up_to, records_on, value_told, word_of}, Texts.break_in}
 
 -- What is handed in.
 

@@ -1,15 +1,8 @@
 -- For the law that events are rounds: the book of any moment is that of one within all steps.
-use Rattle.std.proofs.Common.{◌≡◌, ℕ, ◌+◌, ◌*◌, ◌-◌, ◌<◌, ◌≤◌, Bool, true, false, List, refl, ap, sym, ◌∙◌, arith, inl, inr}
-use Rattle.std.proofs.lemmas.Bool.{cases_lt}
-use Rattle.std.proofs.lemmas.Nat.{mul-le}
-use Rattle.rb_rules.specs.Goodness.{Scenario}
-use Rattle.rb_rules.specs.Ports.{HandIn}
-use Rattle.rb_rules.specs.Rounds.{Moment, moment, steps_of, windows_in}
-use Rattle.rb_rules.specs.WorldStep.{World}
+use Rattle.std.proofs.{Common.{◌≡◌, ℕ, ◌+◌, ◌*◌, ◌-◌, ◌<◌, ◌≤◌, Bool, true, false, List, refl, ap, sym, ◌∙◌, arith, inl, inr}, lemmas.Bool.cases_lt, lemmas.Nat.mul-le}
+use Rattle.rb_rules.specs.{Goodness.Scenario, Ports.HandIn, Rounds.{Moment, moment, steps_of, windows_in}, WorldStep.World}
 use Rattle.rb_rules.proofs.Books.{GoesOn, moments-on}
-use Rattle.rb_laws_events.proofs.EventsLaw.{IsBookOfRounds}
-use Rattle.rb_laws_events.proofs.MomentBooks.{number-of}
-use Rattle.rb_laws_events.proofs.SettlingFrames.{IsOfMoment, RunsIn, runs-in}
+use Rattle.rb_laws_events.proofs.{EventsLaw.IsBookOfRounds, MomentBooks.number-of, SettlingFrames.{IsOfMoment, RunsIn, runs-in}}
 
 -- a run that has not ended has steps left
 runs-within : (sc : Scenario) (hands : List HandIn) (p : ℕ) → (moment sc hands p).book.ended ≡ false → p < steps_of sc

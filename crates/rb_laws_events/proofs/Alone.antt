@@ -1,33 +1,11 @@
 -- For the law that events are rounds: if no node is good any more, what is settled by itself leaves
 -- nothing that waits for an event.
-use Rattle.std.proofs.Common.{◌≡◌, ℕ, zero, suc, ◌+◌, ◌*◌, ◌<◌, ◌≤◌, ◌==◌, ◌&&◌, ◌⊎◌, not, nat_lt, Bool, true, false, List, [], ◌∷◌, ◌++◌, length, refl, ap, sym, ◌∙◌, subst, arith, inl, inr, Option, Some, None, slice_get, if◌then◌else◌}
-use Rattle.std.proofs.lemmas.Bool.{and_parts, cases_lt, eqb-true}
-use Rattle.rb_base.specs.Nodes.{Side, has}
-use Rattle.rb_base.specs.Nodes.Side.{Biu, Rmu}
-use Rattle.rb_base.specs.Sizes.{IsShape, sync_slot_of}
-use Rattle.rb_base.specs.declared.values.Place.{Place}
-use Rattle.rb_base.proofs.Plain.{true-false}
-use Rattle.rb_base.proofs.Sets.{has-set_of, has_none}
-use Rattle.rb_rules.specs.Book.{Book, Each, Milestone, Record, after_stage, of_kind}
-use Rattle.rb_rules.specs.Book.Milestone.{Begin, Stage, End}
-use Rattle.rb_rules.specs.Book.Record.{Ended}
-use Rattle.rb_rules.specs.Goodness.{Scenario, good_at, is_good}
-use Rattle.rb_rules.specs.Ports.{HandIn}
-use Rattle.rb_rules.specs.Rounds.{moment, windows_in}
-use Rattle.rb_rules.specs.Slots.{count_of}
-use Rattle.rb_rules.specs.WorldStep.{Site, World, book_with, comes_so, frame_in, is_complete, needs_no_event, nobody_good, record_since, settle, settle_next}
-use Rattle.rb_rules.specs.WorldStep.Way.{ByItself}
-use Rattle.rb_laws_agreement.proofs.Goodnesses.{good_before, good_counts, good_earlier}
-use Rattle.rb_laws_agreement.proofs.Agreement.{ended-end}
-use Rattle.rb_laws_events.proofs.Completing.{next_world}
-use Rattle.rb_laws_events.proofs.SettledOnce.{FrameGiven, Settled, frame-given, frame-record, none-turn, ended-still, settle-still, stage-silent, still-settled}
-use Rattle.rb_laws_events.proofs.HandedMoments.{place-of}
-use Rattle.rb_laws_events.proofs.Invariant.{is_good_at}
-use Rattle.rb_laws_events.proofs.MomentBooks.{stage-book-next}
-use Rattle.rb_laws_events.proofs.RoundNodes.{slot_numbered}
-use Rattle.rb_laws_events.proofs.ToldInOrder.{AllTold}
-use Rattle.rb_laws_events.proofs.Waiting.{AfterRecord, Waits, is_due, no-good}
-use Rattle.rb_laws_events.proofs.WorldBooks.{last-one, settle_rest}
+use Rattle.std.proofs.{Common.{◌≡◌, ℕ, zero, suc, ◌+◌, ◌*◌, ◌<◌, ◌≤◌, ◌==◌, ◌&&◌, ◌⊎◌, not, nat_lt, Bool, true, false, List, [], ◌∷◌, ◌++◌, length, refl, ap, sym, ◌∙◌, subst, arith, inl, inr, Option, Some, None, slice_get, if◌then◌else◌}, lemmas.Bool.{and_parts, cases_lt, eqb-true}}
+use Rattle.rb_base.specs.{Nodes.{Side, has}, Nodes.Side.{Biu, Rmu}, Sizes.{IsShape, sync_slot_of}, declared.values.Place.Place}
+use Rattle.rb_base.proofs.{Plain.true-false, Sets.{has-set_of, has_none}}
+use Rattle.rb_rules.specs.{Book.{Book, Each, Milestone, Record, after_stage, of_kind}, Book.Milestone.{Begin, Stage, End}, Book.Record.Ended, Goodness.{Scenario, good_at, is_good}, Ports.HandIn, Rounds.{moment, windows_in}, Slots.count_of, WorldStep.{Site, World, book_with, comes_so, frame_in, is_complete, needs_no_event, nobody_good, record_since, settle, settle_next}, WorldStep.Way.ByItself}
+use Rattle.rb_laws_agreement.proofs.{Goodnesses.{good_before, good_counts, good_earlier}, Agreement.ended-end}
+use Rattle.rb_laws_events.proofs.{Completing.next_world, SettledOnce.{FrameGiven, Settled, frame-given, frame-record, none-turn, ended-still, settle-still, stage-silent, still-settled}, HandedMoments.place-of, Invariant.is_good_at, MomentBooks.stage-book-next, RoundNodes.slot_numbered, ToldInOrder.AllTold, Waiting.{AfterRecord, Waits, is_due, no-good}, WorldBooks.{last-one, settle_rest}}
 
 -- Nobody is good.
 

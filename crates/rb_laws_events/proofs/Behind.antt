@@ -1,44 +1,14 @@
 -- For the law that events are rounds: while the book waits for a milestone, some node that runs has
 -- not passed it, so none closes what comes after it.
-use Rattle.std.proofs.Common.{◌≡◌, ℕ, suc, ◌+◌, ◌*◌, ◌-◌, ◌%◌, ◌<◌, ◌≤◌, ◌==◌, ◌⊎◌, Bool, true, false, List, refl, ap, sym, ◌∙◌, subst, arith, inl, inr, Option, Some, None, is_some, slice_get, if◌then◌else◌}
-use Rattle.std.proofs.lemmas.Bool.{cases_lt, eq-eqb, le-ltb, lt-ltb, true≢false}
-use Rattle.std.proofs.lemmas.Nat.{mul-le}
-use Rattle.std.proofs.lemmas.Option.{same_Some}
-use Rattle.rb_base.specs.Nodes.{Side}
-use Rattle.rb_base.specs.declared.values.Place.{Place}
+use Rattle.std.proofs.{Common.{◌≡◌, ℕ, suc, ◌+◌, ◌*◌, ◌-◌, ◌%◌, ◌<◌, ◌≤◌, ◌==◌, ◌⊎◌, Bool, true, false, List, refl, ap, sym, ◌∙◌, subst, arith, inl, inr, Option, Some, None, is_some, slice_get, if◌then◌else◌}, lemmas.Bool.{cases_lt, eq-eqb, le-ltb, lt-ltb, true≢false}, lemmas.Nat.mul-le, lemmas.Option.same_Some}
+use Rattle.rb_base.specs.{Nodes.Side, declared.values.Place.Place}
 use Rattle.rb_base.proofs.Plain.{times-more}
-use Rattle.rb_rules.specs.Book.{Begun, Book, Each, Milestone, Row, after_stage, of_kind}
-use Rattle.rb_rules.specs.Book.Milestone.{Begin, Stage, End}
-use Rattle.rb_rules.specs.Clock.{time_of}
-use Rattle.rb_rules.specs.Goodness.{Scenario, clock_of, is_good}
-use Rattle.rb_rules.specs.Lawful.{IsLawful}
-use Rattle.rb_rules.specs.Moments.{IsRunning}
-use Rattle.rb_rules.specs.NodeState.{NodeState}
-use Rattle.rb_rules.specs.Plan.{f0_of, shortest_of}
-use Rattle.rb_rules.specs.Ports.{HandIn}
-use Rattle.rb_rules.specs.Rounds.{Moment, moment, windows_in}
-use Rattle.rb_rules.specs.WorldStep.{Site, Timed, begun_for, is_complete, needs_no_event, row_for, same_place, times_of}
+use Rattle.rb_rules.specs.{Book.{Begun, Book, Each, Milestone, Row, after_stage, of_kind}, Book.Milestone.{Begin, Stage, End}, Clock.time_of, Goodness.{Scenario, clock_of, is_good}, Lawful.IsLawful, Moments.IsRunning, NodeState.NodeState, Plan.{f0_of, shortest_of}, Ports.HandIn, Rounds.{Moment, moment, windows_in}, WorldStep.{Site, Timed, begun_for, is_complete, needs_no_event, row_for, same_place, times_of}}
 use Rattle.rb_rules.proofs.Drift.{times_rise_to}
-use Rattle.rb_laws_synchrony.proofs.PlanNumbers.{drift_of}
-use Rattle.rb_laws_synchrony.proofs.StageCalls.{clock_now}
-use Rattle.rb_laws_synchrony.proofs.Times.{Steady, lawful_fits, plan_fits}
+use Rattle.rb_laws_synchrony.proofs.{PlanNumbers.drift_of, StageCalls.clock_now, Times.{Steady, lawful_fits, plan_fits}}
 use Rattle.rb_laws_agreement.proofs.ExactAgrees.{has_ticks}
 use Rattle.rb_laws_events.specs.Closing.{stages_in}
-use Rattle.rb_laws_events.proofs.FrameTimes.{BegunWell, good-node}
-use Rattle.rb_laws_events.proofs.Invariant.{InTime, is_good_at, last_tick, next_stage}
-use Rattle.rb_laws_events.proofs.MomentBooks.{next_of, number-of, place_at, settles-next, stage-next, SettlesNext}
-use Rattle.rb_laws_events.proofs.MomentSteps.{NextIsStage, good-back, good-state, next-inner, next-is-stage, next-outer}
-use Rattle.rb_laws_events.proofs.NodeEvents.{tick-after}
-use Rattle.rb_laws_events.proofs.Pace.{IsWithin, Paced, number_of}
-use Rattle.rb_laws_events.proofs.RoundNodes.{slot_numbered}
-use Rattle.rb_laws_events.proofs.SameHeard.{Every}
-use Rattle.rb_laws_events.proofs.SettlingFrames.{IsOfMoment}
-use Rattle.rb_laws_events.proofs.StageOrder.{last_of, last-same}
-use Rattle.rb_laws_events.proofs.TimelyMoments.{good-in}
-use Rattle.rb_laws_events.proofs.Timing.{HavePassed}
-use Rattle.rb_laws_events.proofs.ToldSoFar.{AllHaveTold, HasTold, PendsFirst}
-use Rattle.rb_laws_events.proofs.Untold.{HasNotTold, not-told}
-use Rattle.rb_laws_events.proofs.WorldStands.{AllPend, IsDown, IsUp, SitesStand, sent_by}
+use Rattle.rb_laws_events.proofs.{FrameTimes.{BegunWell, good-node}, Invariant.{InTime, is_good_at, last_tick, next_stage}, MomentBooks.{next_of, number-of, place_at, settles-next, stage-next, SettlesNext}, MomentSteps.{NextIsStage, good-back, good-state, next-inner, next-is-stage, next-outer}, NodeEvents.tick-after, Pace.{IsWithin, Paced, number_of}, RoundNodes.slot_numbered, SameHeard.Every, SettlingFrames.IsOfMoment, StageOrder.{last_of, last-same}, TimelyMoments.good-in, Timing.HavePassed, ToldSoFar.{AllHaveTold, HasTold, PendsFirst}, Untold.{HasNotTold, not-told}, WorldStands.{AllPend, IsDown, IsUp, SitesStand, sent_by}}
 
 -- a node that runs has not passed moment `n`: it is in an earlier one, or in this one before the
 -- frame's first tick

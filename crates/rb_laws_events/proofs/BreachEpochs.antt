@@ -1,53 +1,14 @@
 -- For the law that events are rounds if the premise on faults is broken in a sync slot: whatever
 -- the verdict on the last stage, each good node begins the next frame after all stages of this one.
-use Rattle.std.proofs.Common.{◌≡◌, ℕ, zero, suc, ◌+◌, ◌*◌, ◌<◌, ◌≤◌, nat_le, cond, Bool, true, false, List, [], ◌∷◌, map, filter_map, refl, ap, sym, ◌∙◌, subst, arith, inl, inr, Option, Some, None, option_map, unwrap_or, lit<}
-use Rattle.std.proofs.lemmas.Bool.{cases_lt}
-use Rattle.std.proofs.lemmas.Bool.Decides.{nat_tests}
-use Rattle.std.proofs.lemmas.List.Elements.{All-head}
-use Rattle.std.proofs.lemmas.Option.{same_Some}
+use Rattle.std.proofs.{Common.{◌≡◌, ℕ, zero, suc, ◌+◌, ◌*◌, ◌<◌, ◌≤◌, nat_le, cond, Bool, true, false, List, [], ◌∷◌, map, filter_map, refl, ap, sym, ◌∙◌, subst, arith, inl, inr, Option, Some, None, option_map, unwrap_or, lit<}, lemmas.Bool.cases_lt, lemmas.Bool.Decides.nat_tests, lemmas.List.Elements.All-head, lemmas.Option.same_Some}
 use Rattle.std.specs.Prelude.{All}
-use Rattle.rb_base.specs.Counting.{numbers}
-use Rattle.rb_base.specs.Nodes.{Side, other}
-use Rattle.rb_base.specs.Nodes.Side.{Biu, Rmu}
-use Rattle.rb_base.specs.Sizes.{sync_slot_of}
-use Rattle.rb_rules.specs.declared.plan.Window.{Window}
-use Rattle.rb_rules.specs.Clock.{IsStamp, Timeline, stamp_of, time_of}
-use Rattle.rb_rules.specs.ExactStage.{each_node, present}
-use Rattle.rb_rules.specs.Goodness.{Scenario, clock_of, is_good}
-use Rattle.rb_rules.specs.Hearing.{Coming, Span, said_by, span_of, window_numbered}
-use Rattle.rb_rules.specs.Lawful.{IsLawful}
-use Rattle.rb_rules.specs.Middle.{IsMiddle, middle_of, up_to}
-use Rattle.rb_rules.specs.Moments.{IsRunning}
-use Rattle.rb_rules.specs.NodeState.{NodeState}
-use Rattle.rb_rules.specs.Plan.{f0_of, tail_start_of}
-use Rattle.rb_rules.specs.Ports.{HandIn}
-use Rattle.rb_rules.specs.Rounds.{IsTickOf, Moment, heard_at, moment, sent_in, window_in, windows_in}
-use Rattle.rb_rules.specs.SyncStage.{new_epoch_of}
-use Rattle.rb_rules.proofs.Drift.{times_rise_to}
-use Rattle.rb_rules.proofs.Middles.{middle_so}
-use Rattle.rb_rules.proofs.RoundStates.{keeping-stays}
-use Rattle.rb_rules.proofs.WindowNumbers.{sync-numbered}
-use Rattle.rb_rules.proofs.Stamps.{Moves, stamp_of-is}
-use Rattle.rb_laws_agreement.proofs.Goodnesses.{slot_last}
-use Rattle.rb_laws_agreement.proofs.Invariant.{IsGoodNode}
-use Rattle.rb_laws_agreement.proofs.NodeWindows.{HasTick, Windows, kept_in, word_at, sync_tick, sync_windows_are}
-use Rattle.rb_laws_agreement.proofs.Settings.{after}
-use Rattle.rb_laws_synchrony.proofs.CallTicks.{KeepsTicks, all_keep_ticks}
-use Rattle.rb_laws_synchrony.proofs.KeptMiddles.{Keeps, keeps}
-use Rattle.rb_laws_synchrony.proofs.StageCalls.{clock_now}
-use Rattle.rb_laws_synchrony.proofs.SyncLaws.{all_timely}
-use Rattle.rb_laws_synchrony.proofs.TakenCalls.{IsTaken, taken_from, took}
-use Rattle.rb_laws_agreement.proofs.ExactAgrees.{has_ticks}
+use Rattle.rb_base.specs.{Counting.numbers, Nodes.{Side, other}, Nodes.Side.{Biu, Rmu}, Sizes.sync_slot_of}
+use Rattle.rb_rules.specs.{declared.plan.Window.Window, Clock.{IsStamp, Timeline, stamp_of, time_of}, ExactStage.{each_node, present}, Goodness.{Scenario, clock_of, is_good}, Hearing.{Coming, Span, said_by, span_of, window_numbered}, Lawful.IsLawful, Middle.{IsMiddle, middle_of, up_to}, Moments.IsRunning, NodeState.NodeState, Plan.{f0_of, tail_start_of}, Ports.HandIn, Rounds.{IsTickOf, Moment, heard_at, moment, sent_in, window_in, windows_in}, SyncStage.new_epoch_of}
+use Rattle.rb_rules.proofs.{Drift.times_rise_to, Middles.middle_so, RoundStates.keeping-stays, WindowNumbers.sync-numbered, Stamps.{Moves, stamp_of-is}}
+use Rattle.rb_laws_agreement.proofs.{Goodnesses.slot_last, Invariant.IsGoodNode, NodeWindows.{HasTick, Windows, kept_in, word_at, sync_tick, sync_windows_are}, Settings.after, ExactAgrees.has_ticks}
+use Rattle.rb_laws_synchrony.proofs.{CallTicks.{KeepsTicks, all_keep_ticks}, KeptMiddles.{Keeps, keeps}, StageCalls.clock_now, SyncLaws.all_timely, TakenCalls.{IsTaken, taken_from, took}}
 use Rattle.rb_laws_events.specs.Closing.{HaveBegunAFrame, stages_in}
-use Rattle.rb_laws_events.proofs.BreachTimes.{KnewThen, knew-then}
-use Rattle.rb_laws_events.proofs.FrameTimes.{node-in}
-use Rattle.rb_laws_events.proofs.Invariant.{entry_of, is_good_at}
-use Rattle.rb_laws_events.proofs.MomentSteps.{good-state}
-use Rattle.rb_laws_events.proofs.NodeCloses.{heard-all}
-use Rattle.rb_laws_events.proofs.RoundNodes.{Stands, moments-stand}
-use Rattle.rb_laws_events.proofs.SameHeard.{Every}
-use Rattle.rb_laws_events.proofs.SayLists.{ComesIn, said-in-window}
-use Rattle.rb_laws_events.proofs.TimelyMoments.{good-in}
+use Rattle.rb_laws_events.proofs.{BreachTimes.{KnewThen, knew-then}, FrameTimes.node-in, Invariant.{entry_of, is_good_at}, MomentSteps.good-state, NodeCloses.heard-all, RoundNodes.{Stands, moments-stand}, SameHeard.Every, SayLists.{ComesIn, said-in-window}, TimelyMoments.good-in}
 
 -- Middles.
 

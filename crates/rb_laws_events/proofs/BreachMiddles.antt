@@ -1,34 +1,13 @@
 -- For the law that events are rounds if the premise on faults is broken in a sync slot: whatever
 -- the verdict on a stage of the sync slot, each good node's next frame, as far as it knows when,
 -- begins after all stages of this one.
-use Rattle.std.proofs.Common.{◌≡◌, ℕ, zero, suc, ◌+◌, ◌*◌, ◌<◌, ◌≤◌, true, List, ◌∷◌, [], ap, sym, ◌∙◌, arith, Option, Some, option_map, unwrap_or, lit<}
-use Rattle.std.proofs.lemmas.Option.{same_Some}
-use Rattle.rb_base.specs.Nodes.{Side}
-use Rattle.rb_base.specs.Nodes.Side.{Biu, Rmu}
-use Rattle.rb_base.specs.Sizes.{sync_slot_of}
-use Rattle.rb_rules.specs.declared.plan.Window.{Window}
-use Rattle.rb_rules.specs.Clock.{stamp_of}
-use Rattle.rb_rules.specs.ExactStage.{each_node, present}
-use Rattle.rb_rules.specs.Goodness.{Scenario, clock_of, is_good}
-use Rattle.rb_rules.specs.Hearing.{window_numbered}
-use Rattle.rb_rules.specs.Lawful.{IsLawful}
-use Rattle.rb_rules.specs.Middle.{middle_of}
-use Rattle.rb_rules.specs.Moments.{IsRunning}
-use Rattle.rb_rules.specs.NodeState.{NodeState}
-use Rattle.rb_rules.specs.Plan.{f0_of, tail_start_of}
-use Rattle.rb_rules.specs.Ports.{HandIn}
-use Rattle.rb_rules.specs.Rounds.{Moment, heard_at, moment, sent_in, window_in}
-use Rattle.rb_rules.specs.SyncStage.{new_epoch_of}
-use Rattle.rb_rules.proofs.RoundStates.{keeping-stays}
-use Rattle.rb_rules.proofs.WindowNumbers.{sync-numbered}
-use Rattle.rb_laws_agreement.proofs.Goodnesses.{slot_last}
-use Rattle.rb_laws_agreement.proofs.Invariant.{IsGoodNode}
-use Rattle.rb_laws_agreement.proofs.NodeWindows.{HasTick, Windows, kept_in, word_at, sync_tick, sync_windows_are}
-use Rattle.rb_laws_agreement.proofs.Settings.{after}
-use Rattle.rb_laws_synchrony.proofs.KeptMiddles.{Keeps, keeps}
-use Rattle.rb_laws_synchrony.proofs.TakenCalls.{IsTaken, taken_from, took}
-use Rattle.rb_laws_events.proofs.BreachEpochs.{heard-from, middle-least, rmu-middle}
-use Rattle.rb_laws_events.proofs.StageTimes.{keeps-running}
+use Rattle.std.proofs.{Common.{◌≡◌, ℕ, zero, suc, ◌+◌, ◌*◌, ◌<◌, ◌≤◌, true, List, ◌∷◌, [], ap, sym, ◌∙◌, arith, Option, Some, option_map, unwrap_or, lit<}, lemmas.Option.same_Some}
+use Rattle.rb_base.specs.{Nodes.Side, Nodes.Side.{Biu, Rmu}, Sizes.sync_slot_of}
+use Rattle.rb_rules.specs.{declared.plan.Window.Window, Clock.stamp_of, ExactStage.{each_node, present}, Goodness.{Scenario, clock_of, is_good}, Hearing.window_numbered, Lawful.IsLawful, Middle.middle_of, Moments.IsRunning, NodeState.NodeState, Plan.{f0_of, tail_start_of}, Ports.HandIn, Rounds.{Moment, heard_at, moment, sent_in, window_in}, SyncStage.new_epoch_of}
+use Rattle.rb_rules.proofs.{RoundStates.keeping-stays, WindowNumbers.sync-numbered}
+use Rattle.rb_laws_agreement.proofs.{Goodnesses.slot_last, Invariant.IsGoodNode, NodeWindows.{HasTick, Windows, kept_in, word_at, sync_tick, sync_windows_are}, Settings.after}
+use Rattle.rb_laws_synchrony.proofs.{KeptMiddles.{Keeps, keeps}, TakenCalls.{IsTaken, taken_from, took}}
+use Rattle.rb_laws_events.proofs.{BreachEpochs.{heard-from, middle-least, rmu-middle}, StageTimes.keeps-running}
 
 same-first : (sc : Scenario) (m : Moment) (at : m.window ≡ 3 * sync_slot_of sc.sizes + 1) (me : Side) (st : NodeState)
     → (sync_windows_are sc m 1 (lit< tt) at).first me st ≡ (window_in sc m me st).first

@@ -2,34 +2,11 @@
 -- nodes send in a stage of the sync slot has come everywhere before any of them closes it, whatever
 -- the verdict on it.
 use Rattle.std.proofs.Common.{◌≡◌, ℕ, zero, suc, ◌+◌, ◌*◌, ◌<◌, ◌≤◌, true, false, List, refl, ap, sym, ◌∙◌, subst, arith, Some, slice_get, lit<}
-use Rattle.rb_base.specs.Nodes.{Side, other}
-use Rattle.rb_base.specs.Nodes.Side.{Biu, Rmu}
-use Rattle.rb_base.specs.Sizes.{sync_slot_of}
-use Rattle.rb_rules.specs.declared.role.Role.TheVariants.{Sync}
-use Rattle.rb_rules.specs.declared.plan.Window.{Window}
-use Rattle.rb_rules.specs.Book.{of_kind}
-use Rattle.rb_rules.specs.Clock.{time_of}
-use Rattle.rb_rules.specs.Goodness.{Scenario, clock_of}
-use Rattle.rb_rules.specs.Hearing.{Sending, sending}
-use Rattle.rb_rules.specs.Lawful.{IsLawful}
-use Rattle.rb_rules.specs.Moments.{IsRunning}
-use Rattle.rb_rules.specs.NodeState.{NodeState}
-use Rattle.rb_rules.specs.Plan.{f0_of}
-use Rattle.rb_rules.specs.Ports.{HandIn}
-use Rattle.rb_rules.specs.Rounds.{Moment, moment}
-use Rattle.rb_rules.specs.Slots.{listens}
-use Rattle.rb_laws_agreement.proofs.Invariant.{IsGoodNode}
-use Rattle.rb_laws_agreement.proofs.NodeWindows.{sync_windows_are}
-use Rattle.rb_laws_synchrony.proofs.StageCalls.{CallWell, first_about, first_calls, second_about, second_calls, third_about, third_calls}
-use Rattle.rb_laws_synchrony.proofs.Synchronous.{from_1, from_2, from_3, to_1, to_2, to_3}
-use Rattle.rb_laws_synchrony.proofs.Synchrony.{IsSynchronous, synchrony}
-use Rattle.rb_laws_synchrony.proofs.TakenCalls.{IsStage, call_sent, is_set}
-use Rattle.rb_laws_synchrony.proofs.TimelyWindows.{IsSet, LieAbout}
-use Rattle.rb_laws_events.proofs.FrameTimes.{good-node}
-use Rattle.rb_laws_events.proofs.Invariant.{is_good_at, last_tick, sending_of, word_at}
-use Rattle.rb_laws_events.proofs.NodeSends.{sending_at}
-use Rattle.rb_laws_events.proofs.SentChanges.{sending-of-is}
-use Rattle.rb_laws_events.proofs.StageOrder.{last_of}
+use Rattle.rb_base.specs.{Nodes.{Side, other}, Nodes.Side.{Biu, Rmu}, Sizes.sync_slot_of}
+use Rattle.rb_rules.specs.{declared.role.Role.TheVariants.Sync, declared.plan.Window.Window, Book.of_kind, Clock.time_of, Goodness.{Scenario, clock_of}, Hearing.{Sending, sending}, Lawful.IsLawful, Moments.IsRunning, NodeState.NodeState, Plan.f0_of, Ports.HandIn, Rounds.{Moment, moment}, Slots.listens}
+use Rattle.rb_laws_agreement.proofs.{Invariant.IsGoodNode, NodeWindows.sync_windows_are}
+use Rattle.rb_laws_synchrony.proofs.{StageCalls.{CallWell, first_about, first_calls, second_about, second_calls, third_about, third_calls}, Synchronous.{from_1, from_2, from_3, to_1, to_2, to_3}, Synchrony.{IsSynchronous, synchrony}, TakenCalls.{IsStage, call_sent, is_set}, TimelyWindows.{IsSet, LieAbout}}
+use Rattle.rb_laws_events.proofs.{FrameTimes.good-node, Invariant.{is_good_at, last_tick, sending_of, word_at}, NodeSends.sending_at, SentChanges.sending-of-is, StageOrder.last_of}
 
 -- what a node sends has come everywhere by the time of the last tick of another node
 abbrev pub HasComeBy : Scenario → Moment → Side → ℕ → NodeState → Side → ℕ → Type 0

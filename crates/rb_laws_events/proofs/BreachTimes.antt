@@ -1,33 +1,14 @@
 -- For the law that events are rounds if the premise on faults is broken in a sync slot: in the
 -- window in which the run breaks off a node that is good in the next frame knows when that starts,
 -- whatever the verdict.
-use Rattle.std.proofs.Common.{◌≡◌, ℕ, suc, ◌+◌, ◌<◌, ◌≤◌, true, List, refl, ap, sym, ◌∙◌, subst, arith, Option, Some, None, is_some, slice_get}
-use Rattle.std.proofs.lemmas.Option.{same_Some}
-use Rattle.rb_base.specs.Nodes.{Side}
-use Rattle.rb_base.specs.Sizes.{sync_slot_of}
-use Rattle.rb_rules.specs.Book.{of_kind}
-use Rattle.rb_rules.specs.Goodness.{Scenario, is_good}
-use Rattle.rb_rules.specs.SyncStage.{new_epoch_of}
-use Rattle.rb_rules.specs.Lawful.{IsLawful}
-use Rattle.rb_rules.specs.NodeState.{NodeState}
-use Rattle.rb_rules.specs.NodeSteps.{turn_if_known}
-use Rattle.rb_rules.specs.Ports.{HandIn}
-use Rattle.rb_rules.specs.Rounds.{Moment, moment, windows_in}
+use Rattle.std.proofs.{Common.{◌≡◌, ℕ, suc, ◌+◌, ◌<◌, ◌≤◌, true, List, refl, ap, sym, ◌∙◌, subst, arith, Option, Some, None, is_some, slice_get}, lemmas.Option.same_Some}
+use Rattle.rb_base.specs.{Nodes.Side, Sizes.sync_slot_of}
+use Rattle.rb_rules.specs.{Book.of_kind, Goodness.{Scenario, is_good}, SyncStage.new_epoch_of, Lawful.IsLawful, NodeState.NodeState, NodeSteps.turn_if_known, Ports.HandIn, Rounds.{Moment, moment, windows_in}}
 use Rattle.rb_rules.proofs.RoundStates.{Knows, state-after, state-turned}
-use Rattle.rb_laws_agreement.proofs.Goodnesses.{slot_last}
-use Rattle.rb_laws_agreement.proofs.Invariant.{IsGoodNode}
-use Rattle.rb_laws_agreement.proofs.NodeWindows.{tail_windows}
-use Rattle.rb_laws_agreement.proofs.Settings.{after}
+use Rattle.rb_laws_agreement.proofs.{Goodnesses.slot_last, Invariant.IsGoodNode, NodeWindows.tail_windows, Settings.after, ExactAgrees.has_ticks, FrameAgrees.epoch-known, FrameTimes.turned-epoch}
 use Rattle.rb_laws_synchrony.proofs.KeptMiddles.{Leaves, tail_leaves}
-use Rattle.rb_laws_agreement.proofs.ExactAgrees.{has_ticks}
-use Rattle.rb_laws_agreement.proofs.FrameAgrees.{epoch-known}
-use Rattle.rb_laws_agreement.proofs.FrameTimes.{turned-epoch}
 use Rattle.rb_laws_events.specs.Closing.{stages_in}
-use Rattle.rb_laws_events.proofs.CloseOrder.{IsFrameLater, IsWindowLater, frame-later, window-later}
-use Rattle.rb_laws_events.proofs.FrameTimes.{good-node, same-next}
-use Rattle.rb_laws_events.proofs.Invariant.{is_good_at}
-use Rattle.rb_laws_events.proofs.MomentSteps.{good-back, good-state}
-use Rattle.rb_laws_events.proofs.RoundNodes.{Stands, moments-stand}
+use Rattle.rb_laws_events.proofs.{CloseOrder.{IsFrameLater, IsWindowLater, frame-later, window-later}, FrameTimes.{good-node, same-next}, Invariant.is_good_at, MomentSteps.{good-back, good-state}, RoundNodes.{Stands, moments-stand}}
 
 -- States over the turn, whatever the verdict.
 

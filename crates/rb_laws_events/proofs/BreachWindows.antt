@@ -1,21 +1,10 @@
 -- For the law that events are rounds if the premise on faults is broken in a sync slot: good nodes
 -- are in time in each window that the run reaches, whatever the verdict on it.
-use Rattle.std.proofs.Common.{◌≡◌, ℕ, suc, ◌+◌, ◌*◌, ◌<◌, List, sym, ◌∙◌, subst, arith, inl, inr}
-use Rattle.std.proofs.lemmas.Bool.{cases_lt}
+use Rattle.std.proofs.{Common.{◌≡◌, ℕ, suc, ◌+◌, ◌*◌, ◌<◌, List, sym, ◌∙◌, subst, arith, inl, inr}, lemmas.Bool.cases_lt}
 use Rattle.rb_base.specs.Sizes.{sync_slot_of}
-use Rattle.rb_rules.specs.Goodness.{Scenario}
-use Rattle.rb_rules.specs.Lawful.{IsLawful}
-use Rattle.rb_rules.specs.Moments.{IsRunning}
-use Rattle.rb_rules.specs.Ports.{HandIn}
-use Rattle.rb_rules.specs.Rounds.{Moment, moment}
+use Rattle.rb_rules.specs.{Goodness.Scenario, Lawful.IsLawful, Moments.IsRunning, Ports.HandIn, Rounds.{Moment, moment}}
 use Rattle.rb_laws_events.specs.Closing.{stages_in}
-use Rattle.rb_laws_events.proofs.BreachEpochs.{begins-after}
-use Rattle.rb_laws_events.proofs.FrameTimes.{BegunWell, begun-well}
-use Rattle.rb_laws_events.proofs.Invariant.{InTime, next_stage}
-use Rattle.rb_laws_events.proofs.MomentSteps.{next-inner, next-outer}
-use Rattle.rb_laws_events.proofs.RunTimes.{heard-running, in-exact}
-use Rattle.rb_laws_events.proofs.StageTimes.{keeps-running, stage-room}
-use Rattle.rb_laws_events.proofs.TimelyMoments.{order-inner, order-outer}
+use Rattle.rb_laws_events.proofs.{BreachEpochs.begins-after, FrameTimes.{BegunWell, begun-well}, Invariant.{InTime, next_stage}, MomentSteps.{next-inner, next-outer}, RunTimes.{heard-running, in-exact}, StageTimes.{keeps-running, stage-room}, TimelyMoments.{order-inner, order-outer}}
 
 -- in each stage that the run reaches good nodes are in time
 pub in-reached : (sc : Scenario) (hands : List HandIn) → IsLawful sc → (p : ℕ) → IsRunning (moment sc hands p) → (moment sc hands p).window < stages_in sc.sizes

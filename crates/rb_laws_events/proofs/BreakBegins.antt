@@ -1,29 +1,10 @@
 -- For the law that events are rounds if the premise on faults is broken in a sync slot: when the
 -- first node closes the stage with which the run breaks off, all that run wait for their last tick
 -- of it, and have sent what they send in it.
-use Rattle.std.proofs.Common.{◌≡◌, ℕ, ◌+◌, ◌*◌, ◌<◌, ◌≤◌, ◌==◌, ◌&&◌, ◌||◌, ◌⊎◌, nat_lt, Bool, true, false, List, [], refl, ap, ◌∙◌, subst, arith, inl, inr, Option, Some, None, option_and_then, option_map, option_to_list, slice_get}
-use Rattle.std.proofs.lemmas.Bool.Decides.{nat_tests}
-use Rattle.rb_base.specs.Nodes.{Side, other}
-use Rattle.rb_base.specs.Sizes.{sync_slot_of}
-use Rattle.rb_rules.specs.Book.{Each, of_kind}
-use Rattle.rb_rules.specs.Clock.{time_of}
-use Rattle.rb_rules.specs.Goodness.{Scenario, clock_of}
-use Rattle.rb_rules.specs.Hearing.{Sending, coming_of}
-use Rattle.rb_rules.specs.Lawful.{IsLawful}
-use Rattle.rb_rules.specs.Moments.{IsRunning}
-use Rattle.rb_rules.specs.NodeState.{NodeState}
-use Rattle.rb_rules.specs.Ports.{HandIn}
-use Rattle.rb_rules.specs.Rounds.{Moment, moment}
-use Rattle.rb_rules.specs.WorldStep.{Site}
-use Rattle.rb_laws_events.proofs.Behind.{pend-of}
-use Rattle.rb_laws_events.proofs.BreakEnters.{sent-then, waits-then}
-use Rattle.rb_laws_events.proofs.BreakMessages.{SiteBreaks}
-use Rattle.rb_laws_events.proofs.BreakSites.{HasClosed, WaitsDeaf, WaitsHearing}
-use Rattle.rb_laws_events.proofs.BreakWorld.{SitesBreak}
-use Rattle.rb_laws_events.proofs.Invariant.{entry_of, has_sent, is_good_at, last_tick, sending_of}
-use Rattle.rb_laws_events.proofs.NodeActs.{HasRoom}
-use Rattle.rb_laws_events.proofs.NodeEvents.{tick-after}
-use Rattle.rb_laws_events.proofs.WorldStands.{AllPend, IsDown, IsUp, SitesStand, ahead_in, sent_by}
+use Rattle.std.proofs.{Common.{◌≡◌, ℕ, ◌+◌, ◌*◌, ◌<◌, ◌≤◌, ◌==◌, ◌&&◌, ◌||◌, ◌⊎◌, nat_lt, Bool, true, false, List, [], refl, ap, ◌∙◌, subst, arith, inl, inr, Option, Some, None, option_and_then, option_map, option_to_list, slice_get}, lemmas.Bool.Decides.nat_tests}
+use Rattle.rb_base.specs.{Nodes.{Side, other}, Sizes.sync_slot_of}
+use Rattle.rb_rules.specs.{Book.{Each, of_kind}, Clock.time_of, Goodness.{Scenario, clock_of}, Hearing.{Sending, coming_of}, Lawful.IsLawful, Moments.IsRunning, NodeState.NodeState, Ports.HandIn, Rounds.{Moment, moment}, WorldStep.Site}
+use Rattle.rb_laws_events.proofs.{Behind.pend-of, BreakEnters.{sent-then, waits-then}, BreakMessages.SiteBreaks, BreakSites.{HasClosed, WaitsDeaf, WaitsHearing}, BreakWorld.SitesBreak, Invariant.{entry_of, has_sent, is_good_at, last_tick, sending_of}, NodeActs.HasRoom, NodeEvents.tick-after, WorldStands.{AllPend, IsDown, IsUp, SitesStand, ahead_in, sent_by}}
 
 -- moment `p` has the first close of a stage: all nodes that run are in it, one of them at its last
 -- tick, and nothing pends before

@@ -1,42 +1,12 @@
 -- For the law that events are rounds if the premise on faults is broken in a sync slot: once a good
 -- node closes a stage of the sync slot, all others that stand in it wait for its last tick; and at
 -- that tick they tell what the rounds tell.
-use Rattle.std.proofs.Common.{◌≡◌, ℕ, ◌+◌, ◌*◌, ◌<◌, ◌≤◌, ◌==◌, ◌⊎◌, Bool, true, false, List, [], refl, ap, sym, ◌∙◌, subst, arith, inl, inr, Some, slice_get}
-use Rattle.std.proofs.lemmas.Bool.{cases_lt}
-use Rattle.std.proofs.lemmas.Bool.Decides.{nat_tests}
-use Rattle.rb_base.specs.Nodes.{Side, other}
-use Rattle.rb_base.specs.Sizes.{sync_slot_of}
-use Rattle.rb_rules.specs.declared.role.Role.TheVariants.{Sync}
-use Rattle.rb_rules.specs.declared.plan.Window.{Window}
-use Rattle.rb_rules.specs.Book.{of_kind}
-use Rattle.rb_rules.specs.Clock.{time_of}
-use Rattle.rb_rules.specs.Core.{Act, Core}
-use Rattle.rb_rules.specs.Goodness.{Scenario, clock_of}
-use Rattle.rb_rules.specs.Hearing.{Sending}
-use Rattle.rb_rules.specs.Lawful.{IsLawful}
-use Rattle.rb_rules.specs.Moments.{IsRunning}
-use Rattle.rb_rules.specs.NodeState.{NodeState}
-use Rattle.rb_rules.specs.Ports.{HandIn, PortState}
-use Rattle.rb_rules.specs.Rounds.{Moment, go_through, moment, sent_in, window_in}
-use Rattle.rb_rules.specs.Slots.{listens}
-use Rattle.rb_rules.specs.WorldStep.{Site, Timed, after_act, pass_and_tick}
-use Rattle.rb_rules.proofs.Drift.{times_rise_to}
-use Rattle.rb_rules.proofs.RoundStates.{Stays}
+use Rattle.std.proofs.{Common.{◌≡◌, ℕ, ◌+◌, ◌*◌, ◌<◌, ◌≤◌, ◌==◌, ◌⊎◌, Bool, true, false, List, [], refl, ap, sym, ◌∙◌, subst, arith, inl, inr, Some, slice_get}, lemmas.Bool.cases_lt, lemmas.Bool.Decides.nat_tests}
+use Rattle.rb_base.specs.{Nodes.{Side, other}, Sizes.sync_slot_of}
+use Rattle.rb_rules.specs.{declared.role.Role.TheVariants.Sync, declared.plan.Window.Window, Book.of_kind, Clock.time_of, Core.{Act, Core}, Goodness.{Scenario, clock_of}, Hearing.Sending, Lawful.IsLawful, Moments.IsRunning, NodeState.NodeState, Ports.{HandIn, PortState}, Rounds.{Moment, go_through, moment, sent_in, window_in}, Slots.listens, WorldStep.{Site, Timed, after_act, pass_and_tick}}
+use Rattle.rb_rules.proofs.{Drift.times_rise_to, RoundStates.Stays}
 use Rattle.rb_laws_agreement.proofs.NodeWindows.{sync_windows_are}
-use Rattle.rb_laws_events.proofs.BreachMiddles.{next-after}
-use Rattle.rb_laws_events.proofs.BreachSends.{sent-before}
-use Rattle.rb_laws_events.proofs.BreakSites.{HasClosed, WaitsDeaf, WaitsHearing, closes-told}
-use Rattle.rb_laws_events.proofs.FrameTimes.{good-node}
-use Rattle.rb_laws_events.proofs.Invariant.{NodeStands, entry_of, is_good_at, last_tick, sending_of, word_at}
-use Rattle.rb_laws_events.proofs.LastCloses.{shows-heard}
-use Rattle.rb_laws_events.proofs.NodeActs.{HasRoom, HasWord}
-use Rattle.rb_laws_events.proofs.NodeMoves.{after-stays, first-alike}
-use Rattle.rb_laws_events.proofs.PastTicks.{IsPast}
-use Rattle.rb_laws_events.proofs.SameHeard.{Every}
-use Rattle.rb_laws_events.proofs.SentAlready.{waits-for-last}
-use Rattle.rb_laws_events.proofs.SentChanges.{sending-of-is}
-use Rattle.rb_laws_events.proofs.StageOrder.{last_of}
-use Rattle.rb_laws_events.proofs.TickWindows.{ends-before-later, first_of}
+use Rattle.rb_laws_events.proofs.{BreachMiddles.next-after, BreachSends.sent-before, BreakSites.{HasClosed, WaitsDeaf, WaitsHearing, closes-told}, FrameTimes.good-node, Invariant.{NodeStands, entry_of, is_good_at, last_tick, sending_of, word_at}, LastCloses.shows-heard, NodeActs.{HasRoom, HasWord}, NodeMoves.{after-stays, first-alike}, PastTicks.IsPast, SameHeard.Every, SentAlready.waits-for-last, SentChanges.sending-of-is, StageOrder.last_of, TickWindows.{ends-before-later, first_of}}
 
 -- what a good node sends in the stage has gone out by the time of the last tick of another
 pub sent-then : (sc : Scenario) (hands : List HandIn) → IsLawful sc → (p q : ℕ) → IsRunning (moment sc hands p) → q < 3 → (moment sc hands p).window ≡ 3 * sync_slot_of sc.sizes + q

@@ -1,42 +1,13 @@
 -- For the law that events are rounds if the premise on faults is broken in a sync slot: a due tick
 -- of a node of a world in which the run breaks off with the first or the second stage of the sync
 -- slot. After it the node has told its row, and it says nothing to those that listen.
-use Rattle.std.proofs.Common.{◌≡◌, ℕ, zero, suc, ◌+◌, ◌*◌, ◌<◌, ◌≤◌, ◌==◌, ◌⊎◌, Bool, true, false, List, [], refl, ap, sym, ◌∙◌, subst, arith, inl, inr, Option, Some, None, slice_get}
-use Rattle.std.proofs.lemmas.Bool.Decides.{nat_tests}
-use Rattle.std.proofs.lemmas.Option.{same_Some}
-use Rattle.rb_base.specs.Nodes.{Side, other}
-use Rattle.rb_base.specs.Nodes.Side.{Biu, Rmu}
-use Rattle.rb_base.specs.Sizes.{sync_slot_of}
+use Rattle.std.proofs.{Common.{◌≡◌, ℕ, zero, suc, ◌+◌, ◌*◌, ◌<◌, ◌≤◌, ◌==◌, ◌⊎◌, Bool, true, false, List, [], refl, ap, sym, ◌∙◌, subst, arith, inl, inr, Option, Some, None, slice_get}, lemmas.Bool.Decides.nat_tests, lemmas.Option.same_Some}
+use Rattle.rb_base.specs.{Nodes.{Side, other}, Nodes.Side.{Biu, Rmu}, Sizes.sync_slot_of}
 use Rattle.rb_base.proofs.Plain.{none_and_some}
-use Rattle.rb_rules.specs.declared.message.Message.{Message}
-use Rattle.rb_rules.specs.declared.plan.Window.{Window}
-use Rattle.rb_rules.specs.declared.role.Role.TheVariants.{Sync}
-use Rattle.rb_rules.specs.Book.{of_kind}
-use Rattle.rb_rules.specs.Clock.{time_of}
-use Rattle.rb_rules.specs.Core.{if_at}
-use Rattle.rb_rules.specs.Goodness.{Scenario, clock_of}
-use Rattle.rb_rules.specs.Hearing.{Sending}
-use Rattle.rb_rules.specs.Lawful.{IsLawful}
-use Rattle.rb_rules.specs.Moments.{IsRunning}
-use Rattle.rb_rules.specs.NodeState.{NodeState}
-use Rattle.rb_rules.specs.Ports.{HandIn, PortState}
-use Rattle.rb_rules.specs.Rounds.{Moment, moment, window_in}
-use Rattle.rb_rules.specs.Slots.{listens, same_side}
-use Rattle.rb_rules.specs.WorldStep.{Site, Timed, after_act, pass_and_tick}
+use Rattle.rb_rules.specs.{declared.message.Message.Message, declared.plan.Window.Window, declared.role.Role.TheVariants.Sync, Book.of_kind, Clock.time_of, Core.if_at, Goodness.{Scenario, clock_of}, Hearing.Sending, Lawful.IsLawful, Moments.IsRunning, NodeState.NodeState, Ports.{HandIn, PortState}, Rounds.{Moment, moment, window_in}, Slots.{listens, same_side}, WorldStep.{Site, Timed, after_act, pass_and_tick}}
 use Rattle.rb_rules.proofs.Slots.{same_side-is}
 use Rattle.rb_laws_agreement.proofs.NodeWindows.{sync_windows_are}
-use Rattle.rb_laws_events.proofs.BreakEnters.{hearing-closes, sent-then}
-use Rattle.rb_laws_events.proofs.BreakMessages.{SiteBreaks, closed-silent}
-use Rattle.rb_laws_events.proofs.BreakSites.{HasClosed, WaitsHearing}
-use Rattle.rb_laws_events.proofs.BreakTicks.{before-next, closed-goes-on}
-use Rattle.rb_laws_events.proofs.DeafEnds.{deaf-closes}
-use Rattle.rb_laws_events.proofs.Invariant.{entry_of, is_good_at, last_tick, word_at}
-use Rattle.rb_laws_events.proofs.LastCloses.{shows-deaf}
-use Rattle.rb_laws_events.proofs.NodeActs.{HasRoom, HasWord}
-use Rattle.rb_laws_events.proofs.NodeSends.{sending_at}
-use Rattle.rb_laws_events.proofs.SameHeard.{Every}
-use Rattle.rb_laws_events.proofs.SentChanges.{sending-of-is}
-use Rattle.rb_laws_events.proofs.StageOrder.{last_of}
+use Rattle.rb_laws_events.proofs.{BreakEnters.{hearing-closes, sent-then}, BreakMessages.{SiteBreaks, closed-silent}, BreakSites.{HasClosed, WaitsHearing}, BreakTicks.{before-next, closed-goes-on}, DeafEnds.deaf-closes, Invariant.{entry_of, is_good_at, last_tick, word_at}, LastCloses.shows-deaf, NodeActs.{HasRoom, HasWord}, NodeSends.sending_at, SameHeard.Every, SentChanges.sending-of-is, StageOrder.last_of}
 
 -- the tick is due, and some good node has its last tick of the stage no earlier
 pub record TickBreaks (sc : Scenario) (hands : List HandIn) (sent : Side → ℕ → ℕ → Bool) (ports : List PortState) (p : ℕ) (me : Side) (i : ℕ) (s : Site) (a : Timed) : Type 0 where

@@ -1,27 +1,10 @@
 -- For the law that events are rounds: the nodes of a world in which the run breaks off with the
 -- first or the second stage of the sync slot keep what is asked of them.
-use Rattle.std.proofs.Common.{◌≡◌, ℕ, ◌+◌, ◌*◌, ◌<◌, ◌≤◌, ◌⊎◌, Bool, true, false, List, ap, sym, ◌∙◌, subst, arith, inl, inr, Some}
-use Rattle.std.proofs.lemmas.Option.{same_Some}
-use Rattle.rb_base.specs.Nodes.{Side}
-use Rattle.rb_base.specs.Sizes.{sync_slot_of}
+use Rattle.std.proofs.{Common.{◌≡◌, ℕ, ◌+◌, ◌*◌, ◌<◌, ◌≤◌, ◌⊎◌, Bool, true, false, List, ap, sym, ◌∙◌, subst, arith, inl, inr, Some}, lemmas.Option.same_Some}
+use Rattle.rb_base.specs.{Nodes.Side, Sizes.sync_slot_of}
 use Rattle.rb_base.proofs.Plain.{none_and_some}
-use Rattle.rb_rules.specs.Clock.{time_of}
-use Rattle.rb_rules.specs.Goodness.{Scenario, clock_of}
-use Rattle.rb_rules.specs.Lawful.{IsLawful}
-use Rattle.rb_rules.specs.Ports.{HandIn}
-use Rattle.rb_rules.specs.Rounds.{Moment, moment, window_in}
-use Rattle.rb_rules.specs.WorldStep.{Site, Timed}
-use Rattle.rb_laws_events.proofs.BreakBegins.{break-begins}
-use Rattle.rb_laws_events.proofs.BreakEvents.{site-ticks}
-use Rattle.rb_laws_events.proofs.BreakMessages.{HasStopped, SiteBreaks}
-use Rattle.rb_laws_events.proofs.BreakNodes.{KeepsNodes, TellsStage, WaitsLast}
-use Rattle.rb_laws_events.proofs.BreakSites.{HasClosed}
-use Rattle.rb_laws_events.proofs.BreakTells.{closed-tells}
-use Rattle.rb_laws_events.proofs.BreakWorld.{NodesBreak, break-arrival, break-tick}
-use Rattle.rb_laws_events.proofs.Invariant.{is_good_at}
-use Rattle.rb_laws_events.proofs.NodeActs.{HasRoom}
-use Rattle.rb_laws_events.proofs.RoundNodes.{moments-stand}
-use Rattle.rb_laws_events.proofs.Telling.{place-is, row-place}
+use Rattle.rb_rules.specs.{Clock.time_of, Goodness.{Scenario, clock_of}, Lawful.IsLawful, Ports.HandIn, Rounds.{Moment, moment, window_in}, WorldStep.{Site, Timed}}
+use Rattle.rb_laws_events.proofs.{BreakBegins.break-begins, BreakEvents.site-ticks, BreakMessages.{HasStopped, SiteBreaks}, BreakNodes.{KeepsNodes, TellsStage, WaitsLast}, BreakSites.HasClosed, BreakTells.closed-tells, BreakWorld.{NodesBreak, break-arrival, break-tick}, Invariant.is_good_at, NodeActs.HasRoom, RoundNodes.moments-stand, Telling.{place-is, row-place}}
 
 -- a node that has closed the stage has told its row of it
 pub closed-stage-tells : (sc : Scenario) (hands : List HandIn) → HasRoom sc.plan → (p q : ℕ) → q < 3 → (moment sc hands p).window ≡ 3 * sync_slot_of sc.sizes + q → (me : Side) (i : ℕ) (s : Site)

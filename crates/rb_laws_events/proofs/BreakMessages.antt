@@ -3,29 +3,9 @@
 -- that has told its row of it, and is of the kind heard in it, says nothing up to the last tick of
 -- the next window.
 use Rattle.std.proofs.Common.{◌≡◌, ℕ, ◌+◌, ◌*◌, ◌<◌, ◌≤◌, ◌&&◌, ◌++◌, ◌∷◌, [], ◌⊎◌, Bool, true, false, List, refl, ap, sym, ◌∙◌, subst, arith, inl, inr, Option, Some, None}
-use Rattle.rb_base.specs.Nodes.{Side, other}
-use Rattle.rb_base.specs.Sizes.{Sizes, sync_slot_of}
-use Rattle.rb_rules.specs.declared.message.Message.{Message}
-use Rattle.rb_rules.specs.declared.plan.Plan.{Plan}
-use Rattle.rb_rules.specs.declared.role.Role.TheVariants.{Sync}
-use Rattle.rb_rules.specs.Core.{Act, Core, act_at, act_on, epoch_at, is_last, is_spent, of_source, pass_to, said_at, state_at, state_kept, tick, window_here}
-use Rattle.rb_rules.specs.ExactStage.{Outcome}
-use Rattle.rb_rules.specs.Goodness.{Scenario}
-use Rattle.rb_rules.specs.Hearing.{close_window, coming_of}
-use Rattle.rb_rules.specs.NodeState.{NodeState}
-use Rattle.rb_rules.specs.Ports.{HandIn, PortState}
-use Rattle.rb_rules.specs.Rounds.{moment, window_in}
-use Rattle.rb_rules.specs.Slots.{listens, same_side}
-use Rattle.rb_rules.specs.WorldStep.{Site, pass_and_tick, wants_in, word_of}
-use Rattle.rb_laws_events.proofs.BreakSites.{HasClosed, WaitsDeaf, WaitsHearing}
-use Rattle.rb_laws_events.proofs.Invariant.{word_at}
-use Rattle.rb_laws_events.proofs.NodeActs.{HasRoom, IsInWindow}
-use Rattle.rb_laws_events.proofs.NodeSends.{KeepsTime}
-use Rattle.rb_laws_events.proofs.PastTicks.{IsPast, turns-later}
-use Rattle.rb_laws_events.proofs.SilentThere.{silent-there}
-use Rattle.rb_laws_events.proofs.StageOrder.{last_of}
-use Rattle.rb_laws_events.proofs.TickWindows.{IsTickIn, first_of}
-use Rattle.rb_laws_events.proofs.WorldTicks.{reached}
+use Rattle.rb_base.specs.{Nodes.{Side, other}, Sizes.{Sizes, sync_slot_of}}
+use Rattle.rb_rules.specs.{declared.message.Message.Message, declared.plan.Plan.Plan, declared.role.Role.TheVariants.Sync, Core.{Act, Core, act_at, act_on, epoch_at, is_last, is_spent, of_source, pass_to, said_at, state_at, state_kept, tick, window_here}, ExactStage.Outcome, Goodness.Scenario, Hearing.{close_window, coming_of}, NodeState.NodeState, Ports.{HandIn, PortState}, Rounds.{moment, window_in}, Slots.{listens, same_side}, WorldStep.{Site, pass_and_tick, wants_in, word_of}}
+use Rattle.rb_laws_events.proofs.{BreakSites.{HasClosed, WaitsDeaf, WaitsHearing}, Invariant.word_at, NodeActs.{HasRoom, IsInWindow}, NodeSends.KeepsTime, PastTicks.{IsPast, turns-later}, SilentThere.silent-there, StageOrder.last_of, TickWindows.{IsTickIn, first_of}, WorldTicks.reached}
 
 -- A message on its way.
 

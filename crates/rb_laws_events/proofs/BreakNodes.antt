@@ -1,27 +1,10 @@
 -- For the law that events are rounds: what is asked of the nodes of a world in which the run breaks
 -- off in a sync slot.
 use Rattle.std.proofs.Common.{◌≡◌, ℕ, suc, ◌+◌, ◌*◌, ◌<◌, ◌≤◌, ◌⊎◌, Bool, true, List, Some, slice_get}
-use Rattle.rb_base.specs.Nodes.{Side}
-use Rattle.rb_base.specs.Sizes.{sync_slot_of}
-use Rattle.rb_rules.specs.Book.{Each, Row, of_kind}
-use Rattle.rb_rules.specs.Clock.{time_of}
-use Rattle.rb_rules.specs.Goodness.{Scenario, clock_of}
-use Rattle.rb_rules.specs.Hearing.{Coming}
-use Rattle.rb_rules.specs.Moments.{IsRunning}
-use Rattle.rb_rules.specs.NodeState.{NodeState}
-use Rattle.rb_rules.specs.Ports.{HandIn, PortState}
-use Rattle.rb_rules.specs.Rounds.{moment}
-use Rattle.rb_rules.specs.WorldStep.{Site, Timed, after_act, after_arrival, at_node, pass_and_tick, with_message}
+use Rattle.rb_base.specs.{Nodes.Side, Sizes.sync_slot_of}
+use Rattle.rb_rules.specs.{Book.{Each, Row, of_kind}, Clock.time_of, Goodness.{Scenario, clock_of}, Hearing.Coming, Moments.IsRunning, NodeState.NodeState, Ports.{HandIn, PortState}, Rounds.moment, WorldStep.{Site, Timed, after_act, after_arrival, at_node, pass_and_tick, with_message}}
 use Rattle.rb_rules.proofs.Stamps.{Moves}
-use Rattle.rb_laws_events.proofs.BreakBegins.{FirstCloses}
-use Rattle.rb_laws_events.proofs.BreakEvents.{TickBreaks}
-use Rattle.rb_laws_events.proofs.BreakMessages.{HasStopped}
-use Rattle.rb_laws_events.proofs.Invariant.{is_good_at, last_tick}
-use Rattle.rb_laws_events.proofs.MomentBooks.{place_at}
-use Rattle.rb_laws_events.proofs.PendingLists.{StandsAt}
-use Rattle.rb_laws_events.proofs.Receiving.{ArrivesNow}
-use Rattle.rb_laws_events.proofs.Settling.{RowOfRounds}
-use Rattle.rb_laws_events.proofs.WorldStands.{sent_by}
+use Rattle.rb_laws_events.proofs.{BreakBegins.FirstCloses, BreakEvents.TickBreaks, BreakMessages.HasStopped, Invariant.{is_good_at, last_tick}, MomentBooks.place_at, PendingLists.StandsAt, Receiving.ArrivesNow, Settling.RowOfRounds, WorldStands.sent_by}
 
 -- the run breaks off with stage q of the sync slot, which is the window of moment b
 pub record BreaksAt (sc : Scenario) (hands : List HandIn) (b q : ℕ) : Type 0 where

@@ -1,47 +1,13 @@
 -- For the law that events are rounds: worlds in which the run breaks off in a sync slot. The book
 -- stays until all that are good have told of the stage, and then it is the rounds', and has ended.
-use Rattle.std.proofs.Common.{◌≡◌, ℕ, suc, ◌+◌, ◌^◌, ◌<◌, ◌≤◌, ◌==◌, ◌&&◌, ◌⊎◌, Bool, true, false, List, length, refl, ap, sym, ◌∙◌, subst, arith, inl, inr, Option, Some, None, slice_get, if◌then◌else◌}
-use Rattle.std.proofs.lemmas.Bool.{and_from, and_right, cases_lt, lt-ltb, not_from_false}
-use Rattle.rb_base.specs.Nodes.{Side, other}
-use Rattle.rb_base.specs.Nodes.Side.{Biu}
-use Rattle.rb_base.specs.declared.values.Place.{Place}
+use Rattle.std.proofs.{Common.{◌≡◌, ℕ, suc, ◌+◌, ◌^◌, ◌<◌, ◌≤◌, ◌==◌, ◌&&◌, ◌⊎◌, Bool, true, false, List, length, refl, ap, sym, ◌∙◌, subst, arith, inl, inr, Option, Some, None, slice_get, if◌then◌else◌}, lemmas.Bool.{and_from, and_right, cases_lt, lt-ltb, not_from_false}}
+use Rattle.rb_base.specs.{Nodes.{Side, other}, Nodes.Side.Biu, declared.values.Place.Place}
 use Rattle.rb_base.proofs.Plain.{true-false}
-use Rattle.rb_rules.specs.Book.{Book, Each, of_kind}
-use Rattle.rb_rules.specs.Book.Milestone.{Begin, End, Stage}
-use Rattle.rb_rules.specs.Clock.{time_of}
-use Rattle.rb_rules.specs.Goodness.{Scenario, clock_of}
-use Rattle.rb_rules.specs.Hearing.{port_at}
-use Rattle.rb_rules.specs.Lawful.{IsLawful}
-use Rattle.rb_rules.specs.NodeState.{NodeState}
-use Rattle.rb_rules.specs.Ports.{HandIn}
-use Rattle.rb_rules.specs.Rounds.{Moment, moment}
-use Rattle.rb_rules.specs.Slots.{count_of}
-use Rattle.rb_rules.specs.WorldStep.{Due, Site, Timed, World, book_with, comes_so, frame_in, happens, is_complete, needs_no_event, record_since, settle, settle_next, take_if_due, with_pending}
-use Rattle.rb_rules.specs.WorldStep.Pending.{Tick}
-use Rattle.rb_rules.specs.WorldStep.Way.{ByAnEvent}
+use Rattle.rb_rules.specs.{Book.{Book, Each, of_kind}, Book.Milestone.{Begin, End, Stage}, Clock.time_of, Goodness.{Scenario, clock_of}, Hearing.port_at, Lawful.IsLawful, NodeState.NodeState, Ports.HandIn, Rounds.{Moment, moment}, Slots.count_of, WorldStep.{Due, Site, Timed, World, book_with, comes_so, frame_in, happens, is_complete, needs_no_event, record_since, settle, settle_next, take_if_due, with_pending}, WorldStep.Pending.Tick, WorldStep.Way.ByAnEvent}
 use Rattle.rb_laws_events.specs.Closing.{stages_in}
-use Rattle.rb_laws_events.proofs.Behind.{closes-before, runs-there, settled-next}
-use Rattle.rb_laws_events.proofs.BreakBegins.{FirstCloses, all-have-sent}
-use Rattle.rb_laws_events.proofs.BreakNodes.{BreaksAt, FirstOf, KeepsNodes}
+use Rattle.rb_laws_events.proofs.{Behind.{closes-before, runs-there, settled-next}, BreakBegins.{FirstCloses, all-have-sent}, BreakNodes.{BreaksAt, FirstOf, KeepsNodes}, BreakPorts.{PortsBreak, PortsOff, ports-break, ports-off}, BreakRooms.{HasLater, has-later}, BreakRuns.{AllSent, NodesOff, WaitsYet, first-of, pending-off, waits-yet}, DueEvents.IsDue, Invariant.{is_good_at, last_tick}, MomentBooks.place_at, MomentSteps.good-back, NodeActs.HasRoom, OneEvent.{WorldInRounds, all-pend, happens-is}, RoundNodes.{item-at, slot_numbered}, SettledOnce.{ended-still, rest-still, settle-still, stage-silent, waits-still}, Settling.stage-settled, SettlingFrames.IsOfMoment, ToldInOrder.number_at, UpToThere.{UpTo, from-running}, WorldBooks.{happens-book, settle_rest}, WorldStands.{AllPend, IsUp, sent_by}}
 use Rattle.rb_rules.proofs.Drift.{times_rise_to}
 use Rattle.rb_laws_agreement.proofs.Goodnesses.{good_counts}
-use Rattle.rb_laws_events.proofs.BreakPorts.{PortsBreak, PortsOff, ports-break, ports-off}
-use Rattle.rb_laws_events.proofs.BreakRooms.{HasLater, has-later}
-use Rattle.rb_laws_events.proofs.BreakRuns.{AllSent, NodesOff, WaitsYet, first-of, pending-off, waits-yet}
-use Rattle.rb_laws_events.proofs.DueEvents.{IsDue}
-use Rattle.rb_laws_events.proofs.Invariant.{is_good_at, last_tick}
-use Rattle.rb_laws_events.proofs.MomentBooks.{place_at}
-use Rattle.rb_laws_events.proofs.MomentSteps.{good-back}
-use Rattle.rb_laws_events.proofs.NodeActs.{HasRoom}
-use Rattle.rb_laws_events.proofs.OneEvent.{WorldInRounds, all-pend, happens-is}
-use Rattle.rb_laws_events.proofs.RoundNodes.{item-at, slot_numbered}
-use Rattle.rb_laws_events.proofs.SettledOnce.{ended-still, rest-still, settle-still, stage-silent, waits-still}
-use Rattle.rb_laws_events.proofs.Settling.{stage-settled}
-use Rattle.rb_laws_events.proofs.SettlingFrames.{IsOfMoment}
-use Rattle.rb_laws_events.proofs.ToldInOrder.{number_at}
-use Rattle.rb_laws_events.proofs.UpToThere.{UpTo, from-running}
-use Rattle.rb_laws_events.proofs.WorldBooks.{happens-book, settle_rest}
-use Rattle.rb_laws_events.proofs.WorldStands.{AllPend, IsUp, sent_by}
 
 -- a world in which the run breaks off with stage q at moment b, and some good node has not told of
 -- the stage

@@ -1,47 +1,12 @@
 -- For the law that cores follow the rounds: ports in a run that breaks off. The port of a BIU stays
 -- that of the rounds before the breaking stage until the BIU has had its last tick of the stage.
-use Rattle.std.proofs.Common.{◌≡◌, ℕ, ◌+◌, ◌<◌, ◌≤◌, ◌==◌, ◌⊎◌, Bool, true, false, refl, ap, sym, ◌∙◌, subst, arith, inl, inr, List, [], Option, Some, None, slice_get, option_and_then}
-use Rattle.std.proofs.lemmas.Bool.{cases_lt}
-use Rattle.std.proofs.lemmas.Bool.Decides.{nat_tests}
-use Rattle.std.proofs.lemmas.Option.{same_Some}
-use Rattle.rb_base.specs.Nodes.{Side}
-use Rattle.rb_base.specs.Nodes.Side.{Biu, Rmu}
-use Rattle.rb_base.specs.Sizes.{sync_slot_of}
-use Rattle.rb_rules.specs.declared.closing.Closed.{Closed}
-use Rattle.rb_rules.specs.declared.message.Message.{Message}
-use Rattle.rb_rules.specs.declared.plan.Window.{Window}
-use Rattle.rb_rules.specs.Book.{Each, Row, of_kind}
-use Rattle.rb_rules.specs.Clock.{Timeline, stamp_of, time_of}
-use Rattle.rb_rules.specs.ExactStage.{Outcome}
-use Rattle.rb_rules.specs.Core.{Act, Core, act_at, act_on, epoch_at, is_last, is_spent, of_source, pass_to, said_at, state_at, state_kept, tick, window_here}
-use Rattle.rb_rules.specs.Goodness.{Scenario, clock_of}
-use Rattle.rb_rules.specs.Hearing.{Coming, close_window, port_at}
-use Rattle.rb_rules.specs.Lawful.{IsLawful}
-use Rattle.rb_rules.specs.NodeState.{NodeState}
-use Rattle.rb_rules.specs.Ports.{HandIn, PortState}
-use Rattle.rb_rules.specs.Rounds.{Moment, moment}
-use Rattle.rb_rules.specs.WorldStep.{Pending, Site, Timed, World, after_act, after_arrival, at_node, pass_and_tick, wants_in, with_act, with_delivery, with_message, with_pending, word_of}
-use Rattle.rb_rules.specs.WorldStep.Pending.{Arrival, Tick}
-use Rattle.rb_rules.proofs.Drift.{times_rise_strictly}
-use Rattle.rb_rules.proofs.QuietTicks.{arrive-same}
-use Rattle.rb_rules.proofs.Stamps.{Moves}
+use Rattle.std.proofs.{Common.{◌≡◌, ℕ, ◌+◌, ◌<◌, ◌≤◌, ◌==◌, ◌⊎◌, Bool, true, false, refl, ap, sym, ◌∙◌, subst, arith, inl, inr, List, [], Option, Some, None, slice_get, option_and_then}, lemmas.Bool.cases_lt, lemmas.Bool.Decides.nat_tests, lemmas.Option.same_Some}
+use Rattle.rb_base.specs.{Nodes.Side, Nodes.Side.{Biu, Rmu}, Sizes.sync_slot_of}
+use Rattle.rb_rules.specs.{declared.closing.Closed.Closed, declared.message.Message.Message, declared.plan.Window.Window, Book.{Each, Row, of_kind}, Clock.{Timeline, stamp_of, time_of}, ExactStage.Outcome, Core.{Act, Core, act_at, act_on, epoch_at, is_last, is_spent, of_source, pass_to, said_at, state_at, state_kept, tick, window_here}, Goodness.{Scenario, clock_of}, Hearing.{Coming, close_window, port_at}, Lawful.IsLawful, NodeState.NodeState, Ports.{HandIn, PortState}, Rounds.{Moment, moment}, WorldStep.{Pending, Site, Timed, World, after_act, after_arrival, at_node, pass_and_tick, wants_in, with_act, with_delivery, with_message, with_pending, word_of}, WorldStep.Pending.{Arrival, Tick}}
+use Rattle.rb_rules.proofs.{Drift.times_rise_strictly, QuietTicks.arrive-same, Stamps.Moves}
 use Rattle.rb_laws_agreement.proofs.FrameTimes.{good-clock}
 use Rattle.rb_laws_events.specs.Closing.{stages_in}
-use Rattle.rb_laws_events.proofs.BreakNodes.{BreaksAt, FirstOf, KeepsNodes, TellsStage, WaitsLast}
-use Rattle.rb_laws_events.proofs.BreakRooms.{acted-had, has-later}
-use Rattle.rb_laws_events.proofs.BreakRuns.{NodesOff, reached-core}
-use Rattle.rb_laws_events.proofs.DueEvents.{IsReady}
-use Rattle.rb_laws_events.proofs.Invariant.{is_good_at, last_tick}
-use Rattle.rb_laws_events.proofs.OneEvent.{moves-of}
-use Rattle.rb_laws_events.proofs.PortMoments.{port-kept}
-use Rattle.rb_laws_events.proofs.PortsInRounds.{rmu-none}
-use Rattle.rb_laws_events.proofs.RoundNodes.{slot_numbered}
-use Rattle.rb_laws_events.proofs.Telling.{reached-tells}
-use Rattle.rb_laws_events.proofs.ToldInOrder.{number_at, number-is, one-changes}
-use Rattle.rb_laws_events.proofs.ToldSoFar.{arrival-keeps}
-use Rattle.rb_laws_events.proofs.UpToThere.{breaks-later}
-use Rattle.rb_laws_events.proofs.WorldStands.{is_node}
-use Rattle.rb_laws_events.proofs.WorldTicks.{reached}
+use Rattle.rb_laws_events.proofs.{BreakNodes.{BreaksAt, FirstOf, KeepsNodes, TellsStage, WaitsLast}, BreakRooms.{acted-had, has-later}, BreakRuns.{NodesOff, reached-core}, DueEvents.IsReady, Invariant.{is_good_at, last_tick}, OneEvent.moves-of, PortMoments.port-kept, PortsInRounds.rmu-none, RoundNodes.slot_numbered, Telling.reached-tells, ToldInOrder.{number_at, number-is, one-changes}, ToldSoFar.arrival-keeps, UpToThere.breaks-later, WorldStands.is_node, WorldTicks.reached}
 
 -- What is kept of a port.
 

@@ -1,41 +1,13 @@
 -- For the law that every run ends: as long as a node waits for its last tick of the stage with
 -- which the run breaks off, no other has had all its ticks.
-use Rattle.std.proofs.Common.{◌≡◌, ℕ, ◌+◌, ◌-◌, ◌*◌, ◌^◌, ◌<◌, ◌≤◌, true, List, ap, ◌∙◌, arith, inl, inr, lit≤}
-use Rattle.std.proofs.lemmas.Bool.{cases_lt}
-use Rattle.std.proofs.lemmas.Nat.{mul-le}
-use Rattle.rb_base.specs.Nodes.{Side}
-use Rattle.rb_base.specs.Sizes.{sync_slot_of}
-use Rattle.rb_rules.specs.Clock.{stamp_of, time_of}
-use Rattle.rb_rules.specs.Core.{Act, Core, pass_to}
-use Rattle.rb_rules.specs.Goodness.{Scenario, clock_of, is_good}
-use Rattle.rb_rules.specs.Hearing.{Coming}
-use Rattle.rb_rules.specs.Lawful.{IsLawful}
-use Rattle.rb_rules.specs.NodeState.{NodeState}
-use Rattle.rb_rules.specs.Plan.{tail_start_of}
-use Rattle.rb_rules.specs.Ports.{HandIn, PortState}
-use Rattle.rb_rules.specs.Rounds.{Moment, moment}
-use Rattle.rb_rules.specs.WorldStep.{Site, after_act, after_arrival, pass_and_tick}
-use Rattle.rb_rules.proofs.Drift.{times_rise_to}
-use Rattle.rb_rules.proofs.QuietTicks.{arrive-same}
-use Rattle.rb_rules.proofs.Stamps.{Moves}
-use Rattle.rb_rules.proofs.WindowNumbers.{sync-numbered}
-use Rattle.rb_laws_synchrony.proofs.EpochTicks.{frame_ticks}
-use Rattle.rb_laws_synchrony.proofs.Times.{stamp_to}
-use Rattle.rb_laws_agreement.proofs.FrameTimes.{good-clock}
-use Rattle.rb_laws_agreement.proofs.ExactAgrees.{has_ticks}
+use Rattle.std.proofs.{Common.{◌≡◌, ℕ, ◌+◌, ◌-◌, ◌*◌, ◌^◌, ◌<◌, ◌≤◌, true, List, ap, ◌∙◌, arith, inl, inr, lit≤}, lemmas.Bool.cases_lt, lemmas.Nat.mul-le}
+use Rattle.rb_base.specs.{Nodes.Side, Sizes.sync_slot_of}
+use Rattle.rb_rules.specs.{Clock.{stamp_of, time_of}, Core.{Act, Core, pass_to}, Goodness.{Scenario, clock_of, is_good}, Hearing.Coming, Lawful.IsLawful, NodeState.NodeState, Plan.tail_start_of, Ports.{HandIn, PortState}, Rounds.{Moment, moment}, WorldStep.{Site, after_act, after_arrival, pass_and_tick}}
+use Rattle.rb_rules.proofs.{Drift.times_rise_to, QuietTicks.arrive-same, Stamps.Moves, WindowNumbers.sync-numbered}
+use Rattle.rb_laws_synchrony.proofs.{EpochTicks.frame_ticks, Times.stamp_to}
+use Rattle.rb_laws_agreement.proofs.{FrameTimes.good-clock, ExactAgrees.has_ticks}
 use Rattle.rb_laws_events.specs.Closing.{stages_in}
-use Rattle.rb_laws_events.proofs.BreakNodes.{BreaksAt, FirstOf}
-use Rattle.rb_laws_events.proofs.BreakSites.{acted}
-use Rattle.rb_laws_events.proofs.CloseOrder.{shortest-some, times-apart}
-use Rattle.rb_laws_events.proofs.FrameTimes.{BegunWell, begun-well, good-node}
-use Rattle.rb_laws_events.proofs.Invariant.{is_good_at, last_tick}
-use Rattle.rb_laws_events.proofs.MomentSteps.{good-state}
-use Rattle.rb_laws_events.proofs.PlanNumbers.{fits}
-use Rattle.rb_laws_events.proofs.RoundNodes.{slot-is, slot_numbered}
-use Rattle.rb_laws_events.proofs.StageOrder.{Apart, apart-turn, last_of, last-same, last-third-call}
-use Rattle.rb_laws_events.proofs.TickRooms.{few-ticks}
-use Rattle.rb_laws_events.proofs.TickWindows.{ends-before-later, first_of}
-use Rattle.rb_laws_events.proofs.Takes.{tick-had}
+use Rattle.rb_laws_events.proofs.{BreakNodes.{BreaksAt, FirstOf}, BreakSites.acted, CloseOrder.{shortest-some, times-apart}, FrameTimes.{BegunWell, begun-well, good-node}, Invariant.{is_good_at, last_tick}, MomentSteps.good-state, PlanNumbers.fits, RoundNodes.{slot-is, slot_numbered}, StageOrder.{Apart, apart-turn, last_of, last-same, last-third-call}, TickRooms.few-ticks, TickWindows.{ends-before-later, first_of}, Takes.tick-had}
 
 -- some tick of the node's clock comes after time `t` and is below 2^31
 pub record HasLater (sc : Scenario) (t : ℕ) (me : Side) (i : ℕ) : Type 0 where

@@ -1,47 +1,12 @@
 -- For the law that events are rounds: an event in a world in which the run breaks off in a sync
 -- slot. Until all that are good have told of the stage the book stays; then it is that of the
 -- rounds, and has ended.
-use Rattle.std.proofs.Common.{◌≡◌, ℕ, ◌^◌, ◌<◌, ◌≤◌, ◌&&◌, ◌⊎◌, Bool, true, false, List, [], ◌∷◌, ◌++◌, length, refl, ap, sym, ◌∙◌, subst, arith, inl, inr, Option, Some, None, is_some, slice_get}
-use Rattle.std.proofs.lemmas.Option.{same_Some}
-use Rattle.rb_base.specs.Nodes.{Side, other}
-use Rattle.rb_base.specs.declared.values.Place.{Place}
+use Rattle.std.proofs.{Common.{◌≡◌, ℕ, ◌^◌, ◌<◌, ◌≤◌, ◌&&◌, ◌⊎◌, Bool, true, false, List, [], ◌∷◌, ◌++◌, length, refl, ap, sym, ◌∙◌, subst, arith, inl, inr, Option, Some, None, is_some, slice_get}, lemmas.Option.same_Some}
+use Rattle.rb_base.specs.{Nodes.{Side, other}, declared.values.Place.Place}
 use Rattle.rb_base.proofs.Plain.{true-false}
-use Rattle.rb_rules.specs.declared.message.Message.{Message}
-use Rattle.rb_rules.specs.Book.{Each, Row, of_kind}
-use Rattle.rb_rules.specs.Book.Milestone.{Stage}
-use Rattle.rb_rules.specs.Clock.{time_of}
-use Rattle.rb_rules.specs.Core.{Act, Core}
-use Rattle.rb_rules.specs.Goodness.{Scenario, clock_of}
-use Rattle.rb_rules.specs.Hearing.{Coming, coming_of}
-use Rattle.rb_rules.specs.Lawful.{IsLawful}
-use Rattle.rb_rules.specs.Ports.{HandIn}
-use Rattle.rb_rules.specs.Rounds.{Moment, moment}
-use Rattle.rb_rules.specs.Slots.{count_of, same_side}
-use Rattle.rb_rules.specs.WorldStep.{Pending, Site, Timed, World, after_act, after_arrival, at_node, is_complete, pass_and_tick, row_for, same_place, times_of, with_act, with_message, with_pending}
-use Rattle.rb_rules.specs.WorldStep.Pending.{Tick, Arrival}
+use Rattle.rb_rules.specs.{declared.message.Message.Message, Book.{Each, Row, of_kind}, Book.Milestone.Stage, Clock.time_of, Core.{Act, Core}, Goodness.{Scenario, clock_of}, Hearing.{Coming, coming_of}, Lawful.IsLawful, Ports.HandIn, Rounds.{Moment, moment}, Slots.{count_of, same_side}, WorldStep.{Pending, Site, Timed, World, after_act, after_arrival, at_node, is_complete, pass_and_tick, row_for, same_place, times_of, with_act, with_message, with_pending}, WorldStep.Pending.{Tick, Arrival}}
 use Rattle.rb_laws_agreement.proofs.FrameTimes.{good-clock}
-use Rattle.rb_laws_events.proofs.Behind.{pend-of, place-same}
-use Rattle.rb_laws_events.proofs.BreakEvents.{TickBreaks}
-use Rattle.rb_laws_events.proofs.BreakMessages.{HasStopped}
-use Rattle.rb_laws_events.proofs.BreakRooms.{acted-small, arrived-small, has-later}
-use Rattle.rb_laws_events.proofs.PendingLists.{StandsAt}
-use Rattle.rb_laws_events.proofs.BreakNodes.{BreaksAt, FirstOf, KeepsNodes, TellsStage, WaitsLast}
-use Rattle.rb_laws_events.proofs.DueEvents.{IsReady}
-use Rattle.rb_laws_events.proofs.Invariant.{entry_of, is_good_at}
-use Rattle.rb_laws_events.proofs.MomentBooks.{place_at}
-use Rattle.rb_laws_events.proofs.NodeActs.{HasRoom}
-use Rattle.rb_laws_events.proofs.NodeEvents.{all-after, tick-after}
-use Rattle.rb_laws_events.proofs.OneEvent.{moves-of}
-use Rattle.rb_laws_events.proofs.PortsKept.{sync-word}
-use Rattle.rb_laws_events.proofs.RoundNodes.{moments-stand, slot_numbered}
-use Rattle.rb_laws_events.proofs.SameHeard.{Every}
-use Rattle.rb_laws_events.proofs.Settling.{RowOfRounds, RowsOfRounds}
-use Rattle.rb_laws_events.proofs.Telling.{reached-tells}
-use Rattle.rb_laws_events.proofs.ToldInOrder.{one-changes}
-use Rattle.rb_laws_events.proofs.ToldSoFar.{arrival-keeps}
-use Rattle.rb_laws_events.proofs.Untold.{HasNotTold, not-told}
-use Rattle.rb_laws_events.proofs.WorldStands.{AllPend}
-use Rattle.rb_laws_events.proofs.WorldTicks.{length-after, reached, reached-same}
+use Rattle.rb_laws_events.proofs.{Behind.{pend-of, place-same}, BreakEvents.TickBreaks, BreakMessages.HasStopped, BreakRooms.{acted-small, arrived-small, has-later}, PendingLists.StandsAt, BreakNodes.{BreaksAt, FirstOf, KeepsNodes, TellsStage, WaitsLast}, DueEvents.IsReady, Invariant.{entry_of, is_good_at}, MomentBooks.place_at, NodeActs.HasRoom, NodeEvents.{all-after, tick-after}, OneEvent.moves-of, PortsKept.sync-word, RoundNodes.{moments-stand, slot_numbered}, SameHeard.Every, Settling.{RowOfRounds, RowsOfRounds}, Telling.reached-tells, ToldInOrder.one-changes, ToldSoFar.arrival-keeps, Untold.{HasNotTold, not-told}, WorldStands.AllPend, WorldTicks.{length-after, reached, reached-same}}
 
 -- Nodes.
 

@@ -2,38 +2,12 @@
 -- of a world in which the run breaks off at moment p. Each node that is good there waits for its
 -- last tick of the window, or has told its row of it. What happens at a node keeps this.
 use Rattle.std.proofs.Common.{◌≡◌, ℕ, ◌+◌, ◌^◌, ◌<◌, ◌≤◌, ◌==◌, Bool, true, false, List, [], refl, ap, sym, ◌∙◌, subst, arith, Option, Some, None, slice_get, option_map}
-use Rattle.rb_base.specs.Nodes.{Side}
-use Rattle.rb_base.specs.Sizes.{sync_slot_of}
-use Rattle.rb_rules.specs.declared.closing.Closed.{Closed as Shown}
-use Rattle.rb_rules.specs.declared.record.Epoch.{Epoch}
-use Rattle.rb_rules.specs.declared.role.Role.TheVariants.{Sync}
-use Rattle.rb_rules.specs.declared.plan.Window.{Window}
-use Rattle.rb_rules.specs.Book.{Row, of_kind}
-use Rattle.rb_rules.specs.Clock.{stamp_of, time_of}
-use Rattle.rb_rules.specs.Core.{Act, Core, next_tick, of_source, pass_to}
-use Rattle.rb_rules.specs.Goodness.{Scenario, clock_of, is_good}
-use Rattle.rb_rules.specs.Hearing.{Coming, Span, row_of}
-use Rattle.rb_rules.specs.NodeState.{NodeState}
-use Rattle.rb_rules.specs.Ports.{HandIn, PortState}
-use Rattle.rb_rules.specs.Rounds.{Moment, go_through, moment, sent_in, window_in}
-use Rattle.rb_rules.specs.Slots.{listens}
-use Rattle.rb_rules.specs.WorldStep.{Site, Timed, after_act, after_arrival, await, coming_from, enter, pass_and_tick, proceed, says_in, span_from, stop, with_close, with_epoch}
-use Rattle.rb_rules.proofs.QuietTicks.{arrive-same}
-use Rattle.rb_rules.proofs.RoundStates.{HasTicks}
-use Rattle.rb_rules.proofs.Stamps.{Moves}
+use Rattle.rb_base.specs.{Nodes.Side, Sizes.sync_slot_of}
+use Rattle.rb_rules.specs.{declared.closing.Closed.Closed as Shown, declared.record.Epoch.Epoch, declared.role.Role.TheVariants.Sync, declared.plan.Window.Window, Book.{Row, of_kind}, Clock.{stamp_of, time_of}, Core.{Act, Core, next_tick, of_source, pass_to}, Goodness.{Scenario, clock_of, is_good}, Hearing.{Coming, Span, row_of}, NodeState.NodeState, Ports.{HandIn, PortState}, Rounds.{Moment, go_through, moment, sent_in, window_in}, Slots.listens, WorldStep.{Site, Timed, after_act, after_arrival, await, coming_from, enter, pass_and_tick, proceed, says_in, span_from, stop, with_close, with_epoch}}
+use Rattle.rb_rules.proofs.{QuietTicks.arrive-same, RoundStates.HasTicks, Stamps.Moves}
 use Rattle.rb_laws_synchrony.proofs.Times.{stamp_to}
 use Rattle.rb_laws_events.specs.Closing.{stages_in}
-use Rattle.rb_laws_events.proofs.ClosingTicks.{closing_of, spoken}
-use Rattle.rb_laws_events.proofs.Invariant.{NodeStands, is_good_at, last_tick, word_at}
-use Rattle.rb_laws_events.proofs.LastCloses.{ShowsRounds}
-use Rattle.rb_laws_events.proofs.NodeActs.{IsInWindow}
-use Rattle.rb_laws_events.proofs.NodeClosing.{closed-stage}
-use Rattle.rb_laws_events.proofs.NodeSends.{KeepsTime}
-use Rattle.rb_laws_events.proofs.NodeTicks.{like-itself, like-keeps}
-use Rattle.rb_laws_events.proofs.PastTicks.{IsPast, TellsNone, past-arrival, past-kept, past-tick}
-use Rattle.rb_laws_events.proofs.StageOrder.{last_of}
-use Rattle.rb_laws_events.proofs.Takes.{busy-later}
-use Rattle.rb_laws_events.proofs.TickWindows.{first_of}
+use Rattle.rb_laws_events.proofs.{ClosingTicks.{closing_of, spoken}, Invariant.{NodeStands, is_good_at, last_tick, word_at}, LastCloses.ShowsRounds, NodeActs.IsInWindow, NodeClosing.closed-stage, NodeSends.KeepsTime, NodeTicks.{like-itself, like-keeps}, PastTicks.{IsPast, TellsNone, past-arrival, past-kept, past-tick}, StageOrder.last_of, Takes.busy-later, TickWindows.first_of}
 
 -- a node that listens in the window waits for its last tick
 pub record WaitsHearing (sc : Scenario) (hands : List HandIn) (sent : Side → ℕ → ℕ → Bool) (now : ℕ) (me : Side) (i p : ℕ) (s : Site) : Type 0 where

@@ -1,17 +1,9 @@
 -- For the law that events are rounds if the premise on faults is broken in a sync slot: a node that
 -- has told its row of the stage with which the run breaks off has told one of the rounds'.
 use Rattle.std.proofs.Common.{◌≡◌, ℕ, ◌+◌, ◌*◌, ◌<◌, true, false, List, ap, sym, ◌∙◌, arith, Option, Some, None}
-use Rattle.rb_base.specs.Nodes.{Side}
-use Rattle.rb_base.specs.Sizes.{sync_slot_of}
-use Rattle.rb_rules.specs.Book.{Row}
-use Rattle.rb_rules.specs.Goodness.{Scenario}
-use Rattle.rb_rules.specs.Ports.{HandIn}
-use Rattle.rb_rules.specs.Rounds.{Moment, go_through, moment, sent_in, window_in}
-use Rattle.rb_rules.specs.WorldStep.{Site}
-use Rattle.rb_laws_events.proofs.BreakEnters.{stage-four}
-use Rattle.rb_laws_events.proofs.BreakSites.{HasClosed}
-use Rattle.rb_laws_events.proofs.Settling.{RowOfRounds}
-use Rattle.rb_laws_events.proofs.Telling.{closed-row}
+use Rattle.rb_base.specs.{Nodes.Side, Sizes.sync_slot_of}
+use Rattle.rb_rules.specs.{Book.Row, Goodness.Scenario, Ports.HandIn, Rounds.{Moment, go_through, moment, sent_in, window_in}, WorldStep.Site}
+use Rattle.rb_laws_events.proofs.{BreakEnters.stage-four, BreakSites.HasClosed, Settling.RowOfRounds, Telling.closed-row}
 
 pub closed-tells : (sc : Scenario) (hands : List HandIn) (p q : ℕ) → q < 3 → (moment sc hands p).window ≡ 3 * sync_slot_of sc.sizes + q → (me : Side) (i : ℕ) (s : Site)
     → (h : HasClosed sc hands me i p s) → h.st.frame ≡ (moment sc hands p).frame → (row : Row) → s.row ≡ Some row → RowOfRounds sc hands me i row

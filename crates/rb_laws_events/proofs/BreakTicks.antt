@@ -1,38 +1,12 @@
 -- For the law that events are rounds if the premise on faults is broken in a sync slot: as long as
 -- a node waits for the last tick of the stage with which the run breaks off, those that have closed
 -- it do not close the next one. An arrival keeps each of them.
-use Rattle.std.proofs.Common.{◌≡◌, ℕ, suc, ◌+◌, ◌*◌, ◌<◌, ◌≤◌, Bool, true, List, [], ◌∷◌, ap, sym, ◌∙◌, subst, arith, inl, inr, Some, slice_get}
-use Rattle.std.proofs.lemmas.Bool.{cases_lt}
-use Rattle.rb_base.specs.Nodes.{Side}
-use Rattle.rb_base.specs.Sizes.{sync_slot_of}
-use Rattle.rb_rules.specs.Book.{of_kind}
-use Rattle.rb_rules.specs.Clock.{time_of}
-use Rattle.rb_rules.specs.Goodness.{Scenario, clock_of}
-use Rattle.rb_rules.specs.Hearing.{Coming}
-use Rattle.rb_rules.specs.Lawful.{IsLawful}
-use Rattle.rb_rules.specs.Moments.{IsRunning}
-use Rattle.rb_rules.specs.NodeState.{NodeState}
-use Rattle.rb_rules.specs.Ports.{HandIn, PortState}
-use Rattle.rb_rules.specs.Rounds.{Moment, moment}
-use Rattle.rb_rules.specs.WorldStep.{Site, Timed, after_act, after_arrival, pass_and_tick}
-use Rattle.rb_rules.proofs.Drift.{times_rise_to}
-use Rattle.rb_rules.proofs.RoundStates.{Stays}
-use Rattle.rb_rules.proofs.Stamps.{Moves}
+use Rattle.std.proofs.{Common.{◌≡◌, ℕ, suc, ◌+◌, ◌*◌, ◌<◌, ◌≤◌, Bool, true, List, [], ◌∷◌, ap, sym, ◌∙◌, subst, arith, inl, inr, Some, slice_get}, lemmas.Bool.cases_lt}
+use Rattle.rb_base.specs.{Nodes.Side, Sizes.sync_slot_of}
+use Rattle.rb_rules.specs.{Book.of_kind, Clock.time_of, Goodness.{Scenario, clock_of}, Hearing.Coming, Lawful.IsLawful, Moments.IsRunning, NodeState.NodeState, Ports.{HandIn, PortState}, Rounds.{Moment, moment}, WorldStep.{Site, Timed, after_act, after_arrival, pass_and_tick}}
+use Rattle.rb_rules.proofs.{Drift.times_rise_to, RoundStates.Stays, Stamps.Moves}
 use Rattle.rb_laws_events.specs.Closing.{stages_in}
-use Rattle.rb_laws_events.proofs.BreachWindows.{in-reached}
-use Rattle.rb_laws_events.proofs.BreakMessages.{SiteBreaks}
-use Rattle.rb_laws_events.proofs.BreakSites.{HasClosed, closed-arrives, closed-ticks, deaf-arrives}
-use Rattle.rb_laws_events.proofs.CloseOrder.{IsWindowLater, window-later}
-use Rattle.rb_laws_events.proofs.Invariant.{InTime, is_good_at, last_tick, next_stage}
-use Rattle.rb_laws_events.proofs.MomentSteps.{next-inner}
-use Rattle.rb_laws_events.proofs.NodeActs.{HasRoom}
-use Rattle.rb_laws_events.proofs.NodeClosing.{good-in-sync}
-use Rattle.rb_laws_events.proofs.NodeEvents.{stands-arrival}
-use Rattle.rb_laws_events.proofs.NodeMoves.{after-stays, first-alike, get-later, state_after}
-use Rattle.rb_laws_events.proofs.PendingLists.{StandsAt}
-use Rattle.rb_laws_events.proofs.Receiving.{ArrivesNow}
-use Rattle.rb_laws_events.proofs.StageOrder.{last_of}
-use Rattle.rb_laws_events.proofs.TickWindows.{first_of}
+use Rattle.rb_laws_events.proofs.{BreachWindows.in-reached, BreakMessages.SiteBreaks, BreakSites.{HasClosed, closed-arrives, closed-ticks, deaf-arrives}, CloseOrder.{IsWindowLater, window-later}, Invariant.{InTime, is_good_at, last_tick, next_stage}, MomentSteps.next-inner, NodeActs.HasRoom, NodeClosing.good-in-sync, NodeEvents.stands-arrival, NodeMoves.{after-stays, first-alike, get-later, state_after}, PendingLists.StandsAt, Receiving.ArrivesNow, StageOrder.last_of, TickWindows.first_of}
 
 -- up to the last tick of a stage at any good node, no good node has the last tick of the next stage
 pub before-next : (sc : Scenario) (hands : List HandIn) → IsLawful sc → HasRoom sc.plan → (p q : ℕ) → IsRunning (moment sc hands p) → q < 2 → (moment sc hands p).window ≡ 3 * sync_slot_of sc.sizes + q

@@ -2,27 +2,10 @@
 -- keeps all nodes of a world in which the run breaks off with the first or the second stage of the
 -- sync slot: they wait for the last tick of it, or have told their rows.
 use Rattle.std.proofs.Common.{◌≡◌, ℕ, ◌+◌, ◌*◌, ◌<◌, Bool, true, List, [], ◌∷◌, inl, inr, Option, Some, None, slice_get}
-use Rattle.rb_base.specs.Nodes.{Side}
-use Rattle.rb_base.specs.Sizes.{sync_slot_of}
-use Rattle.rb_rules.specs.declared.message.Message.{Message}
-use Rattle.rb_rules.specs.Book.{Each, of_kind}
-use Rattle.rb_rules.specs.Core.{Act}
-use Rattle.rb_rules.specs.Goodness.{Scenario, clock_of}
-use Rattle.rb_rules.specs.Hearing.{Coming}
-use Rattle.rb_rules.specs.Lawful.{IsLawful}
-use Rattle.rb_rules.specs.Moments.{IsRunning}
-use Rattle.rb_rules.specs.Ports.{HandIn, PortState}
-use Rattle.rb_rules.specs.Rounds.{moment}
-use Rattle.rb_rules.specs.WorldStep.{Site, Timed, after_act, after_arrival, at_node, pass_and_tick, with_message}
+use Rattle.rb_base.specs.{Nodes.Side, Sizes.sync_slot_of}
+use Rattle.rb_rules.specs.{declared.message.Message.Message, Book.{Each, of_kind}, Core.Act, Goodness.{Scenario, clock_of}, Hearing.Coming, Lawful.IsLawful, Moments.IsRunning, Ports.{HandIn, PortState}, Rounds.moment, WorldStep.{Site, Timed, after_act, after_arrival, at_node, pass_and_tick, with_message}}
 use Rattle.rb_rules.proofs.Stamps.{Moves}
-use Rattle.rb_laws_events.proofs.BreakEvents.{TickBreaks, site-ticks, ticks-quiet}
-use Rattle.rb_laws_events.proofs.BreakMessages.{SiteBreaks, message-breaks}
-use Rattle.rb_laws_events.proofs.BreakTicks.{site-arrives}
-use Rattle.rb_laws_events.proofs.NodeActs.{HasRoom}
-use Rattle.rb_laws_events.proofs.Invariant.{is_good_at}
-use Rattle.rb_laws_events.proofs.PendingLists.{StandsAt}
-use Rattle.rb_laws_events.proofs.Receiving.{ArrivesNow}
-use Rattle.rb_laws_events.proofs.ToldInOrder.{one-changes}
+use Rattle.rb_laws_events.proofs.{BreakEvents.{TickBreaks, site-ticks, ticks-quiet}, BreakMessages.{SiteBreaks, message-breaks}, BreakTicks.site-arrives, NodeActs.HasRoom, Invariant.is_good_at, PendingLists.StandsAt, Receiving.ArrivesNow, ToldInOrder.one-changes}
 
 -- `SiteBreaks` holds for each node at time `now`
 abbrev pub SitesBreak : Scenario → List HandIn → (Side → ℕ → ℕ → Bool) → ℕ → ℕ → Each Site → Type 0

@@ -1,29 +1,12 @@
 -- For the law on the order of closes: the times of two closes, and a node's state some moments
 -- before.
-use Rattle.std.proofs.Common.{◌≡◌, ℕ, suc, ◌+◌, ◌*◌, ◌<◌, ◌≤◌, ◌==◌, nat_lt, Bool, true, false, List, length, refl, ap, sym, ◌∙◌, subst, arith, Some, slice_get}
-use Rattle.std.proofs.lemmas.Bool.{lt-ltb, le-ltb}
-use Rattle.std.proofs.lemmas.Option.{same_Some}
-use Rattle.rb_base.specs.Nodes.{Side}
-use Rattle.rb_base.specs.Sizes.{sync_slot_of}
-use Rattle.rb_rules.specs.Book.{of_kind}
-use Rattle.rb_rules.specs.Clock.{Timeline, time_of}
-use Rattle.rb_rules.specs.Goodness.{Scenario, is_good, clock_of}
-use Rattle.rb_rules.specs.Lawful.{IsLawful}
-use Rattle.rb_rules.specs.NodeState.{NodeState}
-use Rattle.rb_rules.specs.Plan.{longest_of, shortest_of, tail_start_of}
-use Rattle.rb_rules.specs.Ports.{HandIn}
-use Rattle.rb_rules.specs.Rounds.{Moment, IsGoodIn, window_in, windows_in, results_of, after_window, begin_frame, next_frame, sent_in, go_through, step, moment}
-use Rattle.rb_rules.specs.Slots.{count_of}
-use Rattle.rb_rules.proofs.Books.{stepped}
-use Rattle.rb_rules.proofs.Drift.{HasLengths, drift, times_rise_to}
-use Rattle.rb_rules.proofs.RoundStates.{state-after, through-stays}
-use Rattle.rb_laws_agreement.proofs.Goodnesses.{good_before, good_counts, good_earlier}
-use Rattle.rb_laws_agreement.proofs.ExactAgrees.{has_ticks}
-use Rattle.rb_laws_agreement.proofs.FrameTimes.{good-clock}
+use Rattle.std.proofs.{Common.{◌≡◌, ℕ, suc, ◌+◌, ◌*◌, ◌<◌, ◌≤◌, ◌==◌, nat_lt, Bool, true, false, List, length, refl, ap, sym, ◌∙◌, subst, arith, Some, slice_get}, lemmas.Bool.{lt-ltb, le-ltb}, lemmas.Option.same_Some}
+use Rattle.rb_base.specs.{Nodes.Side, Sizes.sync_slot_of}
+use Rattle.rb_rules.specs.{Book.of_kind, Clock.{Timeline, time_of}, Goodness.{Scenario, is_good, clock_of}, Lawful.IsLawful, NodeState.NodeState, Plan.{longest_of, shortest_of, tail_start_of}, Ports.HandIn, Rounds.{Moment, IsGoodIn, window_in, windows_in, results_of, after_window, begin_frame, next_frame, sent_in, go_through, step, moment}, Slots.count_of}
+use Rattle.rb_rules.proofs.{Books.stepped, Drift.{HasLengths, drift, times_rise_to}, RoundStates.{state-after, through-stays}}
+use Rattle.rb_laws_agreement.proofs.{Goodnesses.{good_before, good_counts, good_earlier}, ExactAgrees.has_ticks, FrameTimes.good-clock}
 use Rattle.rb_laws_events.specs.Closing.{stages_in, HaveBegunTogether, HaveBegunAFrame, CloseInOrder}
-use Rattle.rb_laws_events.proofs.PlanNumbers.{fits, closes-first}
-use Rattle.rb_laws_events.proofs.RoundNodes.{AllStand, moments-stand, item-at, slot-is, slot_numbered}
-use Rattle.rb_laws_events.proofs.StageOrder.{Apart, last_of, apart-next, apart-turn}
+use Rattle.rb_laws_events.proofs.{PlanNumbers.{fits, closes-first}, RoundNodes.{AllStand, moments-stand, item-at, slot-is, slot_numbered}, StageOrder.{Apart, last_of, apart-next, apart-turn}}
 
 -- Clocks.
 

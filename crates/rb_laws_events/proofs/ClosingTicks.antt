@@ -2,16 +2,7 @@
 -- rounds do with the node in that window.
 use Rattle.std.proofs.Common.{◌≡◌, ℕ, ◌&&◌, nat_le, true, false, List, map, sym, ◌∙◌, ap, Option, Some, None}
 use Rattle.rb_base.specs.Nodes.{Side}
-use Rattle.rb_rules.specs.declared.plan.Window.{Window}
-use Rattle.rb_rules.specs.Book.{Each}
-use Rattle.rb_rules.specs.Core.{of_source}
-use Rattle.rb_rules.specs.ExactStage.{Outcome, keep_sent}
-use Rattle.rb_rules.specs.Goodness.{Scenario, is_good, clock_of}
-use Rattle.rb_rules.specs.Hearing.{Coming, Sending, arrival_of, close_window, row_of}
-use Rattle.rb_rules.specs.NodeState.{NodeState}
-use Rattle.rb_rules.specs.Rounds.{Moment, Result, word_for_window, heard_at, close_on, go_through}
-use Rattle.rb_rules.specs.Sense.{Arrival}
-use Rattle.rb_rules.specs.WorldStep.{coming_from}
+use Rattle.rb_rules.specs.{declared.plan.Window.Window, Book.Each, Core.of_source, ExactStage.{Outcome, keep_sent}, Goodness.{Scenario, is_good, clock_of}, Hearing.{Coming, Sending, arrival_of, close_window, row_of}, NodeState.NodeState, Rounds.{Moment, Result, word_for_window, heard_at, close_on, go_through}, Sense.Arrival, WorldStep.coming_from}
 use Rattle.rb_laws_events.proofs.SameHeard.{AllOf, kept_as, close-is, row-is}
 
 -- a good node's inbox holds what the node hears in the rounds from each source

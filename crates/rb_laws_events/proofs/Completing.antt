@@ -1,32 +1,12 @@
 -- For the law that events are rounds: what an event completes is settled, and what comes next by an
 -- event waits again. While the record of a frame's start is the turn, all nodes that are good there
 -- have begun the frame, and none is beyond its second window.
-use Rattle.std.proofs.Common.{◌≡◌, ℕ, suc, ◌+◌, ◌-◌, ◌*◌, ◌%◌, ◌<◌, ◌≤◌, ◌==◌, ◌&&◌, ◌⊎◌, nat_lt, Bool, true, false, List, length, refl, ap, sym, ◌∙◌, subst, arith, inl, inr, Option, Some, None, is_some, slice_get, if◌then◌else◌}
-use Rattle.std.proofs.lemmas.Bool.{and_parts, cases_lt, le-ltb, lt-ltb}
-use Rattle.std.proofs.lemmas.Bool.Decides.{nat_tests}
-use Rattle.rb_base.specs.Nodes.{Side}
-use Rattle.rb_base.specs.declared.values.Place.{Place}
+use Rattle.std.proofs.{Common.{◌≡◌, ℕ, suc, ◌+◌, ◌-◌, ◌*◌, ◌%◌, ◌<◌, ◌≤◌, ◌==◌, ◌&&◌, ◌⊎◌, nat_lt, Bool, true, false, List, length, refl, ap, sym, ◌∙◌, subst, arith, inl, inr, Option, Some, None, is_some, slice_get, if◌then◌else◌}, lemmas.Bool.{and_parts, cases_lt, le-ltb, lt-ltb}, lemmas.Bool.Decides.nat_tests}
+use Rattle.rb_base.specs.{Nodes.Side, declared.values.Place.Place}
 use Rattle.rb_base.proofs.Plain.{true-false}
-use Rattle.rb_rules.specs.declared.message.Message.{Message}
-use Rattle.rb_rules.specs.Book.{Begun, Book, Each, Milestone, Row, after_stage, of_kind}
-use Rattle.rb_rules.specs.Book.Milestone.{Begin, Stage, End}
-use Rattle.rb_rules.specs.Goodness.{Scenario, is_good}
-use Rattle.rb_rules.specs.Ports.{HandIn}
-use Rattle.rb_rules.specs.Rounds.{Moment, moment, windows_in}
-use Rattle.rb_rules.specs.Slots.{count_of}
-use Rattle.rb_rules.specs.WorldStep.{Site, World, at_node, begun_for, book_with, comes_so, frame_in, is_complete, record_since, row_for, settle, settle_next, with_message}
-use Rattle.rb_rules.specs.WorldStep.Way.{ByAnEvent}
+use Rattle.rb_rules.specs.{declared.message.Message.Message, Book.{Begun, Book, Each, Milestone, Row, after_stage, of_kind}, Book.Milestone.{Begin, Stage, End}, Goodness.{Scenario, is_good}, Ports.HandIn, Rounds.{Moment, moment, windows_in}, Slots.count_of, WorldStep.{Site, World, at_node, begun_for, book_with, comes_so, frame_in, is_complete, record_since, row_for, settle, settle_next, with_message}, WorldStep.Way.ByAnEvent}
 use Rattle.rb_laws_events.specs.Closing.{stages_in}
-use Rattle.rb_laws_events.proofs.HandedMoments.{place-of}
-use Rattle.rb_laws_events.proofs.Invariant.{next_stage}
-use Rattle.rb_laws_events.proofs.MomentBooks.{next_of, number-of, place_at, settles-next, stage-book-next, stage-next, SettlesNext}
-use Rattle.rb_laws_events.proofs.RoundNodes.{slot_numbered}
-use Rattle.rb_laws_events.proofs.SettledOnce.{FrameGiven, Settled, after-frame, frame-given, none-turn, rest-still, settle-still, stage-silent, still-settled, sync-silent, waits-still}
-use Rattle.rb_laws_events.proofs.SettlingFrames.{IsOfMoment}
-use Rattle.rb_laws_events.proofs.Telling.{reached-tells}
-use Rattle.rb_laws_events.proofs.ToldInOrder.{AllTold, number-is, number_at}
-use Rattle.rb_laws_events.proofs.Waiting.{AfterRecord, Completes, Waits, begun-there, completes, is_due, row-there, stage-waits, untold}
-use Rattle.rb_laws_events.proofs.WorldBooks.{settle_rest}
+use Rattle.rb_laws_events.proofs.{HandedMoments.place-of, Invariant.next_stage, MomentBooks.{next_of, number-of, place_at, settles-next, stage-book-next, stage-next, SettlesNext}, RoundNodes.slot_numbered, SettledOnce.{FrameGiven, Settled, after-frame, frame-given, none-turn, rest-still, settle-still, stage-silent, still-settled, sync-silent, waits-still}, SettlingFrames.IsOfMoment, Telling.reached-tells, ToldInOrder.{AllTold, number-is, number_at}, Waiting.{AfterRecord, Completes, Waits, begun-there, completes, is_due, row-there, stage-waits, untold}, WorldBooks.settle_rest}
 
 -- The event.
 

@@ -1,33 +1,12 @@
 -- For the law that cores are those of the rounds: a node that stands in a moment of the rounds
 -- finds that moment by its own frame and window, and holds its state.
-use Rattle.std.proofs.Common.{◌≡◌, ℕ, ◌+◌, ◌*◌, ◌-◌, ◌%◌, ◌≤◌, ◌==◌, Bool, true, false, refl, ap, sym, ◌∙◌, subst, arith, inl, inr, List, Option, Some, None, slice_get}
-use Rattle.std.proofs.lemmas.Bool.{cases_lt}
-use Rattle.rb_base.specs.Nodes.{Side}
-use Rattle.rb_base.specs.Sizes.{Sizes, sync_slot_of}
+use Rattle.std.proofs.{Common.{◌≡◌, ℕ, ◌+◌, ◌*◌, ◌-◌, ◌%◌, ◌≤◌, ◌==◌, Bool, true, false, refl, ap, sym, ◌∙◌, subst, arith, inl, inr, List, Option, Some, None, slice_get}, lemmas.Bool.cases_lt}
+use Rattle.rb_base.specs.{Nodes.Side, Sizes.{Sizes, sync_slot_of}}
 use Rattle.rb_base.proofs.Plain.{less-differs}
-use Rattle.rb_rules.specs.declared.plan.Plan.{Plan}
-use Rattle.rb_rules.specs.declared.plan.Window.{Window}
-use Rattle.rb_rules.specs.Book.{of_kind}
-use Rattle.rb_rules.specs.Conviction.{turn}
-use Rattle.rb_rules.specs.Core.{Core, is_tick, state_at, window_here}
-use Rattle.rb_rules.specs.Goodness.{Scenario, is_good}
-use Rattle.rb_rules.specs.Hearing.{window_numbered}
-use Rattle.rb_rules.specs.NodeState.{NodeState}
-use Rattle.rb_rules.specs.Ports.{HandIn}
-use Rattle.rb_rules.specs.Rounds.{Moment, moment, window_in, windows_in}
-use Rattle.rb_rules.proofs.QuietTicks.{state-same}
-use Rattle.rb_rules.proofs.RoundStates.{HasTicks}
-use Rattle.rb_rules.proofs.WindowNumbers.{sync-numbered}
-use Rattle.rb_laws_events.specs.Closing.{stages_in}
-use Rattle.rb_laws_events.specs.OwnMoments.{HoldsTheState, IsStateOf, open_window, own_moment, ready_state}
-use Rattle.rb_laws_events.proofs.Invariant.{is_good_at, word_at}
-use Rattle.rb_laws_events.proofs.MomentBooks.{number-of, stage-is-of}
-use Rattle.rb_laws_events.proofs.NodeActs.{IsInWindow}
-use Rattle.rb_laws_events.proofs.NodeSends.{KeepsTime, sending_at}
-use Rattle.rb_laws_events.proofs.NodeTicks.{Like, by_said, gone, kept_in, like-in, like-keeps, like-tick, no-turn, state_in}
-use Rattle.rb_laws_events.proofs.RoundNodes.{moments-stand, slot-is, slot_numbered}
-use Rattle.rb_laws_events.proofs.TickWindows.{IsTickIn, first_of, here-is}
-use Rattle.rb_laws_events.proofs.WorldEvents.{state-frame}
+use Rattle.rb_rules.specs.{declared.plan.Plan.Plan, declared.plan.Window.Window, Book.of_kind, Conviction.turn, Core.{Core, is_tick, state_at, window_here}, Goodness.{Scenario, is_good}, Hearing.window_numbered, NodeState.NodeState, Ports.HandIn, Rounds.{Moment, moment, window_in, windows_in}}
+use Rattle.rb_rules.proofs.{QuietTicks.state-same, RoundStates.HasTicks, WindowNumbers.sync-numbered}
+use Rattle.rb_laws_events.specs.{Closing.stages_in, OwnMoments.{HoldsTheState, IsStateOf, open_window, own_moment, ready_state}}
+use Rattle.rb_laws_events.proofs.{Invariant.{is_good_at, word_at}, MomentBooks.{number-of, stage-is-of}, NodeActs.IsInWindow, NodeSends.{KeepsTime, sending_at}, NodeTicks.{Like, by_said, gone, kept_in, like-in, like-keeps, like-tick, no-turn, state_in}, RoundNodes.{moments-stand, slot-is, slot_numbered}, TickWindows.{IsTickIn, first_of, here-is}, WorldEvents.state-frame}
 
 -- Turning.
 

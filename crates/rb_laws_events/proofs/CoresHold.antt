@@ -1,40 +1,13 @@
 -- For the law that cores are those of the rounds: it holds in every world before the breaking
 -- stage.
-use Rattle.std.proofs.Common.{◌≡◌, ℕ, suc, ◌+◌, ◌*◌, ◌-◌, ◌%◌, ◌<◌, ◌==◌, nat_lt, Bool, true, false, refl, ap, sym, ◌∙◌, subst, arith, inl, inr, List, [], ◌∷◌, ◌++◌, Option, Some, None, slice_get, is_some, if◌then◌else◌}
-use Rattle.std.proofs.lemmas.Bool.{cases_lt, eqb-true, lt-ltb}
-use Rattle.rb_base.specs.Nodes.{Side}
-use Rattle.rb_base.specs.Nodes.Side.{Biu}
-use Rattle.rb_base.specs.Sizes.{sync_slot_of}
-use Rattle.rb_base.specs.declared.values.Place.{Place}
+use Rattle.std.proofs.{Common.{◌≡◌, ℕ, suc, ◌+◌, ◌*◌, ◌-◌, ◌%◌, ◌<◌, ◌==◌, nat_lt, Bool, true, false, refl, ap, sym, ◌∙◌, subst, arith, inl, inr, List, [], ◌∷◌, ◌++◌, Option, Some, None, slice_get, is_some, if◌then◌else◌}, lemmas.Bool.{cases_lt, eqb-true, lt-ltb}}
+use Rattle.rb_base.specs.{Nodes.Side, Nodes.Side.Biu, Sizes.sync_slot_of, declared.values.Place.Place}
 use Rattle.rb_base.proofs.Plain.{true-false}
-use Rattle.rb_rules.specs.declared.cause.Cause.{Cause}
-use Rattle.rb_rules.specs.declared.plan.Window.{Window}
-use Rattle.rb_rules.specs.Book.{Begun, Book, Each, Row, after_verdict, frame_records, judged_of, with_end, with_frame, with_stage}
-use Rattle.rb_rules.specs.Book.Milestone.{Begin, End, Stage}
-use Rattle.rb_rules.specs.Book.Record.{Ended}
-use Rattle.rb_rules.specs.Goodness.{Scenario}
-use Rattle.rb_rules.specs.Hearing.{port_at}
-use Rattle.rb_rules.specs.Judging.{JudgedStage, verdict_of}
-use Rattle.rb_rules.specs.Lawful.{IsLawful}
-use Rattle.rb_rules.specs.Ports.{HandIn}
-use Rattle.rb_rules.specs.Rounds.{Moment, after_window, begin_frame, book_after, moment, step, windows_in}
-use Rattle.rb_rules.specs.Windows.{windows_of_frame}
-use Rattle.rb_rules.specs.WorldStep.{Site, World, world_after}
+use Rattle.rb_rules.specs.{declared.cause.Cause.Cause, declared.plan.Window.Window, Book.{Begun, Book, Each, Row, after_verdict, frame_records, judged_of, with_end, with_frame, with_stage}, Book.Milestone.{Begin, End, Stage}, Book.Record.Ended, Goodness.Scenario, Hearing.port_at, Judging.{JudgedStage, verdict_of}, Lawful.IsLawful, Ports.HandIn, Rounds.{Moment, after_window, begin_frame, book_after, moment, step, windows_in}, Windows.windows_of_frame, WorldStep.{Site, World, world_after}}
 use Rattle.rb_rules.proofs.Books.{moments-on, stepped}
-use Rattle.rb_laws_agreement.proofs.Places.{running_earlier}
-use Rattle.rb_laws_agreement.proofs.ExactAgrees.{has_ticks}
-use Rattle.rb_laws_events.specs.Closing.{stages_in}
-use Rattle.rb_laws_events.specs.OwnMoments.{CoresAreThoseOfTheRounds, HoldsTheRounds, HoldsTheState, IsBeforeTheBreak, RunningNode}
-use Rattle.rb_laws_events.proofs.Behind.{settled-next}
-use Rattle.rb_laws_events.proofs.BreakNodes.{BreaksAt}
-use Rattle.rb_laws_events.proofs.CoreStates.{IsThere, StandsIn, is-there}
-use Rattle.rb_laws_events.proofs.EventsHold.{any, nodes_at}
-use Rattle.rb_laws_events.proofs.EveryWorld.{AnyWorld, InRun}
-use Rattle.rb_laws_events.proofs.MomentBooks.{number-of, place_at}
-use Rattle.rb_laws_events.proofs.OneTake.{StandsInRounds}
-use Rattle.rb_laws_events.proofs.RoundNodes.{slot_numbered}
-use Rattle.rb_laws_events.proofs.SettlingFrames.{IsOfMoment, RunsIn, runs-in}
-use Rattle.rb_laws_events.proofs.WorldStands.{IsDown, IsUp, sent_by}
+use Rattle.rb_laws_agreement.proofs.{Places.running_earlier, ExactAgrees.has_ticks}
+use Rattle.rb_laws_events.specs.{Closing.stages_in, OwnMoments.{CoresAreThoseOfTheRounds, HoldsTheRounds, HoldsTheState, IsBeforeTheBreak, RunningNode}}
+use Rattle.rb_laws_events.proofs.{Behind.settled-next, BreakNodes.BreaksAt, CoreStates.{IsThere, StandsIn, is-there}, EventsHold.{any, nodes_at}, EveryWorld.{AnyWorld, InRun}, MomentBooks.{number-of, place_at}, OneTake.StandsInRounds, RoundNodes.slot_numbered, SettlingFrames.{IsOfMoment, RunsIn, runs-in}, WorldStands.{IsDown, IsUp, sent_by}}
 
 -- Worlds in the run.
 

@@ -1,47 +1,14 @@
 -- For the law that cores follow the rounds: if the run breaks off, a core that has closed the
 -- breaking stage stands in a moment by which the run has ended, and each other one still holds the
 -- state of the rounds.
-use Rattle.std.proofs.Common.{◌≡◌, ℕ, zero, suc, ◌+◌, ◌*◌, ◌-◌, ◌<◌, ◌≤◌, ◌⊎◌, Bool, true, false, refl, ap, sym, ◌∙◌, subst, arith, inl, inr, List, Option, Some, None, slice_get}
-use Rattle.std.proofs.lemmas.Bool.{cases_lt}
-use Rattle.std.proofs.lemmas.Nat.{mul-le}
-use Rattle.rb_base.specs.Nodes.{Side}
-use Rattle.rb_base.specs.Nodes.Side.{Biu}
-use Rattle.rb_base.specs.Sizes.{Sizes, sync_slot_of}
+use Rattle.std.proofs.{Common.{◌≡◌, ℕ, zero, suc, ◌+◌, ◌*◌, ◌-◌, ◌<◌, ◌≤◌, ◌⊎◌, Bool, true, false, refl, ap, sym, ◌∙◌, subst, arith, inl, inr, List, Option, Some, None, slice_get}, lemmas.Bool.cases_lt, lemmas.Nat.mul-le}
+use Rattle.rb_base.specs.{Nodes.Side, Nodes.Side.Biu, Sizes.{Sizes, sync_slot_of}}
 use Rattle.rb_base.proofs.Plain.{true-false}
-use Rattle.rb_rules.specs.declared.plan.Plan.{Plan}
-use Rattle.rb_rules.specs.declared.plan.Window.{Window}
-use Rattle.rb_rules.specs.Book.{of_kind}
-use Rattle.rb_rules.specs.Conviction.{turn}
-use Rattle.rb_rules.specs.Core.{Core, is_tick, state_at, window_here}
-use Rattle.rb_rules.specs.Goodness.{Scenario}
-use Rattle.rb_rules.specs.Hearing.{port_at}
-use Rattle.rb_rules.specs.Lawful.{IsLawful}
-use Rattle.rb_rules.specs.Moments.{IsRunning}
-use Rattle.rb_rules.specs.NodeState.{NodeState}
-use Rattle.rb_rules.specs.Ports.{HandIn}
-use Rattle.rb_rules.specs.Rounds.{Moment, moment, windows_in}
-use Rattle.rb_rules.specs.SyncStage.{new_epoch_of}
-use Rattle.rb_rules.specs.WorldStep.{Site, Timed, World, world_after}
+use Rattle.rb_rules.specs.{declared.plan.Plan.Plan, declared.plan.Window.Window, Book.of_kind, Conviction.turn, Core.{Core, is_tick, state_at, window_here}, Goodness.Scenario, Hearing.port_at, Lawful.IsLawful, Moments.IsRunning, NodeState.NodeState, Ports.HandIn, Rounds.{Moment, moment, windows_in}, SyncStage.new_epoch_of, WorldStep.{Site, Timed, World, world_after}}
 use Rattle.rb_rules.proofs.RoundStates.{HasTicks}
 use Rattle.rb_laws_agreement.proofs.ExactAgrees.{has_ticks}
-use Rattle.rb_laws_events.specs.Closing.{stages_in}
-use Rattle.rb_laws_events.specs.OwnMoments.{CoresFollowTheRounds, FollowsTheRounds, HoldsTheRounds, HoldsTheState, RunningNode, moment_of, open_window, own_moment, ready_state}
-use Rattle.rb_laws_events.proofs.BreakMessages.{SiteBreaks}
-use Rattle.rb_laws_events.proofs.BreakNodes.{BreaksAt}
-use Rattle.rb_laws_events.proofs.BreakPorts.{PortsBreak}
-use Rattle.rb_laws_events.proofs.BreakSites.{HasClosed, WaitsDeaf, WaitsHearing}
-use Rattle.rb_laws_events.proofs.CoreStates.{IsThere, StandsIn, is-there, window-place}
-use Rattle.rb_laws_events.proofs.CoresHold.{run-holds}
-use Rattle.rb_laws_events.proofs.EventsHold.{any, keeps, nodes_at}
-use Rattle.rb_laws_events.proofs.EveryWorld.{AnyWorld}
-use Rattle.rb_laws_events.proofs.Invariant.{is_good_at, last_tick}
-use Rattle.rb_laws_events.proofs.LastSites.{AwaitsNext, HasToldLast, SiteLast}
-use Rattle.rb_laws_events.proofs.MomentBooks.{number-of}
-use Rattle.rb_laws_events.proofs.NodeTicks.{tail-first}
-use Rattle.rb_laws_events.proofs.RoundNodes.{moments-stand}
-use Rattle.rb_laws_events.proofs.StageOrder.{last_of}
-use Rattle.rb_laws_events.proofs.TickWindows.{Tiles, first_of, here-is, tail-here, tiles}
-use Rattle.rb_laws_events.proofs.UpToThere.{breaks-later}
+use Rattle.rb_laws_events.specs.{Closing.stages_in, OwnMoments.{CoresFollowTheRounds, FollowsTheRounds, HoldsTheRounds, HoldsTheState, RunningNode, moment_of, open_window, own_moment, ready_state}}
+use Rattle.rb_laws_events.proofs.{BreakMessages.SiteBreaks, BreakNodes.BreaksAt, BreakPorts.PortsBreak, BreakSites.{HasClosed, WaitsDeaf, WaitsHearing}, CoreStates.{IsThere, StandsIn, is-there, window-place}, CoresHold.run-holds, EventsHold.{any, keeps, nodes_at}, EveryWorld.AnyWorld, Invariant.{is_good_at, last_tick}, LastSites.{AwaitsNext, HasToldLast, SiteLast}, MomentBooks.number-of, NodeTicks.tail-first, RoundNodes.moments-stand, StageOrder.last_of, TickWindows.{Tiles, first_of, here-is, tail-here, tiles}, UpToThere.breaks-later}
 
 -- The window of a late tick.
 

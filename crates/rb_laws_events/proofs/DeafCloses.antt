@@ -2,22 +2,8 @@
 -- closes a stage of the sync slot in which it does not listen tells the same of it whatever came to
 -- it, and knows the same but for accusations.
 use Rattle.std.proofs.Common.{◌≡◌, ℕ, zero, suc, ◌==◌, ◌&&◌, if◌then◌else◌, Bool, true, false, List, [], ◌∷◌, map, refl, ap, ◌∙◌, Option, Some, None, get_or}
-use Rattle.rb_base.specs.Counting.{numbers}
-use Rattle.rb_base.specs.Nodes.{Side, has}
-use Rattle.rb_base.specs.Nodes.Side.{Biu, Rmu}
-use Rattle.rb_base.specs.Sizes.{Sizes, sync_slot_of}
-use Rattle.rb_base.specs.declared.values.See.{See}
-use Rattle.rb_base.specs.declared.values.See.TheVariants.{Nothing}
-use Rattle.rb_rules.specs.declared.role.Role.TheVariants.{Sync}
-use Rattle.rb_rules.specs.declared.sense.Sense.{Sense}
-use Rattle.rb_rules.specs.Book.{Row}
-use Rattle.rb_rules.specs.ExactStage.{each_node}
-use Rattle.rb_rules.specs.Hearing.{Coming, judged_see, row_of, sole_time}
-use Rattle.rb_rules.specs.NodeState.{NodeState, trusted_of}
-use Rattle.rb_rules.specs.Sense.{stamp_in}
-use Rattle.rb_rules.specs.Slots.{listens}
-use Rattle.rb_rules.specs.Standing.{has_evidence, is_eligible, taken_of, with_evidence}
-use Rattle.rb_rules.specs.SyncStage.{close_sync, expects_call, see_time, sync_closing_of, sync_outcome_of}
+use Rattle.rb_base.specs.{Counting.numbers, Nodes.{Side, has}, Nodes.Side.{Biu, Rmu}, Sizes.{Sizes, sync_slot_of}, declared.values.See.See, declared.values.See.TheVariants.Nothing}
+use Rattle.rb_rules.specs.{declared.role.Role.TheVariants.Sync, declared.sense.Sense.Sense, Book.Row, ExactStage.each_node, Hearing.{Coming, judged_see, row_of, sole_time}, NodeState.{NodeState, trusted_of}, Sense.stamp_in, Slots.listens, Standing.{has_evidence, is_eligible, taken_of, with_evidence}, SyncStage.{close_sync, expects_call, see_time, sync_closing_of, sync_outcome_of}}
 
 -- a node that does not listen takes nothing
 takes-none : (me : Side) (st : NodeState) (stage : ℕ) (sense : ℕ → Sense) → listens me Sync stage ≡ false → (j : ℕ)

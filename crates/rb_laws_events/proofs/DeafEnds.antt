@@ -1,42 +1,12 @@
 -- For the law that events are rounds if the premise on faults is broken in a sync slot: a node that
 -- does not listen in a stage of the sync slot tells what the rounds tell at its last tick, whatever
 -- came to it, and closes nothing before the last tick of the next window.
-use Rattle.std.proofs.Common.{◌≡◌, ℕ, ◌+◌, ◌*◌, ◌<◌, ◌==◌, Bool, true, false, List, ap, sym, ◌∙◌, subst, arith}
-use Rattle.std.proofs.lemmas.Bool.Decides.{nat_tests}
-use Rattle.rb_base.specs.Nodes.{Side}
-use Rattle.rb_base.specs.Sizes.{Sizes, sync_slot_of}
-use Rattle.rb_rules.specs.declared.plan.Plan.{Plan}
-use Rattle.rb_rules.specs.declared.plan.Window.{Window}
-use Rattle.rb_rules.specs.declared.role.Role.TheVariants.{Sync}
-use Rattle.rb_rules.specs.declared.sense.Sense.{Sense}
-use Rattle.rb_rules.specs.Core.{Act, Core, of_source}
-use Rattle.rb_rules.specs.ExactStage.{Outcome, close_exact}
-use Rattle.rb_rules.specs.Goodness.{Scenario}
-use Rattle.rb_rules.specs.Hearing.{close_window}
-use Rattle.rb_rules.specs.NodeState.{NodeState}
-use Rattle.rb_rules.specs.NodeSteps.{expect_of}
-use Rattle.rb_rules.specs.Ports.{HandIn, PortState}
-use Rattle.rb_rules.specs.Rounds.{Moment, moment, window_in, word_for_window}
-use Rattle.rb_rules.specs.Sense.{Arrival, sense_of}
-use Rattle.rb_rules.specs.Slots.{listens}
-use Rattle.rb_rules.specs.Standing.{has_evidence, with_evidence}
-use Rattle.rb_rules.specs.SyncStage.{close_sync, expects_call}
-use Rattle.rb_rules.specs.WorldStep.{Site, after_act, pass_and_tick}
+use Rattle.std.proofs.{Common.{◌≡◌, ℕ, ◌+◌, ◌*◌, ◌<◌, ◌==◌, Bool, true, false, List, ap, sym, ◌∙◌, subst, arith}, lemmas.Bool.Decides.nat_tests}
+use Rattle.rb_base.specs.{Nodes.Side, Sizes.{Sizes, sync_slot_of}}
+use Rattle.rb_rules.specs.{declared.plan.Plan.Plan, declared.plan.Window.Window, declared.role.Role.TheVariants.Sync, declared.sense.Sense.Sense, Core.{Act, Core, of_source}, ExactStage.{Outcome, close_exact}, Goodness.Scenario, Hearing.close_window, NodeState.NodeState, NodeSteps.expect_of, Ports.{HandIn, PortState}, Rounds.{Moment, moment, window_in, word_for_window}, Sense.{Arrival, sense_of}, Slots.listens, Standing.{has_evidence, with_evidence}, SyncStage.{close_sync, expects_call}, WorldStep.{Site, after_act, pass_and_tick}}
 use Rattle.rb_rules.proofs.RoundStates.{Stays, keeping-stays}
 use Rattle.rb_laws_agreement.proofs.NodeWindows.{sync_windows_are}
-use Rattle.rb_laws_events.proofs.BreakSites.{HasClosed, WaitsDeaf, closes-told}
-use Rattle.rb_laws_events.proofs.ClosingTicks.{closing_of, spoken}
-use Rattle.rb_laws_events.proofs.DeafCloses.{deaf-state}
-use Rattle.rb_laws_events.proofs.Invariant.{last_tick, word_at}
-use Rattle.rb_laws_events.proofs.LastCloses.{ShowsRounds, shows-deaf}
-use Rattle.rb_laws_events.proofs.NodeActs.{HasRoom, HasWord}
-use Rattle.rb_laws_events.proofs.NodeMoves.{first-alike}
-use Rattle.rb_laws_events.proofs.NodeSends.{KeepsTime}
-use Rattle.rb_laws_events.proofs.NodeTicks.{like-keeps, like-kept}
-use Rattle.rb_laws_events.proofs.PastTicks.{IsPast}
-use Rattle.rb_laws_events.proofs.SilentThere.{deaf-keeps}
-use Rattle.rb_laws_events.proofs.StageOrder.{last_of}
-use Rattle.rb_laws_events.proofs.TickWindows.{first_of}
+use Rattle.rb_laws_events.proofs.{BreakSites.{HasClosed, WaitsDeaf, closes-told}, ClosingTicks.{closing_of, spoken}, DeafCloses.deaf-state, Invariant.{last_tick, word_at}, LastCloses.{ShowsRounds, shows-deaf}, NodeActs.{HasRoom, HasWord}, NodeMoves.first-alike, NodeSends.KeepsTime, NodeTicks.{like-keeps, like-kept}, PastTicks.IsPast, SilentThere.deaf-keeps, StageOrder.last_of, TickWindows.first_of}
 
 -- the close leaves the frame and the epoch, and the node still keeps time
 pub record LeavesTimes (sizes : Sizes) (plan : Plan) (me : Side) (st now : NodeState) : Type 0 where

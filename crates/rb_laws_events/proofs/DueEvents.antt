@@ -1,24 +1,11 @@
 -- For the law that events are rounds: what is due: it is pending at its node, nothing is pending
 -- before it, and if it is a tick nothing comes to the node at its time.
-use Rattle.std.proofs.Common.{◌≡◌, ℕ, zero, suc, ◌+◌, ◌<◌, ◌≤◌, ◌==◌, ◌&&◌, ◌||◌, min, Bool, true, false, List, [], ◌∷◌, ◌++◌, map, filter, cond, refl, sym, ◌∙◌, ap, subst, arith, Option, Some, None, slice_get, option_map}
-use Rattle.std.specs.Prelude.{flat_map, option_to_list}
-use Rattle.std.specs.List.{enumerate_from, range_with_len}
-use Rattle.std.proofs.lemmas.Bool.{eqb-true}
-use Rattle.std.proofs.lemmas.Bool.Decides.{nat_tests}
-use Rattle.std.proofs.lemmas.Option.{same_Some}
-use Rattle.rb_base.specs.Counting.{numbers}
-use Rattle.rb_base.specs.Nodes.{Side, other}
-use Rattle.rb_base.specs.Nodes.Side.{Biu, Rmu}
-use Rattle.rb_base.specs.Sizes.{Sizes}
+use Rattle.std.proofs.{Common.{◌≡◌, ℕ, zero, suc, ◌+◌, ◌<◌, ◌≤◌, ◌==◌, ◌&&◌, ◌||◌, min, Bool, true, false, List, [], ◌∷◌, ◌++◌, map, filter, cond, refl, sym, ◌∙◌, ap, subst, arith, Option, Some, None, slice_get, option_map}, lemmas.Bool.eqb-true, lemmas.Bool.Decides.nat_tests, lemmas.Option.same_Some}
+use Rattle.std.specs.{Prelude.{flat_map, option_to_list}, List.{enumerate_from, range_with_len}}
+use Rattle.rb_base.specs.{Counting.numbers, Nodes.{Side, other}, Nodes.Side.{Biu, Rmu}, Sizes.Sizes}
 use Rattle.rb_base.proofs.Plain.{and_second, append-none}
-use Rattle.rb_rules.specs.Book.{of_kind, in_order, map_from, map_each}
-use Rattle.rb_rules.specs.Goodness.{Scenario}
-use Rattle.rb_rules.specs.Hearing.{Coming}
-use Rattle.rb_rules.specs.Slots.{count_of}
-use Rattle.rb_rules.specs.WorldStep.{Timed, Site, World, Pending, Due, least, times_of, arrivals_at, tick_at, unless_any, ready_at, due_at, due_of, needs_no_event}
-use Rattle.rb_rules.specs.WorldStep.Pending.{Tick, Arrival}
-use Rattle.rb_laws_events.proofs.SameHeard.{Every}
-use Rattle.rb_laws_events.proofs.PendingLists.{StandsAt}
+use Rattle.rb_rules.specs.{Book.{of_kind, in_order, map_from, map_each}, Goodness.Scenario, Hearing.Coming, Slots.count_of, WorldStep.{Timed, Site, World, Pending, Due, least, times_of, arrivals_at, tick_at, unless_any, ready_at, due_at, due_of, needs_no_event}, WorldStep.Pending.{Tick, Arrival}}
+use Rattle.rb_laws_events.proofs.{SameHeard.Every, PendingLists.StandsAt}
 
 -- Lists.
 

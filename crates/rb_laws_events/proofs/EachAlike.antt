@@ -1,7 +1,6 @@
 -- Changes of each node that are alike.
 use Rattle.std.proofs.Common.{◌≡◌, ℕ, suc, ◌+◌, List, [], ◌∷◌, refl, ap, sym, ◌∙◌, arith, Some, slice_get}
-use Rattle.rb_base.specs.Nodes.{Side}
-use Rattle.rb_base.specs.Nodes.Side.{Biu, Rmu}
+use Rattle.rb_base.specs.{Nodes.Side, Nodes.Side.{Biu, Rmu}}
 use Rattle.rb_rules.specs.Book.{Each, map_each, map_from, of_kind}
 
 pub each-is : {X : Type 0} (xs ys : Each X) → xs.bius ≡ ys.bius → xs.rmus ≡ ys.rmus → xs ≡ ys

@@ -1,36 +1,11 @@
 -- For the law that events are rounds: what a tick and an arrival are to all that the nodes have
 -- told.
-use Rattle.std.proofs.Common.{◌≡◌, ℕ, ◌+◌, ◌-◌, ◌*◌, ◌<◌, ◌≤◌, ◌&&◌, ◌⊎◌, Bool, true, false, List, refl, ap, sym, ◌∙◌, subst, arith, inl, inr, Option, Some, None, slice_get, option_map}
-use Rattle.std.proofs.Math.Path.{fun_ext}
-use Rattle.rb_base.specs.Nodes.{Side}
-use Rattle.rb_base.specs.Nodes.Side.{Biu}
+use Rattle.std.proofs.{Common.{◌≡◌, ℕ, ◌+◌, ◌-◌, ◌*◌, ◌<◌, ◌≤◌, ◌&&◌, ◌⊎◌, Bool, true, false, List, refl, ap, sym, ◌∙◌, subst, arith, inl, inr, Option, Some, None, slice_get, option_map}, Math.Path.fun_ext}
+use Rattle.rb_base.specs.{Nodes.Side, Nodes.Side.Biu}
 use Rattle.rb_base.proofs.Plain.{option_map-back}
-use Rattle.rb_rules.specs.declared.message.Message.{Message}
-use Rattle.rb_rules.specs.Book.{Begun, Each, Row, of_kind}
-use Rattle.rb_rules.specs.Core.{Act}
-use Rattle.rb_rules.specs.Goodness.{Scenario}
-use Rattle.rb_rules.specs.Hearing.{Coming}
-use Rattle.rb_rules.specs.Lawful.{IsLawful}
-use Rattle.rb_rules.specs.Ports.{HandIn, PortState}
-use Rattle.rb_rules.specs.Rounds.{Moment, moment, windows_in}
-use Rattle.rb_rules.specs.WorldStep.{Site, Timed, after_act, after_arrival, at_node, with_message}
+use Rattle.rb_rules.specs.{declared.message.Message.Message, Book.{Begun, Each, Row, of_kind}, Core.Act, Goodness.Scenario, Hearing.Coming, Lawful.IsLawful, Ports.{HandIn, PortState}, Rounds.{Moment, moment, windows_in}, WorldStep.{Site, Timed, after_act, after_arrival, at_node, with_message}}
 use Rattle.rb_rules.proofs.WindowNumbers.{length-each}
-use Rattle.rb_laws_events.proofs.Completing.{EventAt}
-use Rattle.rb_laws_events.proofs.DueEvents.{every-weaker}
-use Rattle.rb_laws_events.proofs.Invariant.{next_stage}
-use Rattle.rb_laws_events.proofs.MomentBooks.{number-of}
-use Rattle.rb_laws_events.proofs.MomentSteps.{NextIsStage, next-is-stage}
-use Rattle.rb_laws_events.proofs.NodeActs.{HasRoom}
-use Rattle.rb_laws_events.proofs.PortsInRounds.{AllHanded, PortsStand, begun-is}
-use Rattle.rb_laws_events.proofs.StageOrder.{last-same, last_of}
-use Rattle.rb_laws_events.proofs.Telling.{first-window}
-use Rattle.rb_laws_events.proofs.Timing.{AreInTime, HavePassed}
-use Rattle.rb_laws_events.proofs.ToldInOrder.{AllTold, NodeTold, all-told, near, number_at, one-changes, row-of-window, told-after}
-use Rattle.rb_laws_events.proofs.ToldSoFar.{arrival-keeps}
-use Rattle.rb_laws_events.proofs.Waiting.{HasBegun}
-use Rattle.rb_laws_events.proofs.WorldEvents.{AfterTick}
-use Rattle.rb_laws_events.proofs.WorldStands.{SitesStand, get-at, is_node, node-is, node-itself}
-use Rattle.rb_laws_events.proofs.WorldTicks.{after_tick, get-after, kind-other, moved, reached, reached-not}
+use Rattle.rb_laws_events.proofs.{Completing.EventAt, DueEvents.every-weaker, Invariant.next_stage, MomentBooks.number-of, MomentSteps.{NextIsStage, next-is-stage}, NodeActs.HasRoom, PortsInRounds.{AllHanded, PortsStand, begun-is}, StageOrder.{last-same, last_of}, Telling.first-window, Timing.{AreInTime, HavePassed}, ToldInOrder.{AllTold, NodeTold, all-told, near, number_at, one-changes, row-of-window, told-after}, ToldSoFar.arrival-keeps, Waiting.HasBegun, WorldEvents.AfterTick, WorldStands.{SitesStand, get-at, is_node, node-is, node-itself}, WorldTicks.{after_tick, get-after, kind-other, moved, reached, reached-not}}
 
 -- after an event its node has the changed site
 now-there : (sc : Scenario) (sites : Each Site) (me : Side) (i frame k : ℕ) (m : Option Message) (change : Site → Site) (s : Site) → slice_get (of_kind me sites) i ≡ Some s

@@ -2,27 +2,9 @@
 use Rattle.std.proofs.Common.{◌≡◌, ℕ, zero, suc, ◌*◌, ◌^◌, ◌<◌, ◌≤◌, Bool, true, false, List, length, sym, ◌∙◌, arith, inl, inr, Some, slice_get}
 use Rattle.rb_base.specs.Nodes.{Side}
 use Rattle.rb_base.proofs.Plain.{true-false}
-use Rattle.rb_rules.specs.Book.{Each, of_kind}
-use Rattle.rb_rules.specs.Goodness.{Scenario}
-use Rattle.rb_rules.specs.Lawful.{IsLawful}
-use Rattle.rb_rules.specs.Ports.{HandIn}
-use Rattle.rb_rules.specs.WorldStep.{Choice, Site, World, needs_no_event, says_in, world_after}
+use Rattle.rb_rules.specs.{Book.{Each, of_kind}, Goodness.Scenario, Lawful.IsLawful, Ports.HandIn, WorldStep.{Choice, Site, World, needs_no_event, says_in, world_after}}
 use Rattle.rb_laws_events.specs.Laws.{BoundedRunsEndInLawful, EventsAreRoundsInLawful, EveryRunEndsInLawful, OneTurnARecordInLawful, SomethingIsDueInLawful, nodes_of}
-use Rattle.rb_laws_events.proofs.BreakKeeps.{early-keeps}
-use Rattle.rb_laws_events.proofs.BreakNodes.{KeepsNodes}
-use Rattle.rb_laws_events.proofs.BreakOff.{left-off, runs-small}
-use Rattle.rb_laws_events.proofs.BreakRuns.{WaitsYet, waits-yet}
-use Rattle.rb_laws_events.proofs.BreakWorld.{NodesBreak}
-use Rattle.rb_laws_events.proofs.Behind.{IsBehind}
-use Rattle.rb_laws_events.proofs.EveryWorld.{AnyWorld, any-after, events-are-rounds}
-use Rattle.rb_laws_events.proofs.FewEntered.{says-few}
-use Rattle.rb_laws_events.proofs.LastKeeps.{NodesLast, last-keeps}
-use Rattle.rb_laws_events.proofs.OneTake.{StandsInRounds, world-waits}
-use Rattle.rb_laws_events.proofs.Progress.{SomePends, something-is-due}
-use Rattle.rb_laws_events.proofs.RunsEnd.{HasTicksLeft, every-run-ends, in-rounds-left}
-use Rattle.rb_laws_events.proofs.TickRooms.{has-room}
-use Rattle.rb_laws_events.proofs.Turns.{turns-are-next}
-use Rattle.rb_laws_events.proofs.WorldStands.{IsUp, sent_by}
+use Rattle.rb_laws_events.proofs.{BreakKeeps.early-keeps, BreakNodes.KeepsNodes, BreakOff.{left-off, runs-small}, BreakRuns.{WaitsYet, waits-yet}, BreakWorld.NodesBreak, Behind.IsBehind, EveryWorld.{AnyWorld, any-after, events-are-rounds}, FewEntered.says-few, LastKeeps.{NodesLast, last-keeps}, OneTake.{StandsInRounds, world-waits}, Progress.{SomePends, something-is-due}, RunsEnd.{HasTicksLeft, every-run-ends, in-rounds-left}, TickRooms.has-room, Turns.turns-are-next, WorldStands.{IsUp, sent_by}}
 
 -- what the nodes keep if the run breaks off with stage q of a sync slot
 abbrev pub nodes_at : Scenario → ℕ → List HandIn → ℕ → (Side → ℕ → ℕ → Bool) → Each Site → Type 0

@@ -1,10 +1,7 @@
 -- For the law that events are rounds: events are rounds, once the world's book is always one of the
 -- rounds'.
 use Rattle.std.proofs.Common.{◌≡◌, ℕ, ◌≤◌, ◌⊎◌, inl, inr, true, List, ◌++◌, sym, ◌∙◌, ap}
-use Rattle.rb_rules.specs.Book.{fresh_book}
-use Rattle.rb_rules.specs.Goodness.{Scenario}
-use Rattle.rb_rules.specs.Rounds.{moment, steps_of, records_of}
-use Rattle.rb_rules.specs.WorldStep.{World, Choice, world_after, IsPrefix, EventsAreRounds}
+use Rattle.rb_rules.specs.{Book.fresh_book, Goodness.Scenario, Rounds.{moment, steps_of, records_of}, WorldStep.{World, Choice, world_after, IsPrefix, EventsAreRounds}}
 use Rattle.rb_rules.proofs.Books.{given-are, all-given}
 
 -- the book is fresh, or that of a moment

@@ -1,46 +1,11 @@
 -- For the law that events are rounds: whatever is chosen, the nodes of the world stand in the
 -- rounds, or the run breaks off there in a sync slot.
-use Rattle.std.proofs.Common.{◌≡◌, ℕ, ◌+◌, ◌<◌, ◌≤◌, ◌⊎◌, ◌&&◌, ◌||◌, Bool, true, false, List, [], ◌∷◌, ◌++◌, fold, flat_map, append_assoc, refl, ap, sym, ◌∙◌, subst, arith, inl, inr, Option, Some, None, slice_get}
-use Rattle.std.proofs.lemmas.Bool.{cases_lt}
-use Rattle.std.proofs.lemmas.List.{append-nil}
-use Rattle.std.proofs.lemmas.Option.{same_Some}
-use Rattle.rb_base.specs.Nodes.{Side}
-use Rattle.rb_base.specs.Nodes.Side.{Biu}
+use Rattle.std.proofs.{Common.{◌≡◌, ℕ, ◌+◌, ◌<◌, ◌≤◌, ◌⊎◌, ◌&&◌, ◌||◌, Bool, true, false, List, [], ◌∷◌, ◌++◌, fold, flat_map, append_assoc, refl, ap, sym, ◌∙◌, subst, arith, inl, inr, Option, Some, None, slice_get}, lemmas.Bool.cases_lt, lemmas.List.append-nil, lemmas.Option.same_Some}
+use Rattle.rb_base.specs.{Nodes.Side, Nodes.Side.Biu}
 use Rattle.rb_base.proofs.Plain.{true-false}
-use Rattle.rb_rules.specs.Book.{Book, Each, Milestone, in_order, of_kind}
-use Rattle.rb_rules.specs.Clock.{time_of}
-use Rattle.rb_rules.specs.Goodness.{Scenario, clock_of, is_good}
-use Rattle.rb_rules.specs.Lawful.{IsLawful}
-use Rattle.rb_rules.specs.Ports.{HandIn, with_state}
-use Rattle.rb_rules.specs.Rounds.{moment}
-use Rattle.rb_rules.specs.WorldStep.{comes_so, due_at, frame_in, hand, is_complete, least, needs_no_event, settle_next, times_of, Choice, Due, EventsAreRounds, Pending, Site, Timed, World, choose, due_of, first_world, go_on, settle, take, take_if_due, world_after}
-use Rattle.rb_rules.specs.WorldStep.Choice.{Take, GoOn, Hand}
-use Rattle.rb_rules.specs.WorldStep.Pending.{Tick, Arrival}
-use Rattle.rb_rules.specs.WorldStep.Way.{ByItself}
-use Rattle.rb_laws_events.proofs.Alone.{go-on-settled}
-use Rattle.rb_laws_events.proofs.Behind.{WaitsAt}
-use Rattle.rb_laws_events.proofs.BreakNodes.{BreaksAt, KeepsNodes}
-use Rattle.rb_laws_events.proofs.BreakOff.{BreaksOff, IsOver, begins-off, take-off}
-use Rattle.rb_laws_events.proofs.Completing.{next_world}
-use Rattle.rb_laws_events.proofs.DueEvents.{IsDue, IsReady}
-use Rattle.rb_laws_events.proofs.SettledOnce.{settle-still}
-use Rattle.rb_laws_events.proofs.AllSteps.{of-rounds}
-use Rattle.rb_laws_events.proofs.FirstInRounds.{first-in-rounds}
-use Rattle.rb_laws_events.proofs.EventsLaw.{law-from}
-use Rattle.rb_laws_events.proofs.FirstWorld.{at_begin}
-use Rattle.rb_laws_events.proofs.NodeActs.{HasRoom}
-use Rattle.rb_rules.specs.Moments.{IsRunning}
+use Rattle.rb_rules.specs.{Book.{Book, Each, Milestone, in_order, of_kind}, Clock.time_of, Goodness.{Scenario, clock_of, is_good}, Lawful.IsLawful, Ports.{HandIn, with_state}, Rounds.moment, WorldStep.{comes_so, due_at, frame_in, hand, is_complete, least, needs_no_event, settle_next, times_of, Choice, Due, EventsAreRounds, Pending, Site, Timed, World, choose, due_of, first_world, go_on, settle, take, take_if_due, world_after}, WorldStep.Choice.{Take, GoOn, Hand}, WorldStep.Pending.{Tick, Arrival}, WorldStep.Way.ByItself, Moments.IsRunning}
+use Rattle.rb_laws_events.proofs.{Alone.go-on-settled, Behind.WaitsAt, BreakNodes.{BreaksAt, KeepsNodes}, BreakOff.{BreaksOff, IsOver, begins-off, take-off}, Completing.next_world, DueEvents.{IsDue, IsReady}, SettledOnce.settle-still, AllSteps.of-rounds, FirstInRounds.first-in-rounds, EventsLaw.law-from, FirstWorld.at_begin, NodeActs.HasRoom, Invariant.{is_good_at, last_tick, next_stage}, MomentSteps.{NextIsStage, next-is-stage}, Pace.settle-paced, UpToThere.{Reaches, breaks-later, from-running, reach, reaches-first}, OneHandIn.{HandsIn, hand-keeps}, OneEvent.{ClosesEarlier, MayHappen, WorldInRounds, up-there}, OneTake.{StandsInRounds, StandsUpTo, closes-earlier, is-paced, settle-hands, settle-ports, settled-stands, take-keeps, world-waits}, SettlingFrames.{IsOfMoment, all-settled}, WorldStands.{IsUp, sent_by}, WorldNodes.{events-due, settle-sites}}
 use Rattle.rb_laws_events.specs.Closing.{stages_in}
-use Rattle.rb_laws_events.proofs.Invariant.{is_good_at, last_tick, next_stage}
-use Rattle.rb_laws_events.proofs.MomentSteps.{NextIsStage, next-is-stage}
-use Rattle.rb_laws_events.proofs.Pace.{settle-paced}
-use Rattle.rb_laws_events.proofs.UpToThere.{Reaches, breaks-later, from-running, reach, reaches-first}
-use Rattle.rb_laws_events.proofs.OneHandIn.{HandsIn, hand-keeps}
-use Rattle.rb_laws_events.proofs.OneEvent.{ClosesEarlier, MayHappen, WorldInRounds, up-there}
-use Rattle.rb_laws_events.proofs.OneTake.{StandsInRounds, StandsUpTo, closes-earlier, is-paced, settle-hands, settle-ports, settled-stands, take-keeps, world-waits}
-use Rattle.rb_laws_events.proofs.SettlingFrames.{IsOfMoment, all-settled}
-use Rattle.rb_laws_events.proofs.WorldStands.{IsUp, sent_by}
-use Rattle.rb_laws_events.proofs.WorldNodes.{events-due, settle-sites}
 
 -- Choices.
 

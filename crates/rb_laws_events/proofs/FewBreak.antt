@@ -1,40 +1,13 @@
 -- For the law that pending events are few if the run breaks off with the first or the second stage
 -- of the sync slot: a node that has told its row sends one message at most until all have told, and
 -- enters no window.
-use Rattle.std.proofs.Common.{◌≡◌, ℕ, zero, suc, ◌+◌, ◌-◌, ◌*◌, ◌^◌, ◌<◌, ◌≤◌, ◌==◌, ◌⊎◌, Bool, true, false, List, refl, ap, sym, ◌∙◌, subst, arith, inl, inr, Option, Some, None, length}
-use Rattle.std.proofs.lemmas.Bool.Decides.{nat_tests}
-use Rattle.rb_base.specs.Nodes.{Side}
-use Rattle.rb_base.specs.Sizes.{Sizes, sync_slot_of}
+use Rattle.std.proofs.{Common.{◌≡◌, ℕ, zero, suc, ◌+◌, ◌-◌, ◌*◌, ◌^◌, ◌<◌, ◌≤◌, ◌==◌, ◌⊎◌, Bool, true, false, List, refl, ap, sym, ◌∙◌, subst, arith, inl, inr, Option, Some, None, length}, lemmas.Bool.Decides.nat_tests}
+use Rattle.rb_base.specs.{Nodes.Side, Sizes.{Sizes, sync_slot_of}}
 use Rattle.rb_base.proofs.Plain.{none_and_some}
-use Rattle.rb_rules.specs.declared.message.Message.{Message}
-use Rattle.rb_rules.specs.declared.plan.Plan.{Plan}
-use Rattle.rb_rules.specs.declared.plan.Window.{Window}
-use Rattle.rb_rules.specs.Core.{Act, Core, pass_to, said_at, state_at, window_here}
-use Rattle.rb_rules.specs.Entries.{IsListed}
-use Rattle.rb_rules.specs.Goodness.{Scenario}
-use Rattle.rb_rules.specs.Hearing.{Span, span_of, window_numbered}
-use Rattle.rb_rules.specs.Lawful.{IsLawful}
-use Rattle.rb_rules.specs.Moments.{IsRunning}
-use Rattle.rb_rules.specs.NodeState.{NodeState}
-use Rattle.rb_rules.specs.Ports.{HandIn, PortState}
-use Rattle.rb_rules.specs.Rounds.{moment}
-use Rattle.rb_rules.specs.WorldStep.{Site, Timed, after_act, pass_and_tick, span_from, wants_in, word_of}
+use Rattle.rb_rules.specs.{declared.message.Message.Message, declared.plan.Plan.Plan, declared.plan.Window.Window, Core.{Act, Core, pass_to, said_at, state_at, window_here}, Entries.IsListed, Goodness.Scenario, Hearing.{Span, span_of, window_numbered}, Lawful.IsLawful, Moments.IsRunning, NodeState.NodeState, Ports.{HandIn, PortState}, Rounds.moment, WorldStep.{Site, Timed, after_act, pass_and_tick, span_from, wants_in, word_of}}
 use Rattle.rb_rules.proofs.WindowNumbers.{sync-numbered}
 use Rattle.rb_laws_events.specs.Closing.{stages_in}
-use Rattle.rb_laws_events.proofs.BreakEvents.{TickBreaks, site-ticks}
-use Rattle.rb_laws_events.proofs.BreakMessages.{SiteBreaks}
-use Rattle.rb_laws_events.proofs.BreakSites.{HasClosed, acted}
-use Rattle.rb_laws_events.proofs.BreakTicks.{before-next, closed-goes-on}
-use Rattle.rb_laws_events.proofs.FewEntered.{BringsFew, act-brings}
-use Rattle.rb_laws_events.proofs.FewOff.{StepsOn, messages_in}
-use Rattle.rb_laws_events.proofs.FewSent.{CallsAlike, HasSpoken, IsSentThen, SaysAt, said-then, says-some, speaks-once, spoken-kept, spoken-quiet}
-use Rattle.rb_laws_events.proofs.FewQuiet.{deaf-quiet, hearing-quiet}
-use Rattle.rb_laws_events.proofs.NodeActs.{HasRoom}
-use Rattle.rb_laws_events.proofs.NodeTicks.{like-tick}
-use Rattle.rb_laws_events.proofs.PastTicks.{TellsNone, past-tick, turns-later, IsPast}
-use Rattle.rb_laws_events.proofs.StageOrder.{last_of}
-use Rattle.rb_laws_events.proofs.Takes.{tick-had}
-use Rattle.rb_laws_events.proofs.TickWindows.{IsTickIn, first_of, here-is}
+use Rattle.rb_laws_events.proofs.{BreakEvents.{TickBreaks, site-ticks}, BreakMessages.SiteBreaks, BreakSites.{HasClosed, acted}, BreakTicks.{before-next, closed-goes-on}, FewEntered.{BringsFew, act-brings}, FewOff.{StepsOn, messages_in}, FewSent.{CallsAlike, HasSpoken, IsSentThen, SaysAt, said-then, says-some, speaks-once, spoken-kept, spoken-quiet}, FewQuiet.{deaf-quiet, hearing-quiet}, NodeActs.HasRoom, NodeTicks.like-tick, PastTicks.{TellsNone, past-tick, turns-later, IsPast}, StageOrder.last_of, Takes.tick-had, TickWindows.{IsTickIn, first_of, here-is}}
 
 -- no window begins after the first tick of one
 pub no-begin : (sizes : Sizes) (plan : Plan) (me : Side) (y : NodeState) (n k : ℕ) → HasRoom plan → n ≤ stages_in sizes → state_at sizes plan me y k ≡ y → IsTickIn sizes plan me y n k

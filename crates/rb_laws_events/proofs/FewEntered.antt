@@ -3,17 +3,8 @@
 use Rattle.std.proofs.Common.{◌≡◌, ℕ, zero, suc, ◌+◌, ◌≤◌, Bool, true, false, List, [], filter, flat_map, length, length-append, refl, ap, ◌∙◌, arith, Option, Some, None}
 use Rattle.std.specs.List.{range_with_len}
 use Rattle.rb_base.specs.Nodes.{Side, other}
-use Rattle.rb_rules.specs.declared.closing.Closed.{Closed}
-use Rattle.rb_rules.specs.declared.record.Epoch.{Epoch}
-use Rattle.rb_rules.specs.Core.{Act, Core}
-use Rattle.rb_rules.specs.Entries.{IsListed, is_said}
-use Rattle.rb_rules.specs.Goodness.{Scenario, is_good}
-use Rattle.rb_rules.specs.Hearing.{Coming, Span, said_by}
-use Rattle.rb_rules.specs.Ports.{PortState}
-use Rattle.rb_rules.specs.Slots.{count_of}
-use Rattle.rb_rules.specs.WorldStep.{Site, after_act, await, enter, proceed, says_in, span_from, stop, with_close, with_epoch}
-use Rattle.rb_laws_events.proofs.FewThere.{said-few, said-once}
-use Rattle.rb_laws_events.proofs.SourceSums.{items-once, sum_to}
+use Rattle.rb_rules.specs.{declared.closing.Closed.Closed, declared.record.Epoch.Epoch, Core.{Act, Core}, Entries.{IsListed, is_said}, Goodness.{Scenario, is_good}, Hearing.{Coming, Span, said_by}, Ports.PortState, Slots.count_of, WorldStep.{Site, after_act, await, enter, proceed, says_in, span_from, stop, with_close, with_epoch}}
+use Rattle.rb_laws_events.proofs.{FewThere.{said-few, said-once}, SourceSums.{items-once, sum_to}}
 
 flat-sum : (f : ℕ → List Coming) (most : ℕ → ℕ) (a n : ℕ) → ((j : ℕ) → length (f j) ≤ most j) → length (flat_map f (range_with_len a n)) + sum_to most a ≤ sum_to most (a + n)
 flat-sum f most a zero each = let same : sum_to most (a + 0) ≡ sum_to most a = ap (sum_to most) (omega arith) in omega (arith, same)

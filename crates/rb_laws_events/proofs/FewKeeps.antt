@@ -1,47 +1,12 @@
 -- For the law that pending events are few: if the run breaks off in a sync slot the nodes keep room
 -- for what comes to them until it has ended.
-use Rattle.std.proofs.Common.{◌≡◌, ℕ, zero, suc, ◌+◌, ◌*◌, ◌^◌, ◌<◌, ◌≤◌, ◌&&◌, Bool, true, false, List, [], ◌∷◌, ◌++◌, length, refl, ap, sym, ◌∙◌, subst, arith, inl, inr, Option, Some, None, slice_get}
-use Rattle.std.proofs.lemmas.Bool.{cases_lt}
-use Rattle.std.proofs.lemmas.Option.{same_Some, slice_get_within}
+use Rattle.std.proofs.{Common.{◌≡◌, ℕ, zero, suc, ◌+◌, ◌*◌, ◌^◌, ◌<◌, ◌≤◌, ◌&&◌, Bool, true, false, List, [], ◌∷◌, ◌++◌, length, refl, ap, sym, ◌∙◌, subst, arith, inl, inr, Option, Some, None, slice_get}, lemmas.Bool.cases_lt, lemmas.Option.{same_Some, slice_get_within}}
 use Rattle.rb_base.specs.Nodes.{Side, other}
 use Rattle.rb_base.proofs.Plain.{none_and_some, option_map-back}
-use Rattle.rb_rules.specs.declared.message.Message.{Message}
-use Rattle.rb_rules.specs.Book.{Each, of_kind}
-use Rattle.rb_rules.specs.Clock.{stamp_of, time_of}
-use Rattle.rb_rules.specs.Core.{Act, Core, arrive, pass_to}
-use Rattle.rb_rules.specs.Entries.{IsListed}
-use Rattle.rb_rules.specs.Goodness.{Scenario, clock_of}
-use Rattle.rb_rules.specs.Hearing.{Coming, coming_of}
-use Rattle.rb_rules.specs.Lawful.{IsLawful}
-use Rattle.rb_rules.specs.NodeState.{NodeState}
-use Rattle.rb_rules.specs.Ports.{HandIn, PortState}
-use Rattle.rb_rules.specs.Rounds.{moment}
-use Rattle.rb_rules.specs.Slots.{count_of, same_side}
-use Rattle.rb_rules.specs.WorldStep.{Site, Timed, after_act, after_arrival, at_node, pass_and_tick, with_message}
-use Rattle.rb_rules.proofs.Drift.{times_rise_to}
-use Rattle.rb_rules.proofs.QuietTicks.{arrive-same}
-use Rattle.rb_rules.proofs.Stamps.{Moves}
+use Rattle.rb_rules.specs.{declared.message.Message.Message, Book.{Each, of_kind}, Clock.{stamp_of, time_of}, Core.{Act, Core, arrive, pass_to}, Entries.IsListed, Goodness.{Scenario, clock_of}, Hearing.{Coming, coming_of}, Lawful.IsLawful, NodeState.NodeState, Ports.{HandIn, PortState}, Rounds.moment, Slots.{count_of, same_side}, WorldStep.{Site, Timed, after_act, after_arrival, at_node, pass_and_tick, with_message}}
+use Rattle.rb_rules.proofs.{Drift.times_rise_to, QuietTicks.arrive-same, Stamps.Moves}
 use Rattle.rb_laws_events.specs.PendingEvents.{most_coming}
-use Rattle.rb_laws_events.proofs.BreakBegins.{FirstCloses}
-use Rattle.rb_laws_events.proofs.BreakEvents.{TickBreaks}
-use Rattle.rb_laws_events.proofs.BreakMessages.{closed-more}
-use Rattle.rb_laws_events.proofs.BreakNodes.{BreaksAt, KeepsNodes}
-use Rattle.rb_laws_events.proofs.BreakRooms.{HasLater, has-later}
-use Rattle.rb_laws_events.proofs.BreakSites.{closed-arrives}
-use Rattle.rb_laws_events.proofs.EventsHold.{keeps, nodes_at}
-use Rattle.rb_laws_events.proofs.FewBreak.{MayBreak, breaks-few}
-use Rattle.rb_laws_events.proofs.FewLast.{MayLast, last-few}
-use Rattle.rb_laws_events.proofs.FewOff.{HaveRooms, StepsOn, messages_in, rooms-change}
-use Rattle.rb_laws_events.proofs.FewSent.{HasSpoken, spoken-kept}
-use Rattle.rb_laws_events.proofs.FewThere.{few-where-it-stands}
-use Rattle.rb_laws_events.proofs.Invariant.{is_good_at}
-use Rattle.rb_laws_events.proofs.LastSites.{told-arrives, told-more}
-use Rattle.rb_laws_events.proofs.PendingLists.{StandsAt}
-use Rattle.rb_laws_events.proofs.SourceSums.{sum_to}
-use Rattle.rb_laws_events.proofs.Takes.{length-without}
-use Rattle.rb_laws_events.proofs.TickRooms.{has-room}
-use Rattle.rb_laws_events.proofs.WorldStands.{IsDown, IsUp, is_node, node-is, sent_by}
-use Rattle.rb_laws_events.proofs.WorldTicks.{after_tick, get-after, length-after, moved, reached}
+use Rattle.rb_laws_events.proofs.{BreakBegins.FirstCloses, BreakEvents.TickBreaks, BreakMessages.closed-more, BreakNodes.{BreaksAt, KeepsNodes}, BreakRooms.{HasLater, has-later}, BreakSites.closed-arrives, EventsHold.{keeps, nodes_at}, FewBreak.{MayBreak, breaks-few}, FewLast.{MayLast, last-few}, FewOff.{HaveRooms, StepsOn, messages_in, rooms-change}, FewSent.{HasSpoken, spoken-kept}, FewThere.few-where-it-stands, Invariant.is_good_at, LastSites.{told-arrives, told-more}, PendingLists.StandsAt, SourceSums.sum_to, Takes.length-without, TickRooms.has-room, WorldStands.{IsDown, IsUp, is_node, node-is, sent_by}, WorldTicks.{after_tick, get-after, length-after, moved, reached}}
 
 -- what a node may do yet
 abbrev pub may_at : Scenario → ℕ → List HandIn → ℕ → Side → ℕ → ℕ → ℕ → Site → Type 0

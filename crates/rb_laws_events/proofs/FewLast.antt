@@ -1,42 +1,12 @@
 -- For the law that pending events are few if the run breaks off with the last stage of the sync
 -- slot: a node that has told its row sends one message at most in the tail and one in the first
 -- window of the next frame, and enters that window once.
-use Rattle.std.proofs.Common.{◌≡◌, ℕ, zero, suc, ◌+◌, ◌-◌, ◌*◌, ◌<◌, ◌≤◌, ◌⊎◌, Bool, true, false, List, refl, ap, sym, ◌∙◌, subst, arith, inl, inr, Option, Some, None, length, lit<}
-use Rattle.std.proofs.lemmas.Bool.{cases_lt}
-use Rattle.rb_base.specs.Nodes.{Side}
-use Rattle.rb_base.specs.Sizes.{Sizes, sync_slot_of}
+use Rattle.std.proofs.{Common.{◌≡◌, ℕ, zero, suc, ◌+◌, ◌-◌, ◌*◌, ◌<◌, ◌≤◌, ◌⊎◌, Bool, true, false, List, refl, ap, sym, ◌∙◌, subst, arith, inl, inr, Option, Some, None, length, lit<}, lemmas.Bool.cases_lt}
+use Rattle.rb_base.specs.{Nodes.Side, Sizes.{Sizes, sync_slot_of}}
 use Rattle.rb_base.proofs.Plain.{none_and_some}
-use Rattle.rb_rules.specs.declared.message.Message.{Message}
-use Rattle.rb_rules.specs.declared.plan.Plan.{Plan}
-use Rattle.rb_rules.specs.declared.plan.Window.{Window}
-use Rattle.rb_rules.specs.Core.{Act, Core, act_at, act_on, is_spent, pass_to, said_at, state_kept, tick, window_here}
-use Rattle.rb_rules.specs.Entries.{IsListed}
-use Rattle.rb_rules.specs.Goodness.{Scenario}
-use Rattle.rb_rules.specs.Lawful.{IsLawful}
-use Rattle.rb_rules.specs.Moments.{IsRunning}
-use Rattle.rb_rules.specs.NodeState.{NodeState}
-use Rattle.rb_rules.specs.Plan.{tail_start_of}
-use Rattle.rb_rules.specs.Ports.{HandIn, PortState}
-use Rattle.rb_rules.specs.Rounds.{moment}
-use Rattle.rb_rules.specs.WorldStep.{Site, Timed, after_act, pass_and_tick, wants_in, word_of}
+use Rattle.rb_rules.specs.{declared.message.Message.Message, declared.plan.Plan.Plan, declared.plan.Window.Window, Core.{Act, Core, act_at, act_on, is_spent, pass_to, said_at, state_kept, tick, window_here}, Entries.IsListed, Goodness.Scenario, Lawful.IsLawful, Moments.IsRunning, NodeState.NodeState, Plan.tail_start_of, Ports.{HandIn, PortState}, Rounds.moment, WorldStep.{Site, Timed, after_act, pass_and_tick, wants_in, word_of}}
 use Rattle.rb_laws_events.specs.Closing.{stages_in}
-use Rattle.rb_laws_events.proofs.BreakEvents.{TickBreaks}
-use Rattle.rb_laws_events.proofs.BreakSites.{acted}
-use Rattle.rb_laws_events.proofs.FewBreak.{no-begin, once-more, slot-in-sync}
-use Rattle.rb_laws_events.proofs.FewEntered.{BringsFew, act-brings}
-use Rattle.rb_laws_events.proofs.FewOff.{StepsOn, messages_in}
-use Rattle.rb_laws_events.proofs.FewSent.{CallsAlike, HasSpoken, IsSentThen, SaysAt, said-then, says-some, speaks-once, spoken-kept, spoken-quiet}
-use Rattle.rb_laws_events.proofs.FewQuiet.{ahead-quiet, deaf-quiet}
-use Rattle.rb_laws_events.proofs.LastEvents.{before-end, last-ticks}
-use Rattle.rb_laws_events.proofs.LastSites.{AwaitsNext, HasToldLast, SiteLast}
-use Rattle.rb_laws_events.proofs.LastTicks.{told-goes, told-ticks}
-use Rattle.rb_laws_events.proofs.NodeActs.{HasRoom}
-use Rattle.rb_laws_events.proofs.NodeTicks.{tail-first}
-use Rattle.rb_laws_events.proofs.StageOrder.{last_of, last-same}
-use Rattle.rb_laws_events.proofs.TailTicks.{GoesOn, HasTurned, IsAfter, IsInTail, KeepsMiddles, in-tail, tail-act, turned-epoch}
-use Rattle.rb_laws_events.proofs.Takes.{tick-had}
-use Rattle.rb_laws_events.proofs.TickWindows.{IsTickIn, first_of, first-same, here-is}
-use Rattle.rb_laws_events.proofs.TurnTicks.{no-next, not-yet}
+use Rattle.rb_laws_events.proofs.{BreakEvents.TickBreaks, BreakSites.acted, FewBreak.{no-begin, once-more, slot-in-sync}, FewEntered.{BringsFew, act-brings}, FewOff.{StepsOn, messages_in}, FewSent.{CallsAlike, HasSpoken, IsSentThen, SaysAt, said-then, says-some, speaks-once, spoken-kept, spoken-quiet}, FewQuiet.{ahead-quiet, deaf-quiet}, LastEvents.{before-end, last-ticks}, LastSites.{AwaitsNext, HasToldLast, SiteLast}, LastTicks.{told-goes, told-ticks}, NodeActs.HasRoom, NodeTicks.tail-first, StageOrder.{last_of, last-same}, TailTicks.{GoesOn, HasTurned, IsAfter, IsInTail, KeepsMiddles, in-tail, tail-act, turned-epoch}, Takes.tick-had, TickWindows.{IsTickIn, first_of, first-same, here-is}, TurnTicks.{no-next, not-yet}}
 
 -- what a node that has told its row may do yet
 pub record ToldFew (sc : Scenario) (hands : List HandIn) (p : ℕ) (me : Side) (i r e : ℕ) (s : Site) : Type 0 where

@@ -1,20 +1,11 @@
 -- For the law that pending events are few if the run breaks off in a sync slot: room at each node
 -- for what comes to it, for the messages that may be sent to it yet, and for what may be said to it
 -- in windows that it enters yet.
-use Rattle.std.proofs.Common.{◌≡◌, ℕ, ◌+◌, ◌*◌, ◌<◌, ◌≤◌, ◌&&◌, Bool, true, false, [], ◌∷◌, ◌++◌, length, length-append, refl, ap, sym, ◌∙◌, subst, arith, Option, Some, None, slice_get}
-use Rattle.std.proofs.lemmas.Option.{same_Some}
-use Rattle.rb_base.specs.Nodes.{Side, other}
-use Rattle.rb_base.specs.Nodes.Side.{Biu, Rmu}
+use Rattle.std.proofs.{Common.{◌≡◌, ℕ, ◌+◌, ◌*◌, ◌<◌, ◌≤◌, ◌&&◌, Bool, true, false, [], ◌∷◌, ◌++◌, length, length-append, refl, ap, sym, ◌∙◌, subst, arith, Option, Some, None, slice_get}, lemmas.Option.same_Some}
+use Rattle.rb_base.specs.{Nodes.{Side, other}, Nodes.Side.{Biu, Rmu}}
 use Rattle.rb_base.proofs.Plain.{option_map-back}
-use Rattle.rb_rules.specs.declared.message.Message.{Message}
-use Rattle.rb_rules.specs.Book.{Each, of_kind}
-use Rattle.rb_rules.specs.Goodness.{Scenario}
-use Rattle.rb_rules.specs.Hearing.{coming_of}
-use Rattle.rb_rules.specs.Slots.{count_of, same_side}
-use Rattle.rb_rules.specs.WorldStep.{Site, at_node, with_message}
-use Rattle.rb_laws_events.proofs.SourceSums.{sum-larger, sum-le, sum_to}
-use Rattle.rb_laws_events.proofs.WorldStands.{is_node, node-is, node-itself}
-use Rattle.rb_laws_events.proofs.WorldTicks.{after_tick, get-after, moved, reached}
+use Rattle.rb_rules.specs.{declared.message.Message.Message, Book.{Each, of_kind}, Goodness.Scenario, Hearing.coming_of, Slots.{count_of, same_side}, WorldStep.{Site, at_node, with_message}}
+use Rattle.rb_laws_events.proofs.{SourceSums.{sum-larger, sum-le, sum_to}, WorldStands.{is_node, node-is, node-itself}, WorldTicks.{after_tick, get-after, moved, reached}}
 
 -- node i of kind me may still send `sends me i` messages, and enter `enters me i` windows
 pub record HaveRooms (sc : Scenario) (most : Side → ℕ) (sends enters : Side → ℕ → ℕ) (sites : Each Site) : Type 0 where

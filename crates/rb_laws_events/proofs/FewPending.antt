@@ -2,27 +2,10 @@
 -- the next.
 use Rattle.std.proofs.Common.{◌≡◌, ℕ, ◌+◌, ◌≤◌, ◌&&◌, Bool, true, false, List, [], ◌∷◌, ◌++◌, length, length-append, map, inl, inr, refl, ap, sym, ◌∙◌, subst, arith, Option, Some, None, option_map, option_to_list, slice_get}
 use Rattle.rb_base.specs.Nodes.{Side, other}
-use Rattle.rb_rules.specs.Book.{Each, of_kind}
-use Rattle.rb_rules.specs.Core.{Act}
-use Rattle.rb_rules.specs.declared.message.Message.{Message}
-use Rattle.rb_rules.specs.Entries.{IsListed}
-use Rattle.rb_rules.specs.Goodness.{Scenario}
-use Rattle.rb_rules.specs.Hearing.{Sending, coming_of}
-use Rattle.rb_rules.specs.Lawful.{IsLawful}
-use Rattle.rb_rules.specs.WorldStep.{Choice, Due, Site, Timed, World, after_act, at_node, choose, happens, pass_and_tick, sent_to, take, take_if_due, times_of, with_act, with_message, with_pending, world_after}
-use Rattle.rb_rules.specs.WorldStep.Pending.{Tick}
-use Rattle.rb_rules.specs.WorldStep.Choice.{Take}
-use Rattle.rb_rules.specs.WorldStep.Way.{ByAnEvent}
+use Rattle.rb_rules.specs.{Book.{Each, of_kind}, Core.Act, declared.message.Message.Message, Entries.IsListed, Goodness.Scenario, Hearing.{Sending, coming_of}, Lawful.IsLawful, WorldStep.{Choice, Due, Site, Timed, World, after_act, at_node, choose, happens, pass_and_tick, sent_to, take, take_if_due, times_of, with_act, with_message, with_pending, world_after}, WorldStep.Pending.Tick, WorldStep.Choice.Take, WorldStep.Way.ByAnEvent}
 use Rattle.rb_rules.proofs.Slots.{same_side_self}
 use Rattle.rb_laws_events.specs.PendingEvents.{PendingEventsAreFewInLawful, TakesTick, most_coming, most_pending}
-use Rattle.rb_laws_events.proofs.FewKeeps.{few-keeps, few_at, rooms-few}
-use Rattle.rb_laws_events.proofs.EveryWorld.{AnyWorld, after-more, any-after}
-use Rattle.rb_laws_events.proofs.OneTake.{StandsInRounds}
-use Rattle.rb_laws_events.proofs.TickRooms.{has-room}
-use Rattle.rb_laws_events.proofs.FewThere.{few-where-it-stands, length-mapped}
-use Rattle.rb_laws_events.proofs.WorldNodes.{settle-sites}
-use Rattle.rb_laws_events.proofs.WorldStands.{IsDown, IsUp, node-itself, not-other, sent_by}
-use Rattle.rb_laws_events.proofs.WorldTicks.{after_tick, get-after, kind-other, reached, reached-not}
+use Rattle.rb_laws_events.proofs.{FewKeeps.{few-keeps, few_at, rooms-few}, EveryWorld.{AnyWorld, after-more, any-after}, OneTake.StandsInRounds, TickRooms.has-room, FewThere.{few-where-it-stands, length-mapped}, WorldNodes.settle-sites, WorldStands.{IsDown, IsUp, node-itself, not-other, sent_by}, WorldTicks.{after_tick, get-after, kind-other, reached, reached-not}}
 
 pub times-many : (s : Site) → length (times_of s) ≤ length s.coming + 1
 times-many s = by s.ahead

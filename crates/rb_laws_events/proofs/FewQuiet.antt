@@ -1,32 +1,10 @@
 -- For the law that pending events are few if the run breaks off in a sync slot: at its last tick of
 -- the stage a node sends nothing.
-use Rattle.std.proofs.Common.{◌≡◌, ℕ, ◌+◌, ◌*◌, ◌<◌, Bool, true, false, List, [], ◌∷◌, ◌++◌, refl, ap, sym, ◌∙◌, subst, arith, Option, Some, None, slice_get, lit<}
-use Rattle.std.proofs.lemmas.Option.{same_Some}
-use Rattle.rb_base.specs.Nodes.{Side}
-use Rattle.rb_base.specs.Sizes.{sync_slot_of}
+use Rattle.std.proofs.{Common.{◌≡◌, ℕ, ◌+◌, ◌*◌, ◌<◌, Bool, true, false, List, [], ◌∷◌, ◌++◌, refl, ap, sym, ◌∙◌, subst, arith, Option, Some, None, slice_get, lit<}, lemmas.Option.same_Some}
+use Rattle.rb_base.specs.{Nodes.Side, Sizes.sync_slot_of}
 use Rattle.rb_base.proofs.Plain.{less-differs}
-use Rattle.rb_rules.specs.declared.message.Message.{Message}
-use Rattle.rb_rules.specs.Book.{of_kind}
-use Rattle.rb_rules.specs.Clock.{time_of}
-use Rattle.rb_rules.specs.Core.{Act, Core, if_at}
-use Rattle.rb_rules.specs.Goodness.{Scenario, clock_of}
-use Rattle.rb_rules.specs.Hearing.{Coming, Sending}
-use Rattle.rb_rules.specs.Lawful.{IsLawful}
-use Rattle.rb_rules.specs.Moments.{IsRunning}
-use Rattle.rb_rules.specs.NodeState.{NodeState}
-use Rattle.rb_rules.specs.Ports.{HandIn, PortState}
-use Rattle.rb_rules.specs.Rounds.{Moment, moment}
-use Rattle.rb_rules.specs.WorldStep.{Site, Timed, pass_and_tick}
-use Rattle.rb_laws_events.proofs.BreakEnters.{sent-then}
-use Rattle.rb_laws_events.proofs.BreakEvents.{TickBreaks}
-use Rattle.rb_laws_events.proofs.BreakSites.{WaitsDeaf, WaitsHearing}
-use Rattle.rb_laws_events.proofs.Invariant.{is_good_at, last_tick, word_at}
-use Rattle.rb_laws_events.proofs.LastCloses.{shows-deaf, shows-heard}
-use Rattle.rb_laws_events.proofs.LastSites.{WaitsAhead}
-use Rattle.rb_laws_events.proofs.NodeActs.{ActsClose, HasRoom}
-use Rattle.rb_laws_events.proofs.NodeSends.{sending_at}
-use Rattle.rb_laws_events.proofs.SameHeard.{Every}
-use Rattle.rb_laws_events.proofs.SentChanges.{sending-of-is}
+use Rattle.rb_rules.specs.{declared.message.Message.Message, Book.of_kind, Clock.time_of, Core.{Act, Core, if_at}, Goodness.{Scenario, clock_of}, Hearing.{Coming, Sending}, Lawful.IsLawful, Moments.IsRunning, NodeState.NodeState, Ports.{HandIn, PortState}, Rounds.{Moment, moment}, WorldStep.{Site, Timed, pass_and_tick}}
+use Rattle.rb_laws_events.proofs.{BreakEnters.sent-then, BreakEvents.TickBreaks, BreakSites.{WaitsDeaf, WaitsHearing}, Invariant.{is_good_at, last_tick, word_at}, LastCloses.{shows-deaf, shows-heard}, LastSites.WaitsAhead, NodeActs.{ActsClose, HasRoom}, NodeSends.sending_at, SameHeard.Every, SentChanges.sending-of-is}
 
 gone : (k : ℕ) (o : Option Sending) → ((x : Sending) → o ≡ Some x → x.tick < k) → if_at k o ≡ None
 gone k None h = refl

@@ -1,28 +1,13 @@
 -- For the law that pending events are few if the run breaks off in a sync slot: in the sync slot,
 -- after its first stage, a node sends one message at most, whatever middles it keeps.
-use Rattle.std.proofs.Common.{◌≡◌, ℕ, ◌+◌, ◌-◌, ◌*◌, ◌<◌, ◌≤◌, ◌==◌, ◌⊎◌, Bool, true, false, [], refl, ap, sym, ◌∙◌, subst, arith, inl, inr, Option, Some, None, option_map, if◌then◌else◌}
+use Rattle.std.proofs.{Common.{◌≡◌, ℕ, ◌+◌, ◌-◌, ◌*◌, ◌<◌, ◌≤◌, ◌==◌, ◌⊎◌, Bool, true, false, [], refl, ap, sym, ◌∙◌, subst, arith, inl, inr, Option, Some, None, option_map, if◌then◌else◌}, lemmas.Bool.{eqb-true, or_cases}, lemmas.Option.same_Some}
 use Rattle.std.specs.Option.{option_or}
-use Rattle.std.proofs.lemmas.Bool.{eqb-true, or_cases}
-use Rattle.std.proofs.lemmas.Option.{same_Some}
-use Rattle.rb_base.specs.Nodes.{Side, other}
-use Rattle.rb_base.specs.Nodes.Side.{Biu, Rmu}
-use Rattle.rb_base.specs.Sizes.{Sizes, sync_slot_of}
+use Rattle.rb_base.specs.{Nodes.{Side, other}, Nodes.Side.{Biu, Rmu}, Sizes.{Sizes, sync_slot_of}}
 use Rattle.rb_base.proofs.Plain.{and_first}
-use Rattle.rb_rules.specs.declared.message.Message.{Message}
-use Rattle.rb_rules.specs.declared.plan.Plan.{Plan}
-use Rattle.rb_rules.specs.declared.role.Role.TheVariants.{Sync}
-use Rattle.rb_rules.specs.Core.{Act, Core, act_at, act_on, epoch_at, if_at, is_last, is_spent, of_source, said_at, state_at, state_kept, tick, window_here}
-use Rattle.rb_rules.specs.ExactStage.{Outcome}
-use Rattle.rb_rules.specs.Hearing.{Sending, close_window, sending}
-use Rattle.rb_rules.specs.NodeState.{NodeState}
-use Rattle.rb_rules.specs.Plan.{f0_of}
-use Rattle.rb_rules.specs.Slots.{listens}
-use Rattle.rb_rules.specs.SyncStage.{call_tick_of}
+use Rattle.rb_rules.specs.{declared.message.Message.Message, declared.plan.Plan.Plan, declared.role.Role.TheVariants.Sync, Core.{Act, Core, act_at, act_on, epoch_at, if_at, is_last, is_spent, of_source, said_at, state_at, state_kept, tick, window_here}, ExactStage.Outcome, Hearing.{Sending, close_window, sending}, NodeState.NodeState, Plan.f0_of, Slots.listens, SyncStage.call_tick_of}
 use Rattle.rb_laws_synchrony.proofs.TakenCalls.{call_sent}
 use Rattle.rb_laws_events.specs.Closing.{stages_in}
-use Rattle.rb_laws_events.proofs.NodeActs.{HasRoom}
-use Rattle.rb_laws_events.proofs.StageOrder.{last_of, last-same}
-use Rattle.rb_laws_events.proofs.TickWindows.{IsTickIn, ends-before-later, first_of}
+use Rattle.rb_laws_events.proofs.{NodeActs.HasRoom, StageOrder.{last_of, last-same}, TickWindows.{IsTickIn, ends-before-later, first_of}}
 
 -- each call of the node in the sync slot has gone out before tick `had`
 abbrev pub HasSpoken : Sizes → Plan → Side → NodeState → ℕ → Type 0

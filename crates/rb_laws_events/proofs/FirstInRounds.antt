@@ -1,29 +1,9 @@
 -- For the law that events are rounds: the first world stands in the rounds.
-use Rattle.std.proofs.Common.{◌≡◌, ℕ, ◌<◌, Bool, true, false, [], length, refl, ap, sym, ◌∙◌, arith, inl, Option, Some, None, is_some, slice_get}
-use Rattle.std.proofs.lemmas.List.FromFn.{length-map-range_with_len}
-use Rattle.std.proofs.lemmas.Option.{same_Some, slice_get_within}
+use Rattle.std.proofs.{Common.{◌≡◌, ℕ, ◌<◌, Bool, true, false, [], length, refl, ap, sym, ◌∙◌, arith, inl, Option, Some, None, is_some, slice_get}, lemmas.List.FromFn.length-map-range_with_len, lemmas.Option.{same_Some, slice_get_within}}
 use Rattle.rb_base.specs.Nodes.{Side}
-use Rattle.rb_rules.specs.Book.{Each, of_kind, each_of}
-use Rattle.rb_rules.specs.Goodness.{Scenario, is_good}
+use Rattle.rb_rules.specs.{Book.{Each, of_kind, each_of}, Goodness.{Scenario, is_good}, Lawful.IsLawful, Rounds.begin_frame, Slots.count_of, WorldStep.{begun_for, Site, await, enter, says_in, span_from, stop, first_world, fresh_site, proceed}, Hearing.{Span, port_at}}
 use Rattle.rb_rules.proofs.WindowNumbers.{get-made}
-use Rattle.rb_rules.specs.Lawful.{IsLawful}
-use Rattle.rb_rules.specs.Rounds.{begin_frame}
-use Rattle.rb_rules.specs.Slots.{count_of}
-use Rattle.rb_rules.specs.WorldStep.{begun_for, Site, await, enter, says_in, span_from, stop, first_world, fresh_site, proceed}
-use Rattle.rb_laws_events.proofs.SettledOnce.{Settled}
-use Rattle.rb_laws_events.proofs.FirstWorld.{at_begin, first-stands}
-use Rattle.rb_laws_events.proofs.NodeActs.{HasRoom}
-use Rattle.rb_laws_events.proofs.MomentSteps.{NextIsStage, next-is-stage}
-use Rattle.rb_laws_events.proofs.ToldSoFar.{so-far-first}
-use Rattle.rb_laws_events.proofs.UpToThere.{Reaches, UpTo, reaches-first}
-use Rattle.rb_laws_events.proofs.OneEvent.{WorldInRounds}
-use Rattle.rb_laws_events.proofs.SettlingFrames.{BegunOfRounds, TellRounds}
-use Rattle.rb_laws_events.proofs.Timing.{AreInTime}
-use Rattle.rb_laws_events.proofs.Settling.{RowsOfRounds}
-use Rattle.rb_laws_events.proofs.ToldInOrder.{AllTold}
-use Rattle.rb_laws_events.proofs.Waiting.{none-told}
-use Rattle.rb_rules.specs.Hearing.{Span, port_at}
-use Rattle.rb_laws_events.proofs.WorldNodes.{first-counts}
+use Rattle.rb_laws_events.proofs.{SettledOnce.Settled, FirstWorld.{at_begin, first-stands}, NodeActs.HasRoom, MomentSteps.{NextIsStage, next-is-stage}, ToldSoFar.so-far-first, UpToThere.{Reaches, UpTo, reaches-first}, OneEvent.WorldInRounds, SettlingFrames.{BegunOfRounds, TellRounds}, Timing.AreInTime, Settling.RowsOfRounds, ToldInOrder.AllTold, Waiting.none-told, WorldNodes.first-counts}
 
 -- to enter a window changes neither what a node has told nor the frame that it has begun
 entered-tells : (sc : Scenario) (me : Side) (i : ℕ) (o : Option Span) (s : Site) → ((enter sc me i o s).row ≡ s.row) × ((enter sc me i o s).begun ≡ s.begun)

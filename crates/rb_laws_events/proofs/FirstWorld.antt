@@ -1,40 +1,10 @@
 -- For the law that events are rounds: in the first world all nodes stand in the first moment.
-use Rattle.std.proofs.Common.{◌≡◌, ℕ, zero, suc, ◌+◌, ◌*◌, ◌<◌, ◌≤◌, ◌⊎◌, Bool, true, false, List, [], ◌∷◌, ◌++◌, length, refl, ap, sym, ◌∙◌, subst, arith, inl, inr, Option, Some, None, slice_get, option_and_then}
-use Rattle.std.proofs.lemmas.Bool.{cases_lt}
-use Rattle.std.proofs.lemmas.Option.{same_Some}
-use Rattle.rb_base.specs.Nodes.{Side, other}
-use Rattle.rb_base.specs.Nodes.Side.{Biu, Rmu}
-use Rattle.rb_base.specs.Sizes.{Sizes}
-use Rattle.rb_rules.specs.declared.plan.Plan.{Plan}
-use Rattle.rb_rules.specs.Book.{Each, each_of, of_kind}
-use Rattle.rb_rules.specs.Clock.{Timeline, time_of}
-use Rattle.rb_rules.specs.declared.plan.Window.{Window}
-use Rattle.rb_rules.specs.Core.{state_at, window_here}
-use Rattle.rb_rules.specs.Goodness.{Scenario, clock_of, is_good}
-use Rattle.rb_rules.specs.Hearing.{Coming, Span, said_by, span_of}
-use Rattle.rb_rules.specs.NodeState.{NodeState, first_state}
-use Rattle.rb_rules.specs.Ports.{HandIn}
-use Rattle.rb_rules.specs.Rounds.{Moment, begin_frame, moment, window_in}
-use Rattle.rb_rules.specs.Slots.{count_of}
-use Rattle.rb_rules.specs.WorldStep.{Site, await, enter, first_world, fresh_site, proceed, says_in, span_from, stop}
+use Rattle.std.proofs.{Common.{◌≡◌, ℕ, zero, suc, ◌+◌, ◌*◌, ◌<◌, ◌≤◌, ◌⊎◌, Bool, true, false, List, [], ◌∷◌, ◌++◌, length, refl, ap, sym, ◌∙◌, subst, arith, inl, inr, Option, Some, None, slice_get, option_and_then}, lemmas.Bool.cases_lt, lemmas.Option.same_Some}
+use Rattle.rb_base.specs.{Nodes.{Side, other}, Nodes.Side.{Biu, Rmu}, Sizes.Sizes}
+use Rattle.rb_rules.specs.{declared.plan.Plan.Plan, Book.{Each, each_of, of_kind}, Clock.{Timeline, time_of}, declared.plan.Window.Window, Core.{state_at, window_here}, Goodness.{Scenario, clock_of, is_good}, Hearing.{Coming, Span, said_by, span_of}, NodeState.{NodeState, first_state}, Ports.HandIn, Rounds.{Moment, begin_frame, moment, window_in}, Slots.count_of, WorldStep.{Site, await, enter, first_world, fresh_site, proceed, says_in, span_from, stop}}
 use Rattle.rb_rules.proofs.WindowNumbers.{get-made}
 use Rattle.rb_laws_agreement.proofs.Goodnesses.{good_counts}
-use Rattle.rb_laws_events.proofs.Invariant.{InTime, ahead_so_far, heard_so_far, is_good_at, last_tick, next_stage, sending_of}
-use Rattle.rb_laws_events.proofs.NodeActs.{HasRoom}
-use Rattle.rb_laws_events.proofs.NodeCloses.{good-span, span-begins}
-use Rattle.rb_laws_events.proofs.NodeGoesOn.{Entered, Enters, enters}
-use Rattle.rb_laws_events.proofs.NodeTicks.{gone}
-use Rattle.rb_laws_events.proofs.PendingLists.{Hears}
-use Rattle.rb_laws_events.proofs.ReceiverHears.{stands-same}
-use Rattle.rb_laws_events.proofs.RoundNodes.{slot_numbered}
-use Rattle.rb_laws_events.proofs.SameHeard.{Every}
-use Rattle.rb_laws_events.proofs.SayLists.{ComesIn, every-to, said_if, say-more, says-come-in, says-now}
-use Rattle.rb_laws_events.proofs.SentChanges.{past, sending-of-is, sent-here, sent-later}
-use Rattle.rb_laws_events.proofs.TickWindows.{IsTickIn, Tiles, first_of, first-same, here-is, tiles}
-use Rattle.rb_laws_events.proofs.Timing.{AreInTime, HavePassed}
-use Rattle.rb_laws_events.proofs.WorldEvents.{past-gone, past-none}
-use Rattle.rb_laws_events.proofs.WorldNodes.{first-counts}
-use Rattle.rb_laws_events.proofs.WorldStands.{IsDown, IsUp, SitesStand, ahead_in, sent_by}
+use Rattle.rb_laws_events.proofs.{Invariant.{InTime, ahead_so_far, heard_so_far, is_good_at, last_tick, next_stage, sending_of}, NodeActs.HasRoom, NodeCloses.{good-span, span-begins}, NodeGoesOn.{Entered, Enters, enters}, NodeTicks.gone, PendingLists.Hears, ReceiverHears.stands-same, RoundNodes.slot_numbered, SameHeard.Every, SayLists.{ComesIn, every-to, said_if, say-more, says-come-in, says-now}, SentChanges.{past, sending-of-is, sent-here, sent-later}, TickWindows.{IsTickIn, Tiles, first_of, first-same, here-is, tiles}, Timing.{AreInTime, HavePassed}, WorldEvents.{past-gone, past-none}, WorldNodes.first-counts, WorldStands.{IsDown, IsUp, SitesStand, ahead_in, sent_by}}
 
 -- nobody has sent anything
 abbrev pub none_sent : Side → ℕ → ℕ → Bool

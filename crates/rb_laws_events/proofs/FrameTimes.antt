@@ -1,37 +1,12 @@
 -- For the law that events are rounds: in a run that has not ended good nodes have begun the frame
 -- together, and over the turn they begin the next one together.
 use Rattle.std.proofs.Common.{◌≡◌, ℕ, suc, ◌+◌, ◌*◌, ◌≤◌, ◌<◌, true, List, ap, sym, ◌∙◌, subst, arith, inl, inr, Some, slice_get, option_map}
-use Rattle.rb_base.specs.Nodes.{Side}
-use Rattle.rb_base.specs.Nodes.Side.{Biu, Rmu}
-use Rattle.rb_base.specs.Sizes.{sync_slot_of}
-use Rattle.rb_rules.specs.declared.plan.Plan.{Plan}
-use Rattle.rb_rules.specs.Book.{of_kind}
-use Rattle.rb_rules.specs.Clock.{time_of}
-use Rattle.rb_rules.specs.Goodness.{Scenario, clock_of, is_good}
-use Rattle.rb_rules.specs.Lawful.{IsLawful}
-use Rattle.rb_rules.specs.Moments.{IsRunning}
-use Rattle.rb_rules.specs.NodeState.{NodeState}
-use Rattle.rb_rules.specs.Ports.{HandIn}
-use Rattle.rb_rules.specs.Rounds.{IsGoodIn, Moment, moment, windows_in}
-use Rattle.rb_rules.specs.SyncStage.{new_epoch_of}
-use Rattle.rb_laws_agreement.proofs.Agreement.{running_before, step_is}
-use Rattle.rb_laws_agreement.proofs.ExactAgrees.{has_ticks}
-use Rattle.rb_laws_agreement.proofs.FrameAgrees.{TurnedFrom, turned_from}
-use Rattle.rb_laws_agreement.proofs.FrameTimes.{turned-epoch}
-use Rattle.rb_laws_agreement.proofs.Goodnesses.{slot_last}
-use Rattle.rb_laws_agreement.proofs.Invariant.{IsGoodNode}
-use Rattle.rb_laws_agreement.proofs.NextMoments.{CameFrom, came_from}
-use Rattle.rb_laws_agreement.proofs.NodeWindows.{tail_windows}
-use Rattle.rb_laws_agreement.proofs.Settings.{after}
-use Rattle.rb_laws_synchrony.proofs.CallTicks.{all_know_next}
-use Rattle.rb_laws_synchrony.proofs.EpochTicks.{BeginByThen, begin_by_then, frame_ticks, within_run}
-use Rattle.rb_laws_synchrony.proofs.KeptMiddles.{Leaves, tail_leaves}
-use Rattle.rb_laws_synchrony.proofs.Synchronous.{KnowNext, KnowsEpoch}
-use Rattle.rb_laws_synchrony.proofs.Synchrony.{IsSynchronous, synchrony}
+use Rattle.rb_base.specs.{Nodes.Side, Nodes.Side.{Biu, Rmu}, Sizes.sync_slot_of}
+use Rattle.rb_rules.specs.{declared.plan.Plan.Plan, Book.of_kind, Clock.time_of, Goodness.{Scenario, clock_of, is_good}, Lawful.IsLawful, Moments.IsRunning, NodeState.NodeState, Ports.HandIn, Rounds.{IsGoodIn, Moment, moment, windows_in}, SyncStage.new_epoch_of}
+use Rattle.rb_laws_agreement.proofs.{Agreement.{running_before, step_is}, ExactAgrees.has_ticks, FrameAgrees.{TurnedFrom, turned_from}, FrameTimes.turned-epoch, Goodnesses.slot_last, Invariant.IsGoodNode, NextMoments.{CameFrom, came_from}, NodeWindows.tail_windows, Settings.after}
+use Rattle.rb_laws_synchrony.proofs.{CallTicks.all_know_next, EpochTicks.{BeginByThen, begin_by_then, frame_ticks, within_run}, KeptMiddles.{Leaves, tail_leaves}, Synchronous.{KnowNext, KnowsEpoch}, Synchrony.{IsSynchronous, synchrony}}
 use Rattle.rb_laws_events.specs.Closing.{HaveBegunTogether, stages_in}
-use Rattle.rb_laws_events.proofs.CloseOrder.{IsWindowLater, WasGood, was-good, window-later}
-use Rattle.rb_laws_events.proofs.Invariant.{is_good_at}
-use Rattle.rb_laws_events.proofs.RoundNodes.{moments-stand, slot-is}
+use Rattle.rb_laws_events.proofs.{CloseOrder.{IsWindowLater, WasGood, was-good, window-later}, Invariant.is_good_at, RoundNodes.{moments-stand, slot-is}}
 
 -- a good node of a moment is a good node in the words of agreement too
 pub node-in : (sc : Scenario) (m : Moment) (me : Side) (i : ℕ) (st : NodeState) → IsGoodIn sc m me i st → IsGoodNode sc m me i st

@@ -1,25 +1,9 @@
 -- A record that needs no event is given by the call that asks for it.
-use Rattle.std.proofs.Common.{◌≡◌, ℕ, suc, ◌+◌, ◌==◌, ◌&&◌, ◌||◌, not, nat_lt, Bool, true, false, List, [], ◌∷◌, ◌++◌, length, refl, ap, sym, ◌∙◌, arith, inl, inr, Option, Some, None, is_some, lit≤, slice_get, if◌then◌else◌}
-use Rattle.std.proofs.lemmas.Bool.{le-ltb}
-use Rattle.rb_base.specs.Nodes.{has, size}
-use Rattle.rb_base.specs.Nodes.Side.{Biu, Rmu}
-use Rattle.rb_base.specs.Sizes.{IsShape}
-use Rattle.rb_base.specs.declared.values.Place.{Place}
-use Rattle.rb_base.proofs.SetSizes.{size_none}
-use Rattle.rb_base.proofs.Sets.{has_none, is_set_of, same_set_of}
-use Rattle.rb_rules.specs.declared.cause.Cause.TheVariants.{FewGoodBiu, FewGoodRmu, TwoSided}
-use Rattle.rb_rules.specs.Book.{Book, Each, Milestone, Record, Row, after_verdict, judged_of, with_stage}
-use Rattle.rb_rules.specs.Book.Milestone.{Begin, Stage, End}
-use Rattle.rb_rules.specs.Book.Record.{Breach, Ended}
-use Rattle.rb_rules.specs.Goodness.{Scenario, good_at}
-use Rattle.rb_rules.specs.Judging.{ClassSets, JudgedStage, are_few_good, cause_of, classes_of, some_asymmetric, trusted_now, verdict_of}
-use Rattle.rb_rules.specs.WorldStep.{Site, World, all_have_told, begun_for, comes_so, go_on, is_complete, needs_no_event, nobody_good, record_since, row_for, settle, settle_next}
-use Rattle.rb_rules.specs.WorldStep.Way.{ByItself}
-use Rattle.rb_laws_events.proofs.Alone.{nobody-each}
-use Rattle.rb_laws_events.proofs.Completing.{next_world}
-use Rattle.rb_laws_events.proofs.SettledOnce.{FrameGiven, frame-given}
-use Rattle.rb_laws_events.proofs.Waiting.{no-good, told-all}
-use Rattle.rb_laws_events.proofs.WorldBooks.{go-on-turn, last-one, settle_rest}
+use Rattle.std.proofs.{Common.{◌≡◌, ℕ, suc, ◌+◌, ◌==◌, ◌&&◌, ◌||◌, not, nat_lt, Bool, true, false, List, [], ◌∷◌, ◌++◌, length, refl, ap, sym, ◌∙◌, arith, inl, inr, Option, Some, None, is_some, lit≤, slice_get, if◌then◌else◌}, lemmas.Bool.le-ltb}
+use Rattle.rb_base.specs.{Nodes.{has, size}, Nodes.Side.{Biu, Rmu}, Sizes.IsShape, declared.values.Place.Place}
+use Rattle.rb_base.proofs.{SetSizes.size_none, Sets.{has_none, is_set_of, same_set_of}}
+use Rattle.rb_rules.specs.{declared.cause.Cause.TheVariants.{FewGoodBiu, FewGoodRmu, TwoSided}, Book.{Book, Each, Milestone, Record, Row, after_verdict, judged_of, with_stage}, Book.Milestone.{Begin, Stage, End}, Book.Record.{Breach, Ended}, Goodness.{Scenario, good_at}, Judging.{ClassSets, JudgedStage, are_few_good, cause_of, classes_of, some_asymmetric, trusted_now, verdict_of}, WorldStep.{Site, World, all_have_told, begun_for, comes_so, go_on, is_complete, needs_no_event, nobody_good, record_since, row_for, settle, settle_next}, WorldStep.Way.ByItself}
+use Rattle.rb_laws_events.proofs.{Alone.nobody-each, Completing.next_world, SettledOnce.{FrameGiven, frame-given}, Waiting.{no-good, told-all}, WorldBooks.{go-on-turn, last-one, settle_rest}}
 
 -- if nobody is good, all that is asked for has been told
 pub none-asked : {X : Type 0} (sc : Scenario) (frame slot : ℕ) (tells : Site → Option X) (sites : Each Site) → IsShape sc.sizes → nobody_good sc frame slot ≡ true

@@ -1,38 +1,12 @@
 -- For the law that events are rounds: a state that is handed in while all nodes are before the data
 -- slots of the frame keeps the world in the rounds.
-use Rattle.std.proofs.Common.{◌≡◌, ◌≢◌, ℕ, zero, suc, ◌+◌, ◌-◌, ◌*◌, ◌<◌, ◌≤◌, Bool, true, false, List, [], ◌∷◌, ◌++◌, length, refl, ap, sym, ◌∙◌, subst, arith, inl, inr, Option, Some, slice_get, get_or, option_map, option_to_list, if◌then◌else◌}
-use Rattle.std.proofs.Math.Path.{fun_ext}
-use Rattle.std.proofs.lemmas.Bool.{cases_lt, lt-ltb, le-ltb}
-use Rattle.std.proofs.lemmas.Nat.{mul-le}
+use Rattle.std.proofs.{Common.{◌≡◌, ◌≢◌, ℕ, zero, suc, ◌+◌, ◌-◌, ◌*◌, ◌<◌, ◌≤◌, Bool, true, false, List, [], ◌∷◌, ◌++◌, length, refl, ap, sym, ◌∙◌, subst, arith, inl, inr, Option, Some, slice_get, get_or, option_map, option_to_list, if◌then◌else◌}, Math.Path.fun_ext, lemmas.Bool.{cases_lt, lt-ltb, le-ltb}, lemmas.Nat.mul-le}
 use Rattle.rb_base.specs.Nodes.{Side, other}
-use Rattle.rb_rules.specs.Book.{Each, of_kind}
-use Rattle.rb_rules.specs.Clock.{time_of}
-use Rattle.rb_rules.specs.ExactStage.{at_source}
-use Rattle.rb_rules.specs.Goodness.{Scenario, is_good, clock_of}
-use Rattle.rb_rules.specs.Hearing.{Coming, Sending, begun_of, coming_of, epoch_of, port_at, said_by, span_of}
-use Rattle.rb_rules.specs.NodeState.{NodeState}
-use Rattle.rb_rules.specs.Ports.{HandIn, PortState, with_state}
-use Rattle.rb_rules.specs.Rounds.{Moment, Result, moment, sent_in, window_in, windows_in, word_for_window}
-use Rattle.rb_rules.specs.Slots.{count_of}
-use Rattle.rb_rules.specs.WorldStep.{Site, Timed}
-use Rattle.rb_rules.proofs.HandIns.{moments-more}
-use Rattle.rb_rules.proofs.RoundStates.{HasTicks}
-use Rattle.rb_laws_agreement.proofs.Goodnesses.{good_counts}
-use Rattle.rb_laws_agreement.proofs.PortLists.{ports_long}
+use Rattle.rb_rules.specs.{Book.{Each, of_kind}, Clock.time_of, ExactStage.at_source, Goodness.{Scenario, is_good, clock_of}, Hearing.{Coming, Sending, begun_of, coming_of, epoch_of, port_at, said_by, span_of}, NodeState.NodeState, Ports.{HandIn, PortState, with_state}, Rounds.{Moment, Result, moment, sent_in, window_in, windows_in, word_for_window}, Slots.count_of, WorldStep.{Site, Timed}}
+use Rattle.rb_rules.proofs.{HandIns.moments-more, RoundStates.HasTicks}
+use Rattle.rb_laws_agreement.proofs.{Goodnesses.good_counts, PortLists.ports_long}
 use Rattle.rb_laws_events.specs.Closing.{stages_in}
-use Rattle.rb_laws_events.proofs.HandedMoments.{Alike, alike-sent, alike-through, before-frame, handed-alike, handed-ports, place-of}
-use Rattle.rb_laws_events.proofs.Invariant.{NodeStands, ahead_so_far, has_sent, heard_so_far, is_good_at, last_tick, next_stage, word_at}
-use Rattle.rb_laws_events.proofs.MomentBooks.{number-of, place_at}
-use Rattle.rb_laws_events.proofs.NodeActs.{IsInWindow}
-use Rattle.rb_laws_events.proofs.PortsKept.{still-early}
-use Rattle.rb_laws_events.proofs.Receiving.{Receives}
-use Rattle.rb_laws_events.proofs.RoundNodes.{item-at, slot-is, slot_numbered}
-use Rattle.rb_laws_events.proofs.Settling.{RowOfRounds, RowsOfRounds}
-use Rattle.rb_laws_events.proofs.SettlingFrames.{BegunInRounds, BegunOfRounds, TellRounds, ports_before}
-use Rattle.rb_laws_events.proofs.TickWindows.{first_of}
-use Rattle.rb_laws_events.proofs.Timing.{HavePassed}
-use Rattle.rb_laws_events.proofs.ToldInOrder.{AllTold, NodeTold, number-is, number_at}
-use Rattle.rb_laws_events.proofs.WorldStands.{IsDown, IsUp, SitesStand, ahead_in, sent_by}
+use Rattle.rb_laws_events.proofs.{HandedMoments.{Alike, alike-sent, alike-through, before-frame, handed-alike, handed-ports, place-of}, Invariant.{NodeStands, ahead_so_far, has_sent, heard_so_far, is_good_at, last_tick, next_stage, word_at}, MomentBooks.{number-of, place_at}, NodeActs.IsInWindow, PortsKept.still-early, Receiving.Receives, RoundNodes.{item-at, slot-is, slot_numbered}, Settling.{RowOfRounds, RowsOfRounds}, SettlingFrames.{BegunInRounds, BegunOfRounds, TellRounds, ports_before}, TickWindows.first_of, Timing.HavePassed, ToldInOrder.{AllTold, NodeTold, number-is, number_at}, WorldStands.{IsDown, IsUp, SitesStand, ahead_in, sent_by}}
 
 -- no node is beyond the second window of the frame
 pub record AreEarly (sc : Scenario) (at : Side → ℕ → ℕ) (sites : Each Site) (frame : ℕ) : Type 0 where

@@ -1,27 +1,10 @@
 -- For the law that events are rounds: what is handed in at a frame's start changes the ports of
 -- that moment, and up to the first data slot nothing else.
-use Rattle.std.proofs.Common.{◌≡◌, ℕ, zero, suc, ◌+◌, ◌-◌, ◌*◌, ◌<◌, ◌≤◌, ◌==◌, ◌&&◌, nat_le, nat_lt, Bool, true, false, List, [], ◌∷◌, ◌++◌, refl, ap, sym, ◌∙◌, subst, arith, inl, inr, Option, None, if◌then◌else◌}
-use Rattle.std.proofs.Math.Path.{fun_ext}
-use Rattle.std.proofs.lemmas.Bool.{cases_lt, lt-ltb, le-ltb}
-use Rattle.std.proofs.lemmas.Bool.Decides.{nat_tests}
-use Rattle.std.proofs.lemmas.Nat.{mul-le}
+use Rattle.std.proofs.{Common.{◌≡◌, ℕ, zero, suc, ◌+◌, ◌-◌, ◌*◌, ◌<◌, ◌≤◌, ◌==◌, ◌&&◌, nat_le, nat_lt, Bool, true, false, List, [], ◌∷◌, ◌++◌, refl, ap, sym, ◌∙◌, subst, arith, inl, inr, Option, None, if◌then◌else◌}, Math.Path.fun_ext, lemmas.Bool.{cases_lt, lt-ltb, le-ltb}, lemmas.Bool.Decides.nat_tests, lemmas.Nat.mul-le}
 use Rattle.rb_base.specs.Nodes.{Side}
-use Rattle.rb_rules.specs.declared.plan.Window.{Window}
-use Rattle.rb_rules.specs.Book.{Each, map_each}
-use Rattle.rb_rules.specs.ExactStage.{keep_sent}
-use Rattle.rb_rules.specs.Goodness.{Scenario, is_good}
-use Rattle.rb_rules.specs.Hearing.{Sending, sending, word_for}
-use Rattle.rb_rules.specs.NodeState.{NodeState}
-use Rattle.rb_rules.specs.Ports.{HandIn, PortState, hand_over, with_state}
-use Rattle.rb_rules.specs.Rounds.{Moment, Result, after_window, begin_frame, close_on, go_through, heard_at, moment, results_of, sending_in, sent_in, step, window_in, windows_in, word_for_window}
-use Rattle.rb_rules.specs.Slots.{role_of}
-use Rattle.rb_rules.proofs.Books.{stepped}
-use Rattle.rb_rules.proofs.HandIns.{moments-more}
-use Rattle.rb_rules.proofs.Slots.{schedule_role}
-use Rattle.rb_laws_events.proofs.CloseOrder.{IsFrameLater, IsWindowLater, frame-later, window-later}
-use Rattle.rb_laws_events.proofs.MomentBooks.{number-of}
-use Rattle.rb_laws_events.proofs.PortsKept.{ports-turned}
-use Rattle.rb_laws_events.proofs.RoundNodes.{slot-is, slot_numbered}
+use Rattle.rb_rules.specs.{declared.plan.Window.Window, Book.{Each, map_each}, ExactStage.keep_sent, Goodness.{Scenario, is_good}, Hearing.{Sending, sending, word_for}, NodeState.NodeState, Ports.{HandIn, PortState, hand_over, with_state}, Rounds.{Moment, Result, after_window, begin_frame, close_on, go_through, heard_at, moment, results_of, sending_in, sent_in, step, window_in, windows_in, word_for_window}, Slots.role_of}
+use Rattle.rb_rules.proofs.{Books.stepped, HandIns.moments-more, Slots.schedule_role}
+use Rattle.rb_laws_events.proofs.{CloseOrder.{IsFrameLater, IsWindowLater, frame-later, window-later}, MomentBooks.number-of, PortsKept.ports-turned, RoundNodes.{slot-is, slot_numbered}}
 
 -- In a schedule slot ports play no part.
 

@@ -3,25 +3,10 @@
 -- pending there of a source is what the source has sent in the rounds for that moment's window and
 -- for the next stage.
 use Rattle.std.proofs.Common.{◌≡◌, ℕ, suc, ◌+◌, ◌-◌, ◌^◌, ◌<◌, ◌≤◌, ◌==◌, ◌&&◌, ◌||◌, nat_lt, Bool, true, false, List, [], Option, Some, None, slice_get, option_map, option_to_list, if◌then◌else◌}
-use Rattle.rb_base.specs.Nodes.{Side, other}
-use Rattle.rb_base.specs.Sizes.{Sizes}
-use Rattle.rb_rules.specs.Book.{of_kind}
-use Rattle.rb_rules.specs.Clock.{time_of}
-use Rattle.rb_rules.specs.ExactStage.{at_source}
-use Rattle.rb_rules.specs.Goodness.{Scenario, is_good, clock_of}
-use Rattle.rb_rules.specs.Hearing.{Coming, Sending, Span, coming_of, said_by, span_of}
-use Rattle.rb_rules.specs.NodeState.{NodeState}
-use Rattle.rb_rules.specs.Ports.{HandIn}
-use Rattle.rb_rules.specs.Rounds.{Moment, window_in, word_for_window, sent_in, moment, windows_in}
-use Rattle.rb_rules.specs.WorldStep.{Timed, Site}
+use Rattle.rb_base.specs.{Nodes.{Side, other}, Sizes.Sizes}
+use Rattle.rb_rules.specs.{Book.of_kind, Clock.time_of, ExactStage.at_source, Goodness.{Scenario, is_good, clock_of}, Hearing.{Coming, Sending, Span, coming_of, said_by, span_of}, NodeState.NodeState, Ports.HandIn, Rounds.{Moment, window_in, word_for_window, sent_in, moment, windows_in}, WorldStep.{Timed, Site}}
 use Rattle.rb_laws_events.specs.Closing.{stages_in}
-use Rattle.rb_laws_events.proofs.NodeActs.{IsInWindow}
-use Rattle.rb_laws_events.proofs.NodeSends.{KeepsTime}
-use Rattle.rb_laws_events.proofs.Receiving.{Receives}
-use Rattle.rb_laws_events.proofs.RoundNodes.{slot_numbered}
-use Rattle.rb_laws_events.proofs.SameHeard.{Every}
-use Rattle.rb_laws_events.proofs.StageOrder.{last_of}
-use Rattle.rb_laws_events.proofs.TickWindows.{first_of}
+use Rattle.rb_laws_events.proofs.{NodeActs.IsInWindow, NodeSends.KeepsTime, Receiving.Receives, RoundNodes.slot_numbered, SameHeard.Every, StageOrder.last_of, TickWindows.first_of}
 
 -- Moments.
 

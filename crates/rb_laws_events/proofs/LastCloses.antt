@@ -1,39 +1,10 @@
 -- For the law that events are rounds if the premise on faults is broken in a sync slot: the last
 -- tick of a window at a node, with nothing known of what comes after. If all that was sent to the
 -- node has come, or if the node does not listen, it shows what the rounds tell of the window.
-use Rattle.std.proofs.Common.{◌≡◌, ℕ, ◌+◌, ◌^◌, ◌<◌, ◌≤◌, ◌==◌, ◌&&◌, ◌⊎◌, nat_le, Bool, true, false, List, [], map, ap, sym, ◌∙◌, subst, arith, Some, None}
-use Rattle.std.proofs.lemmas.Bool.{le-leb}
-use Rattle.std.proofs.lemmas.Bool.Decides.{nat_tests}
-use Rattle.rb_base.specs.Nodes.{Side, other}
-use Rattle.rb_base.specs.Sizes.{Sizes, sync_slot_of}
-use Rattle.rb_rules.specs.declared.closing.Closed.{Closed as Shown}
-use Rattle.rb_rules.specs.declared.plan.Plan.{Plan}
-use Rattle.rb_rules.specs.declared.plan.Window.{Window}
-use Rattle.rb_rules.specs.declared.role.Role.TheVariants.{Sync}
-use Rattle.rb_rules.specs.declared.sense.Sense.{Sense}
-use Rattle.rb_rules.specs.Clock.{Timeline, time_of}
-use Rattle.rb_rules.specs.Core.{Act, Core, of_source, pass_to}
-use Rattle.rb_rules.specs.ExactStage.{Outcome, close_exact}
-use Rattle.rb_rules.specs.Goodness.{Scenario, clock_of, is_good}
-use Rattle.rb_rules.specs.Hearing.{Coming, arrival_of, close_window, row_of, span_of}
-use Rattle.rb_rules.specs.NodeState.{NodeState}
-use Rattle.rb_rules.specs.NodeSteps.{expect_of}
-use Rattle.rb_rules.specs.Ports.{HandIn, PortState}
-use Rattle.rb_rules.specs.Rounds.{Moment, Result, close_on, go_through, heard_at, moment, sent_in, window_in}
-use Rattle.rb_rules.specs.Sense.{Arrival, sense_of}
-use Rattle.rb_rules.specs.Slots.{listens}
-use Rattle.rb_rules.specs.SyncStage.{close_sync}
-use Rattle.rb_rules.specs.WorldStep.{Site, Timed, coming_from, pass_and_tick}
-use Rattle.rb_laws_events.proofs.ClosingTicks.{HoldsHeard, closing_of, result-is, spoken}
-use Rattle.rb_laws_events.proofs.DeafCloses.{deaf-row, silent_row}
-use Rattle.rb_laws_events.proofs.Invariant.{NodeStands, ahead_so_far, entry_of, heard_so_far, is_good_at, last_tick, next_stage, word_at}
-use Rattle.rb_laws_events.proofs.NodeActs.{ActsClose, HasRoom, HasWord, IsInWindow, acts-close}
-use Rattle.rb_laws_events.proofs.NodeCloses.{all-here, heard-all}
-use Rattle.rb_laws_events.proofs.Receiving.{Receives}
-use Rattle.rb_laws_events.proofs.RoundNodes.{slot-is}
-use Rattle.rb_laws_events.proofs.SameHeard.{AllOf, Every}
-use Rattle.rb_laws_events.proofs.StageOrder.{last_of}
-use Rattle.rb_laws_events.proofs.TickWindows.{first_of}
+use Rattle.std.proofs.{Common.{◌≡◌, ℕ, ◌+◌, ◌^◌, ◌<◌, ◌≤◌, ◌==◌, ◌&&◌, ◌⊎◌, nat_le, Bool, true, false, List, [], map, ap, sym, ◌∙◌, subst, arith, Some, None}, lemmas.Bool.le-leb, lemmas.Bool.Decides.nat_tests}
+use Rattle.rb_base.specs.{Nodes.{Side, other}, Sizes.{Sizes, sync_slot_of}}
+use Rattle.rb_rules.specs.{declared.closing.Closed.Closed as Shown, declared.plan.Plan.Plan, declared.plan.Window.Window, declared.role.Role.TheVariants.Sync, declared.sense.Sense.Sense, Clock.{Timeline, time_of}, Core.{Act, Core, of_source, pass_to}, ExactStage.{Outcome, close_exact}, Goodness.{Scenario, clock_of, is_good}, Hearing.{Coming, arrival_of, close_window, row_of, span_of}, NodeState.NodeState, NodeSteps.expect_of, Ports.{HandIn, PortState}, Rounds.{Moment, Result, close_on, go_through, heard_at, moment, sent_in, window_in}, Sense.{Arrival, sense_of}, Slots.listens, SyncStage.close_sync, WorldStep.{Site, Timed, coming_from, pass_and_tick}}
+use Rattle.rb_laws_events.proofs.{ClosingTicks.{HoldsHeard, closing_of, result-is, spoken}, DeafCloses.{deaf-row, silent_row}, Invariant.{NodeStands, ahead_so_far, entry_of, heard_so_far, is_good_at, last_tick, next_stage, word_at}, NodeActs.{ActsClose, HasRoom, HasWord, IsInWindow, acts-close}, NodeCloses.{all-here, heard-all}, Receiving.Receives, RoundNodes.slot-is, SameHeard.{AllOf, Every}, StageOrder.last_of, TickWindows.first_of}
 
 -- what the tick shows is what the rounds tell of the window
 pub record ShowsRounds (sc : Scenario) (m : Moment) (me : Side) (i : ℕ) (st : NodeState) (s : Site) (k : ℕ) (x : Act) : Type 0 where

@@ -1,51 +1,13 @@
 -- For the law that events are rounds if the premise on faults is broken in a sync slot: a node that
 -- waits for its last tick of the last stage has told its row of it after that tick, and knows when
 -- its next frame begins.
-use Rattle.std.proofs.Common.{◌≡◌, ℕ, ◌+◌, ◌*◌, ◌<◌, ◌≤◌, ◌⊎◌, Bool, true, false, List, [], ◌∷◌, ◌++◌, refl, ap, sym, ◌∙◌, subst, arith, inl, Option, Some, None, option_map, lit<}
-use Rattle.std.proofs.lemmas.Bool.{true≢false}
-use Rattle.rb_base.specs.Nodes.{Side, other}
-use Rattle.rb_base.specs.Nodes.Side.{Biu, Rmu}
-use Rattle.rb_base.specs.Sizes.{sync_slot_of}
-use Rattle.rb_rules.specs.declared.closing.Closed.{Closed as Shown}
-use Rattle.rb_rules.specs.declared.plan.Window.{Window}
-use Rattle.rb_rules.specs.declared.record.Epoch.{Epoch}
-use Rattle.rb_rules.specs.declared.role.Role.TheVariants.{Sync}
-use Rattle.rb_rules.specs.Core.{Act, Core, of_source}
-use Rattle.rb_rules.specs.Goodness.{Scenario, is_good}
-use Rattle.rb_rules.specs.Hearing.{Coming, Span}
-use Rattle.rb_rules.specs.Lawful.{IsLawful}
-use Rattle.rb_rules.specs.Moments.{IsRunning}
-use Rattle.rb_rules.specs.NodeState.{NodeState}
-use Rattle.rb_rules.specs.Plan.{tail_start_of}
-use Rattle.rb_rules.specs.Ports.{HandIn, PortState}
-use Rattle.rb_rules.specs.Rounds.{Moment, moment, window_in, word_for_window}
-use Rattle.rb_rules.specs.Slots.{listens}
-use Rattle.rb_rules.specs.SyncStage.{new_epoch_of}
-use Rattle.rb_rules.specs.WorldStep.{Site, Timed, after_act, await, enter, pass_and_tick, proceed, says_in, span_from, stop, with_close, with_epoch}
-use Rattle.rb_laws_agreement.proofs.Invariant.{IsGoodNode}
-use Rattle.rb_laws_agreement.proofs.NodeWindows.{sync_windows_are}
-use Rattle.rb_laws_agreement.proofs.Settings.{after}
+use Rattle.std.proofs.{Common.{◌≡◌, ℕ, ◌+◌, ◌*◌, ◌<◌, ◌≤◌, ◌⊎◌, Bool, true, false, List, [], ◌∷◌, ◌++◌, refl, ap, sym, ◌∙◌, subst, arith, inl, Option, Some, None, option_map, lit<}, lemmas.Bool.true≢false}
+use Rattle.rb_base.specs.{Nodes.{Side, other}, Nodes.Side.{Biu, Rmu}, Sizes.sync_slot_of}
+use Rattle.rb_rules.specs.{declared.closing.Closed.Closed as Shown, declared.plan.Window.Window, declared.record.Epoch.Epoch, declared.role.Role.TheVariants.Sync, Core.{Act, Core, of_source}, Goodness.{Scenario, is_good}, Hearing.{Coming, Span}, Lawful.IsLawful, Moments.IsRunning, NodeState.NodeState, Plan.tail_start_of, Ports.{HandIn, PortState}, Rounds.{Moment, moment, window_in, word_for_window}, Slots.listens, SyncStage.new_epoch_of, WorldStep.{Site, Timed, after_act, await, enter, pass_and_tick, proceed, says_in, span_from, stop, with_close, with_epoch}}
+use Rattle.rb_laws_agreement.proofs.{Invariant.IsGoodNode, NodeWindows.sync_windows_are, Settings.after}
 use Rattle.rb_laws_synchrony.proofs.Synchrony.{IsSynchronous, synchrony}
 use Rattle.rb_laws_events.specs.Closing.{stages_in}
-use Rattle.rb_laws_events.proofs.BreachEpochs.{rmu-middle}
-use Rattle.rb_laws_events.proofs.BreachMiddles.{next-after}
-use Rattle.rb_laws_events.proofs.BreakEnters.{hearing-closes}
-use Rattle.rb_laws_events.proofs.BreakSites.{HasClosed, WaitsDeaf}
-use Rattle.rb_laws_events.proofs.ClosingTicks.{closing_of, spoken}
-use Rattle.rb_laws_events.proofs.DeafEnds.{deaf-closes}
-use Rattle.rb_laws_events.proofs.FrameTimes.{good-node}
-use Rattle.rb_laws_events.proofs.Invariant.{entry_of, is_good_at, last_tick, word_at}
-use Rattle.rb_laws_events.proofs.LastCloses.{ShowsRounds, shows-deaf, shows-heard}
-use Rattle.rb_laws_events.proofs.LastSites.{AwaitsNext, HasToldLast, WaitsAhead}
-use Rattle.rb_laws_events.proofs.LastTicks.{LeavesNext, acts-next, waits-next}
-use Rattle.rb_laws_events.proofs.NodeActs.{HasRoom, HasWord}
-use Rattle.rb_laws_events.proofs.NodeSends.{KeepsTime}
-use Rattle.rb_laws_events.proofs.NodeTicks.{like-kept, tail-first}
-use Rattle.rb_laws_events.proofs.PastTicks.{IsPast}
-use Rattle.rb_laws_events.proofs.SameHeard.{Every}
-use Rattle.rb_laws_events.proofs.StageOrder.{last_of, last-third-call}
-use Rattle.rb_laws_events.proofs.TailTicks.{IsInTail, closed-same, same-epoch}
-use Rattle.rb_laws_events.proofs.TickWindows.{first_of}
+use Rattle.rb_laws_events.proofs.{BreachEpochs.rmu-middle, BreachMiddles.next-after, BreakEnters.hearing-closes, BreakSites.{HasClosed, WaitsDeaf}, ClosingTicks.{closing_of, spoken}, DeafEnds.deaf-closes, FrameTimes.good-node, Invariant.{entry_of, is_good_at, last_tick, word_at}, LastCloses.{ShowsRounds, shows-deaf, shows-heard}, LastSites.{AwaitsNext, HasToldLast, WaitsAhead}, LastTicks.{LeavesNext, acts-next, waits-next}, NodeActs.{HasRoom, HasWord}, NodeSends.KeepsTime, NodeTicks.{like-kept, tail-first}, PastTicks.IsPast, SameHeard.Every, StageOrder.{last_of, last-third-call}, TailTicks.{IsInTail, closed-same, same-epoch}, TickWindows.first_of}
 
 pub third-stage : (sc : Scenario) (m : Moment) → m.window ≡ 3 * sync_slot_of sc.sizes + 2 → (me : Side) (st : NodeState) → (window_in sc m me st).stage ≡ 3
 third-stage sc m at me st = ap (λ (w : Window). w.stage) ((sync_windows_are sc m 2 (lit< tt) at).are me st)

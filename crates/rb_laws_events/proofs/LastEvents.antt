@@ -2,58 +2,14 @@
 -- of a node of a world in which the run breaks off with the last stage of the sync slot. After it
 -- the node has told its row, and what it says comes to those that listen in the stage after their
 -- last tick of it.
-use Rattle.std.proofs.Common.{◌≡◌, ℕ, ◌+◌, ◌*◌, ◌-◌, ◌<◌, ◌≤◌, ◌==◌, Bool, true, false, List, refl, ap, sym, ◌∙◌, subst, arith, inl, inr, Option, Some, None, slice_get, lit<}
-use Rattle.std.proofs.lemmas.Bool.{cases_lt, true≢false}
-use Rattle.std.proofs.lemmas.Bool.Decides.{nat_tests}
-use Rattle.std.proofs.lemmas.Option.{same_Some}
-use Rattle.rb_base.specs.Nodes.{Side, other}
-use Rattle.rb_base.specs.Nodes.Side.{Biu, Rmu}
-use Rattle.rb_base.specs.Sizes.{sync_slot_of}
-use Rattle.rb_base.specs.declared.values.Place.{Place}
+use Rattle.std.proofs.{Common.{◌≡◌, ℕ, ◌+◌, ◌*◌, ◌-◌, ◌<◌, ◌≤◌, ◌==◌, Bool, true, false, List, refl, ap, sym, ◌∙◌, subst, arith, inl, inr, Option, Some, None, slice_get, lit<}, lemmas.Bool.{cases_lt, true≢false}, lemmas.Bool.Decides.nat_tests, lemmas.Option.same_Some}
+use Rattle.rb_base.specs.{Nodes.{Side, other}, Nodes.Side.{Biu, Rmu}, Sizes.sync_slot_of, declared.values.Place.Place}
 use Rattle.rb_base.proofs.Plain.{none_and_some}
-use Rattle.rb_rules.specs.declared.message.Message.{Message}
-use Rattle.rb_rules.specs.declared.plan.Window.{Window}
-use Rattle.rb_rules.specs.declared.role.Role.TheVariants.{Sync}
-use Rattle.rb_rules.specs.Book.{of_kind}
-use Rattle.rb_rules.specs.Clock.{time_of}
-use Rattle.rb_rules.specs.Core.{if_at}
-use Rattle.rb_rules.specs.Goodness.{Scenario, clock_of, is_good}
-use Rattle.rb_rules.specs.Hearing.{Sending, coming_of}
-use Rattle.rb_rules.specs.Lawful.{IsLawful}
-use Rattle.rb_rules.specs.Links.{delay_of, name_of}
-use Rattle.rb_rules.specs.Moments.{IsRunning}
-use Rattle.rb_rules.specs.NodeState.{NodeState}
-use Rattle.rb_rules.specs.Plan.{tail_start_of}
-use Rattle.rb_rules.specs.Ports.{HandIn, PortState}
-use Rattle.rb_rules.specs.Rounds.{Moment, IsGoodIn, moment, window_in}
-use Rattle.rb_rules.specs.Slots.{listens, same_side}
-use Rattle.rb_rules.specs.SyncStage.{new_epoch_of}
-use Rattle.rb_rules.specs.WorldStep.{Site, Timed, after_act, pass_and_tick}
+use Rattle.rb_rules.specs.{declared.message.Message.Message, declared.plan.Window.Window, declared.role.Role.TheVariants.Sync, Book.of_kind, Clock.time_of, Core.if_at, Goodness.{Scenario, clock_of, is_good}, Hearing.{Sending, coming_of}, Lawful.IsLawful, Links.{delay_of, name_of}, Moments.IsRunning, NodeState.NodeState, Plan.tail_start_of, Ports.{HandIn, PortState}, Rounds.{Moment, IsGoodIn, moment, window_in}, Slots.{listens, same_side}, SyncStage.new_epoch_of, WorldStep.{Site, Timed, after_act, pass_and_tick}}
 use Rattle.rb_rules.proofs.Drift.{times_rise_to}
-use Rattle.rb_laws_agreement.proofs.NodeWindows.{Windows, sync_windows_are}
-use Rattle.rb_laws_synchrony.proofs.NextMessages.{next_message}
-use Rattle.rb_laws_synchrony.proofs.Synchrony.{IsSynchronous, synchrony}
-use Rattle.rb_laws_synchrony.proofs.TakenCalls.{IsStage, is_set}
-use Rattle.rb_laws_agreement.proofs.FrameTimes.{good-clock}
-use Rattle.rb_laws_events.proofs.BreakEnters.{sent-then}
-use Rattle.rb_laws_events.proofs.BreakEvents.{TickBreaks}
-use Rattle.rb_laws_events.proofs.BreakSites.{WaitsDeaf}
-use Rattle.rb_laws_events.proofs.CloseOrder.{shortest-some, times-apart}
-use Rattle.rb_laws_events.proofs.FrameTimes.{BegunWell, begun-well, good-node}
-use Rattle.rb_laws_events.proofs.Invariant.{is_good_at, last_tick, word_at}
-use Rattle.rb_laws_events.proofs.LastCloses.{shows-deaf}
-use Rattle.rb_laws_events.proofs.LastEnds.{deaf-last, hearing-last, third-stage}
-use Rattle.rb_laws_events.proofs.LastSites.{HasToldLast, SiteLast, WaitsAhead}
-use Rattle.rb_laws_events.proofs.LastTicks.{told-goes, told-ticks}
-use Rattle.rb_laws_events.proofs.NodeActs.{HasRoom}
-use Rattle.rb_laws_events.proofs.NodeSends.{sending_at}
-use Rattle.rb_laws_events.proofs.PlanNumbers.{fits}
-use Rattle.rb_laws_events.proofs.ReceiverHears.{way-least}
-use Rattle.rb_laws_events.proofs.RoundNodes.{slot-is}
-use Rattle.rb_laws_events.proofs.SameHeard.{Every}
-use Rattle.rb_laws_events.proofs.SentChanges.{sending-of-is}
-use Rattle.rb_laws_events.proofs.StageOrder.{Apart, apart-turn, last_of, last-same}
-use Rattle.rb_laws_events.proofs.TailTicks.{none-some}
+use Rattle.rb_laws_agreement.proofs.{NodeWindows.{Windows, sync_windows_are}, FrameTimes.good-clock}
+use Rattle.rb_laws_synchrony.proofs.{NextMessages.next_message, Synchrony.{IsSynchronous, synchrony}, TakenCalls.{IsStage, is_set}}
+use Rattle.rb_laws_events.proofs.{BreakEnters.sent-then, BreakEvents.TickBreaks, BreakSites.WaitsDeaf, CloseOrder.{shortest-some, times-apart}, FrameTimes.{BegunWell, begun-well, good-node}, Invariant.{is_good_at, last_tick, word_at}, LastCloses.shows-deaf, LastEnds.{deaf-last, hearing-last, third-stage}, LastSites.{HasToldLast, SiteLast, WaitsAhead}, LastTicks.{told-goes, told-ticks}, NodeActs.HasRoom, NodeSends.sending_at, PlanNumbers.fits, ReceiverHears.way-least, RoundNodes.slot-is, SameHeard.Every, SentChanges.sending-of-is, StageOrder.{Apart, apart-turn, last_of, last-same}, TailTicks.none-some}
 
 -- Times.
 

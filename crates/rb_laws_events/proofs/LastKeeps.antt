@@ -1,24 +1,10 @@
 -- For the law that events are rounds: the nodes of a world in which the run breaks off with the
 -- last stage of the sync slot keep what is asked of them.
-use Rattle.std.proofs.Common.{◌≡◌, ℕ, ◌+◌, ◌*◌, ◌≤◌, ◌⊎◌, Bool, true, false, List, ap, sym, ◌∙◌, subst, inl, inr, Some}
-use Rattle.std.proofs.lemmas.Option.{same_Some}
-use Rattle.rb_base.specs.Nodes.{Side}
-use Rattle.rb_base.specs.Sizes.{sync_slot_of}
+use Rattle.std.proofs.{Common.{◌≡◌, ℕ, ◌+◌, ◌*◌, ◌≤◌, ◌⊎◌, Bool, true, false, List, ap, sym, ◌∙◌, subst, inl, inr, Some}, lemmas.Option.same_Some}
+use Rattle.rb_base.specs.{Nodes.Side, Sizes.sync_slot_of}
 use Rattle.rb_base.proofs.Plain.{none_and_some}
-use Rattle.rb_rules.specs.Book.{Each}
-use Rattle.rb_rules.specs.Clock.{time_of}
-use Rattle.rb_rules.specs.Goodness.{Scenario, clock_of}
-use Rattle.rb_rules.specs.Lawful.{IsLawful}
-use Rattle.rb_rules.specs.Ports.{HandIn}
-use Rattle.rb_rules.specs.Rounds.{moment}
-use Rattle.rb_rules.specs.WorldStep.{Site, Timed}
-use Rattle.rb_laws_events.proofs.BreakNodes.{KeepsNodes, TellsStage, WaitsLast}
-use Rattle.rb_laws_events.proofs.BreakMessages.{HasStopped}
-use Rattle.rb_laws_events.proofs.Invariant.{is_good_at}
-use Rattle.rb_laws_events.proofs.LastEvents.{last-ticks}
-use Rattle.rb_laws_events.proofs.LastSites.{HasToldLast, SiteLast}
-use Rattle.rb_laws_events.proofs.LastWorld.{SitesLast, last-arrival, last-begins, last-row, last-tick}
-use Rattle.rb_laws_events.proofs.NodeActs.{HasRoom}
+use Rattle.rb_rules.specs.{Book.Each, Clock.time_of, Goodness.{Scenario, clock_of}, Lawful.IsLawful, Ports.HandIn, Rounds.moment, WorldStep.{Site, Timed}}
+use Rattle.rb_laws_events.proofs.{BreakNodes.{KeepsNodes, TellsStage, WaitsLast}, BreakMessages.HasStopped, Invariant.is_good_at, LastEvents.last-ticks, LastSites.{HasToldLast, SiteLast}, LastWorld.{SitesLast, last-arrival, last-begins, last-row, last-tick}, NodeActs.HasRoom}
 
 last-tells : (sc : Scenario) (hands : List HandIn) → IsLawful sc → (p : ℕ) → (moment sc hands p).window ≡ 3 * sync_slot_of sc.sizes + 2 → (me : Side) (i : ℕ) (s : Site)
     → HasToldLast sc hands me i p s → TellsStage sc hands p me i s

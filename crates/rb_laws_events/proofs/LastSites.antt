@@ -4,33 +4,10 @@
 -- others after their last tick of the stage. An arrival and a message keep each node.
 use Rattle.std.proofs.Common.{◌≡◌, ℕ, zero, suc, ◌+◌, ◌^◌, ◌<◌, ◌≤◌, ◌&&◌, ◌⊎◌, Bool, true, false, List, [], ◌∷◌, ◌++◌, append_assoc, refl, ap, sym, ◌∙◌, subst, arith, inl, inr, Option, Some, None, slice_get, remove}
 use Rattle.rb_base.specs.Nodes.{Side, other}
-use Rattle.rb_rules.specs.declared.message.Message.{Message}
-use Rattle.rb_rules.specs.declared.role.Role.TheVariants.{Sync}
-use Rattle.rb_rules.specs.Book.{Row, of_kind}
-use Rattle.rb_rules.specs.Clock.{stamp_of, time_of}
-use Rattle.rb_rules.specs.Core.{Core, arrive, pass_to}
-use Rattle.rb_rules.specs.Goodness.{Scenario, clock_of}
-use Rattle.rb_rules.specs.Hearing.{Coming, coming_of}
-use Rattle.rb_rules.specs.NodeState.{NodeState}
-use Rattle.rb_rules.specs.Plan.{tail_start_of}
-use Rattle.rb_rules.specs.Ports.{HandIn}
-use Rattle.rb_rules.specs.Rounds.{go_through, moment, sent_in, window_in}
-use Rattle.rb_rules.specs.Slots.{listens, same_side}
-use Rattle.rb_rules.specs.SyncStage.{new_epoch_of}
-use Rattle.rb_rules.specs.WorldStep.{Site, Timed, after_arrival}
-use Rattle.rb_rules.proofs.QuietTicks.{arrive-same}
-use Rattle.rb_rules.proofs.Stamps.{Moves}
+use Rattle.rb_rules.specs.{declared.message.Message.Message, declared.role.Role.TheVariants.Sync, Book.{Row, of_kind}, Clock.{stamp_of, time_of}, Core.{Core, arrive, pass_to}, Goodness.{Scenario, clock_of}, Hearing.{Coming, coming_of}, NodeState.NodeState, Plan.tail_start_of, Ports.HandIn, Rounds.{go_through, moment, sent_in, window_in}, Slots.{listens, same_side}, SyncStage.new_epoch_of, WorldStep.{Site, Timed, after_arrival}}
+use Rattle.rb_rules.proofs.{QuietTicks.arrive-same, Stamps.Moves}
 use Rattle.rb_laws_synchrony.proofs.Times.{stamp_to}
-use Rattle.rb_laws_events.proofs.BreakMessages.{HasStopped}
-use Rattle.rb_laws_events.proofs.BreakSites.{WaitsDeaf, WaitsHearing, deaf-arrives}
-use Rattle.rb_laws_events.proofs.Invariant.{is_good_at}
-use Rattle.rb_laws_events.proofs.NodeEvents.{stands-arrival}
-use Rattle.rb_laws_events.proofs.PendingLists.{StandsAt, each-append}
-use Rattle.rb_laws_events.proofs.Receiving.{ArrivesNow, every-stands}
-use Rattle.rb_laws_events.proofs.SameHeard.{Every}
-use Rattle.rb_laws_events.proofs.TailTicks.{IsAfter}
-use Rattle.rb_laws_events.proofs.TurnTicks.{after-later}
-use Rattle.rb_laws_events.proofs.WorldTicks.{reached}
+use Rattle.rb_laws_events.proofs.{BreakMessages.HasStopped, BreakSites.{WaitsDeaf, WaitsHearing, deaf-arrives}, Invariant.is_good_at, NodeEvents.stands-arrival, PendingLists.{StandsAt, each-append}, Receiving.{ArrivesNow, every-stands}, SameHeard.Every, TailTicks.IsAfter, TurnTicks.after-later, WorldTicks.reached}
 
 -- Nodes.
 

@@ -2,25 +2,9 @@
 -- node that has told its row of the last stage of the sync slot, and the tick with which a node
 -- tells it.
 use Rattle.std.proofs.Common.{◌≡◌, ℕ, zero, suc, ◌+◌, ◌-◌, ◌^◌, ◌<◌, ◌≤◌, ◌==◌, ◌⊎◌, Bool, true, false, List, [], refl, ap, sym, ◌∙◌, subst, arith, Option, Some, None, option_map}
-use Rattle.rb_base.specs.Nodes.{Side}
-use Rattle.rb_base.specs.Sizes.{Sizes}
-use Rattle.rb_rules.specs.declared.closing.Closed.{Closed as Shown}
-use Rattle.rb_rules.specs.declared.plan.Plan.{Plan}
-use Rattle.rb_rules.specs.declared.record.Epoch.{Epoch}
-use Rattle.rb_rules.specs.Book.{Row}
-use Rattle.rb_rules.specs.Clock.{time_of}
-use Rattle.rb_rules.specs.Core.{Act, Core, busy_among, is_busy, next_tick, pass_to}
-use Rattle.rb_rules.specs.Goodness.{Scenario, clock_of, is_good}
-use Rattle.rb_rules.specs.Hearing.{Coming, Span, row_of}
-use Rattle.rb_rules.specs.NodeState.{NodeState}
-use Rattle.rb_rules.specs.Ports.{HandIn, PortState}
-use Rattle.rb_rules.specs.WorldStep.{Site, Timed, after_act, await, coming_from, enter, pass_and_tick, proceed, says_in, span_from, stop, wants_in, with_close, with_epoch, word_of}
-use Rattle.rb_laws_events.proofs.BreakSites.{acted}
-use Rattle.rb_laws_events.proofs.LastSites.{AwaitsNext, HasToldLast}
-use Rattle.rb_laws_events.proofs.NodeActs.{HasRoom}
-use Rattle.rb_laws_events.proofs.TailTicks.{GoesOn, HasTurned, IsAfter, IsInTail}
-use Rattle.rb_laws_events.proofs.Takes.{busy-later}
-use Rattle.rb_laws_events.proofs.TurnTicks.{after-later, awaits-next, next-tick}
+use Rattle.rb_base.specs.{Nodes.Side, Sizes.Sizes}
+use Rattle.rb_rules.specs.{declared.closing.Closed.Closed as Shown, declared.plan.Plan.Plan, declared.record.Epoch.Epoch, Book.Row, Clock.time_of, Core.{Act, Core, busy_among, is_busy, next_tick, pass_to}, Goodness.{Scenario, clock_of, is_good}, Hearing.{Coming, Span, row_of}, NodeState.NodeState, Ports.{HandIn, PortState}, WorldStep.{Site, Timed, after_act, await, coming_from, enter, pass_and_tick, proceed, says_in, span_from, stop, wants_in, with_close, with_epoch, word_of}}
+use Rattle.rb_laws_events.proofs.{BreakSites.acted, LastSites.{AwaitsNext, HasToldLast}, NodeActs.HasRoom, TailTicks.{GoesOn, HasTurned, IsAfter, IsInTail}, Takes.busy-later, TurnTicks.{after-later, awaits-next, next-tick}}
 
 -- What pends after a tick.
 

@@ -2,38 +2,12 @@
 -- keeps all nodes of a world in which the run breaks off with the last stage of the sync slot: they
 -- wait for its last tick, or have told their rows.
 use Rattle.std.proofs.Common.{◌≡◌, ℕ, ◌+◌, ◌*◌, ◌<◌, ◌≤◌, ◌⊎◌, Bool, true, false, List, [], append-nil, refl, sym, ◌∙◌, subst, arith, inl, inr, Option, Some, None, slice_get, lit<}
-use Rattle.rb_base.specs.Nodes.{Side}
-use Rattle.rb_base.specs.Sizes.{sync_slot_of}
-use Rattle.rb_rules.specs.declared.message.Message.{Message}
-use Rattle.rb_rules.specs.Book.{Each, of_kind}
-use Rattle.rb_rules.specs.Core.{Act}
-use Rattle.rb_rules.specs.Goodness.{Scenario, clock_of}
-use Rattle.rb_rules.specs.Hearing.{Coming}
-use Rattle.rb_rules.specs.Lawful.{IsLawful}
-use Rattle.rb_rules.specs.Moments.{IsRunning}
-use Rattle.rb_rules.specs.Ports.{HandIn, PortState}
-use Rattle.rb_rules.specs.Rounds.{Moment, moment, window_in}
-use Rattle.rb_rules.specs.WorldStep.{Site, Timed, after_act, after_arrival, at_node, pass_and_tick, with_message}
+use Rattle.rb_base.specs.{Nodes.Side, Sizes.sync_slot_of}
+use Rattle.rb_rules.specs.{declared.message.Message.Message, Book.{Each, of_kind}, Core.Act, Goodness.{Scenario, clock_of}, Hearing.Coming, Lawful.IsLawful, Moments.IsRunning, Ports.{HandIn, PortState}, Rounds.{Moment, moment, window_in}, WorldStep.{Site, Timed, after_act, after_arrival, at_node, pass_and_tick, with_message}}
 use Rattle.rb_rules.proofs.Stamps.{Moves}
 use Rattle.rb_laws_agreement.proofs.ExactAgrees.{has_ticks}
 use Rattle.rb_laws_events.specs.Closing.{stages_in}
-use Rattle.rb_laws_events.proofs.BreakBegins.{FirstCloses}
-use Rattle.rb_laws_events.proofs.BreakEnters.{waits-then}
-use Rattle.rb_laws_events.proofs.BreakEvents.{TickBreaks}
-use Rattle.rb_laws_events.proofs.BreakSites.{WaitsDeaf, WaitsHearing}
-use Rattle.rb_laws_events.proofs.Invariant.{is_good_at}
-use Rattle.rb_laws_events.proofs.LastEvents.{last-ticks, ticks-late}
-use Rattle.rb_laws_events.proofs.LastSites.{HasToldLast, SiteLast, WaitsAhead, message-comes, site-comes}
-use Rattle.rb_laws_events.proofs.MomentBooks.{place_at}
-use Rattle.rb_laws_events.proofs.NodeActs.{HasRoom}
-use Rattle.rb_laws_events.proofs.NodeEvents.{tick-after}
-use Rattle.rb_laws_events.proofs.PendingLists.{StandsAt}
-use Rattle.rb_laws_events.proofs.Receiving.{ArrivesNow}
-use Rattle.rb_laws_events.proofs.RoundNodes.{moments-stand}
-use Rattle.rb_laws_events.proofs.Settling.{RowOfRounds}
-use Rattle.rb_laws_events.proofs.Telling.{place-is, row-place}
-use Rattle.rb_laws_events.proofs.ToldInOrder.{one-changes}
-use Rattle.rb_laws_events.proofs.WorldStands.{AllPend, IsDown, IsUp, sent_by}
+use Rattle.rb_laws_events.proofs.{BreakBegins.FirstCloses, BreakEnters.waits-then, BreakEvents.TickBreaks, BreakSites.{WaitsDeaf, WaitsHearing}, Invariant.is_good_at, LastEvents.{last-ticks, ticks-late}, LastSites.{HasToldLast, SiteLast, WaitsAhead, message-comes, site-comes}, MomentBooks.place_at, NodeActs.HasRoom, NodeEvents.tick-after, PendingLists.StandsAt, Receiving.ArrivesNow, RoundNodes.moments-stand, Settling.RowOfRounds, Telling.{place-is, row-place}, ToldInOrder.one-changes, WorldStands.{AllPend, IsDown, IsUp, sent_by}}
 
 abbrev pub SitesLast : Scenario → List HandIn → (Side → ℕ → ℕ → Bool) → ℕ → Each Site → Type 0
 SitesLast sc hands sent p sites = (side : Side) (j : ℕ) (z : Site) → slice_get (of_kind side sites) j ≡ Some z → SiteLast sc hands sent p side j z

@@ -1,32 +1,12 @@
 -- For the law that events are rounds: the number of a moment, and what its book settles next.
-use Rattle.std.proofs.Common.{◌≡◌, ℕ, zero, suc, ◌+◌, ◌*◌, ◌-◌, ◌%◌, ◌<◌, ◌≤◌, ◌==◌, nat_lt, Bool, true, false, refl, ap, sym, ◌∙◌, subst, arith, inl, inr, List, [], ◌∷◌, ◌++◌, Option, Some, None, slice_get, if◌then◌else◌}
-use Rattle.std.proofs.lemmas.Bool.{cases_lt, lt-ltb, le-ltb}
-use Rattle.std.proofs.lemmas.Bool.Decides.{nat_tests}
-use Rattle.std.proofs.lemmas.Option.{slice_get_past}
-use Rattle.rb_base.specs.Sizes.{Sizes, sync_slot_of}
-use Rattle.rb_base.specs.declared.values.Place.{Place}
-use Rattle.rb_rules.specs.declared.cause.Cause.{Cause}
-use Rattle.rb_rules.specs.declared.plan.Plan.{Plan}
-use Rattle.rb_rules.specs.declared.plan.Window.{Window}
-use Rattle.rb_base.specs.Nodes.{Side}
-use Rattle.rb_base.specs.Nodes.Side.{Biu}
+use Rattle.std.proofs.{Common.{◌≡◌, ℕ, zero, suc, ◌+◌, ◌*◌, ◌-◌, ◌%◌, ◌<◌, ◌≤◌, ◌==◌, nat_lt, Bool, true, false, refl, ap, sym, ◌∙◌, subst, arith, inl, inr, List, [], ◌∷◌, ◌++◌, Option, Some, None, slice_get, if◌then◌else◌}, lemmas.Bool.{cases_lt, lt-ltb, le-ltb}, lemmas.Bool.Decides.nat_tests, lemmas.Option.slice_get_past}
+use Rattle.rb_base.specs.{Sizes.{Sizes, sync_slot_of}, declared.values.Place.Place, Nodes.Side, Nodes.Side.Biu}
+use Rattle.rb_rules.specs.{declared.cause.Cause.Cause, declared.plan.Plan.Plan, declared.plan.Window.Window, Book.{Begun, Book, Each, Milestone, Row, after_stage, after_verdict, fresh_book, frame_records, judged_of, with_frame, with_stage}, Book.Milestone.{Begin, Stage, End}, Goodness.Scenario, Judging.{JudgedStage, verdict_of}, NodeState.{NodeState, first_state}, Ports.HandIn, Rounds.{Moment, after_window, begin_frame, book_after, moment, step, windows_in}, Windows.windows_of_frame, Hearing.window_numbered}
 use Rattle.rb_base.proofs.Plain.{true-false}
-use Rattle.rb_rules.specs.Book.{Begun, Book, Each, Milestone, Row, after_stage, after_verdict, fresh_book, frame_records, judged_of, with_frame, with_stage}
-use Rattle.rb_rules.specs.Book.Milestone.{Begin, Stage, End}
-use Rattle.rb_rules.specs.Goodness.{Scenario}
-use Rattle.rb_rules.specs.Judging.{JudgedStage, verdict_of}
-use Rattle.rb_rules.specs.NodeState.{NodeState, first_state}
-use Rattle.rb_rules.specs.Ports.{HandIn}
-use Rattle.rb_rules.specs.Rounds.{Moment, after_window, begin_frame, book_after, moment, step, windows_in}
-use Rattle.rb_rules.specs.Windows.{windows_of_frame}
-use Rattle.rb_rules.proofs.Books.{stepped}
-use Rattle.rb_rules.proofs.WindowNumbers.{exact-numbered, sync-numbered}
-use Rattle.rb_rules.specs.Hearing.{window_numbered}
+use Rattle.rb_rules.proofs.{Books.stepped, WindowNumbers.{exact-numbered, sync-numbered}}
 use Rattle.rb_laws_agreement.proofs.Agreement.{ended-end}
 use Rattle.rb_laws_events.specs.Closing.{stages_in}
-use Rattle.rb_laws_events.proofs.CloseOrder.{IsFrameLater, IsWindowLater, frame-later, window-later}
-use Rattle.rb_laws_events.proofs.RoundNodes.{slot-is, slot_numbered}
-use Rattle.rb_laws_events.proofs.TickWindows.{get-window, how-many}
+use Rattle.rb_laws_events.proofs.{CloseOrder.{IsFrameLater, IsWindowLater, frame-later, window-later}, RoundNodes.{slot-is, slot_numbered}, TickWindows.{get-window, how-many}}
 
 -- Numbers.
 

@@ -1,21 +1,12 @@
 -- For the law that events are rounds: moments in their order: who is good in an earlier one, and
 -- what lies between a window and the next stage.
-use Rattle.std.proofs.Common.{◌≡◌, ℕ, zero, suc, ◌+◌, ◌-◌, ◌/◌, ◌<◌, ◌≤◌, true, List, length, ap, sym, ◌∙◌, subst, arith, inl, inr, Some, slice_get, if◌then◌else◌}
-use Rattle.std.proofs.lemmas.Bool.{cases_lt, lt-ltb, le-ltb}
-use Rattle.rb_base.specs.Nodes.{Side}
-use Rattle.rb_base.specs.Sizes.{Sizes}
-use Rattle.rb_rules.specs.Book.{of_kind}
-use Rattle.rb_rules.specs.Goodness.{Scenario, is_good}
-use Rattle.rb_rules.specs.NodeState.{NodeState}
-use Rattle.rb_rules.specs.Ports.{HandIn}
-use Rattle.rb_rules.specs.Rounds.{Moment, moment, windows_in}
-use Rattle.rb_rules.specs.Slots.{count_of}
+use Rattle.std.proofs.{Common.{◌≡◌, ℕ, zero, suc, ◌+◌, ◌-◌, ◌/◌, ◌<◌, ◌≤◌, true, List, length, ap, sym, ◌∙◌, subst, arith, inl, inr, Some, slice_get, if◌then◌else◌}, lemmas.Bool.{cases_lt, lt-ltb, le-ltb}}
+use Rattle.rb_base.specs.{Nodes.Side, Sizes.Sizes}
+use Rattle.rb_rules.specs.{Book.of_kind, Goodness.{Scenario, is_good}, NodeState.NodeState, Ports.HandIn, Rounds.{Moment, moment, windows_in}, Slots.count_of}
 use Rattle.rb_rules.proofs.RoundStates.{HasTicks}
 use Rattle.rb_laws_agreement.proofs.Goodnesses.{good_before, good_counts, good_earlier}
 use Rattle.rb_laws_events.specs.Closing.{stages_in}
-use Rattle.rb_laws_events.proofs.CloseOrder.{IsFrameLater, IsWindowLater, frame-later, window-later}
-use Rattle.rb_laws_events.proofs.Invariant.{is_good_at, next_stage}
-use Rattle.rb_laws_events.proofs.RoundNodes.{AllStand, item-at, moments-stand, slot_numbered}
+use Rattle.rb_laws_events.proofs.{CloseOrder.{IsFrameLater, IsWindowLater, frame-later, window-later}, Invariant.{is_good_at, next_stage}, RoundNodes.{AllStand, item-at, moments-stand, slot_numbered}}
 
 -- Who is good.
 

@@ -1,32 +1,11 @@
 -- For the law that events are rounds: the act of a core at a tick of a window, and its next busy
 -- tick.
-use Rattle.std.proofs.Common.{◌≡◌, ℕ, ◌+◌, ◌^◌, ◌<◌, ◌≤◌, ◌==◌, nat_lt, Bool, true, false, refl, ap, sym, ◌∙◌, subst, arith, List, [], Option, Some, None}
-use Rattle.std.proofs.lemmas.Bool.Decides.{nat_tests}
-use Rattle.rb_base.specs.Nodes.{Side}
-use Rattle.rb_base.specs.Sizes.{Sizes, sync_slot_of}
-use Rattle.rb_rules.specs.declared.message.Message.{Message}
-use Rattle.rb_rules.specs.declared.plan.Plan.{Plan}
-use Rattle.rb_rules.specs.declared.plan.Window.{Window}
-use Rattle.rb_rules.specs.declared.record.Epoch.{Epoch}
-use Rattle.rb_rules.specs.Core.{Core, Act, if_at, is_last, is_tick, of_source, said_at, state_at, state_kept, tick, wants, window_here, act_at, act_on, epoch_at}
-use Rattle.rb_rules.specs.ExactStage.{Outcome}
-use Rattle.rb_rules.specs.Goodness.{Scenario}
-use Rattle.rb_rules.specs.Hearing.{Sending, sending, window_numbered, word_for, close_window}
-use Rattle.rb_rules.specs.NodeState.{NodeState}
-use Rattle.rb_rules.specs.NodeSteps.{message_said}
-use Rattle.rb_rules.specs.Ports.{PortState}
-use Rattle.rb_rules.specs.Slots.{role_of}
-use Rattle.rb_rules.specs.SyncStage.{send_tick_of}
-use Rattle.rb_rules.specs.WorldStep.{word_of, wants_in}
-use Rattle.rb_rules.proofs.Lawfulness.{SendsInside}
-use Rattle.rb_rules.proofs.QuietTicks.{not-spent}
-use Rattle.rb_rules.proofs.RoundStates.{HasTicks}
+use Rattle.std.proofs.{Common.{◌≡◌, ℕ, ◌+◌, ◌^◌, ◌<◌, ◌≤◌, ◌==◌, nat_lt, Bool, true, false, refl, ap, sym, ◌∙◌, subst, arith, List, [], Option, Some, None}, lemmas.Bool.Decides.nat_tests}
+use Rattle.rb_base.specs.{Nodes.Side, Sizes.{Sizes, sync_slot_of}}
+use Rattle.rb_rules.specs.{declared.message.Message.Message, declared.plan.Plan.Plan, declared.plan.Window.Window, declared.record.Epoch.Epoch, Core.{Core, Act, if_at, is_last, is_tick, of_source, said_at, state_at, state_kept, tick, wants, window_here, act_at, act_on, epoch_at}, ExactStage.Outcome, Goodness.Scenario, Hearing.{Sending, sending, window_numbered, word_for, close_window}, NodeState.NodeState, NodeSteps.message_said, Ports.PortState, Slots.role_of, SyncStage.send_tick_of, WorldStep.{word_of, wants_in}}
+use Rattle.rb_rules.proofs.{Lawfulness.SendsInside, QuietTicks.not-spent, RoundStates.HasTicks}
 use Rattle.rb_laws_events.specs.Closing.{stages_in}
-use Rattle.rb_laws_events.proofs.NodeSends.{KeepsTime, sending_at, said-is, sent-in, keeps-none}
-use Rattle.rb_laws_events.proofs.NodeTicks.{Like, like-in, like-tick, like-keeps, gone, by_said, kept_in, state_in, after-say, words-fit, sent-place}
-use Rattle.rb_laws_events.proofs.NodeWords.{SameWords, WordFits, at_its_tick, word_wanted, from-says, said-at-tick, wanted-fits}
-use Rattle.rb_laws_events.proofs.StageOrder.{last_of}
-use Rattle.rb_laws_events.proofs.TickWindows.{IsTickIn, here-is, last-is}
+use Rattle.rb_laws_events.proofs.{NodeSends.{KeepsTime, sending_at, said-is, sent-in, keeps-none}, NodeTicks.{Like, like-in, like-tick, like-keeps, gone, by_said, kept_in, state_in, after-say, words-fit, sent-place}, NodeWords.{SameWords, WordFits, at_its_tick, word_wanted, from-says, said-at-tick, wanted-fits}, StageOrder.last_of, TickWindows.{IsTickIn, here-is, last-is}}
 
 -- what the plan of a lawful scenario has
 pub record HasRoom (plan : Plan) : Type 0 where

@@ -1,28 +1,9 @@
 -- For the law that events are rounds: at the last tick of its window a node does what the rounds do
 -- with it, and goes on in the next window, or stops if it is not good any more.
-use Rattle.std.proofs.Common.{◌≡◌, ℕ, ◌+◌, ◌<◌, ◌≤◌, ◌==◌, ◌&&◌, ◌⊎◌, nat_le, nat_lt, Bool, true, false, cond, List, [], ◌∷◌, ◌++◌, filter, length, refl, ap, sym, ◌∙◌, subst, arith, inl, inr, Option, Some, None, option_map, option_to_list}
-use Rattle.std.proofs.lemmas.Bool.Decides.{nat_tests}
-use Rattle.std.proofs.lemmas.List.{append-nil}
-use Rattle.rb_base.specs.Nodes.{Side, other}
-use Rattle.rb_base.specs.Sizes.{Sizes}
-use Rattle.rb_rules.specs.declared.closing.Closed.{Closed as ClosedStage}
-use Rattle.rb_rules.specs.declared.plan.Plan.{Plan}
-use Rattle.rb_rules.specs.declared.plan.Window.{Window}
-use Rattle.rb_rules.specs.Core.{Act, state_at, window_here}
-use Rattle.rb_rules.specs.Goodness.{Scenario, is_good}
-use Rattle.rb_rules.specs.Hearing.{Coming, Span, coming_of, heard_from, row_of, said_by, span_of, window_numbered}
-use Rattle.rb_rules.specs.NodeState.{NodeState}
-use Rattle.rb_rules.specs.Ports.{PortState}
-use Rattle.rb_rules.specs.Rounds.{Moment, heard_at, sent_in, window_in}
-use Rattle.rb_rules.specs.WorldStep.{Site, after_act, await, coming_from, enter, proceed, says_in, span_from, stop, with_close, with_epoch}
-use Rattle.rb_laws_events.proofs.Invariant.{ahead_so_far, entry_of, heard_so_far, is_good_at, sending_of}
-use Rattle.rb_laws_events.proofs.NodeEvents.{begun_after, epoch-is}
-use Rattle.rb_laws_events.proofs.PendingLists.{Hears, all-came, is_later, is_now, none-now}
-use Rattle.rb_laws_events.proofs.RoundNodes.{slot-is}
-use Rattle.rb_laws_events.proofs.SameHeard.{AllOf, Every, IsOneOf}
-use Rattle.rb_laws_events.proofs.SayLists.{said_if}
-use Rattle.rb_laws_events.proofs.SendingLists.{opens}
-use Rattle.rb_laws_events.proofs.TickWindows.{first_of}
+use Rattle.std.proofs.{Common.{◌≡◌, ℕ, ◌+◌, ◌<◌, ◌≤◌, ◌==◌, ◌&&◌, ◌⊎◌, nat_le, nat_lt, Bool, true, false, cond, List, [], ◌∷◌, ◌++◌, filter, length, refl, ap, sym, ◌∙◌, subst, arith, inl, inr, Option, Some, None, option_map, option_to_list}, lemmas.Bool.Decides.nat_tests, lemmas.List.append-nil}
+use Rattle.rb_base.specs.{Nodes.{Side, other}, Sizes.Sizes}
+use Rattle.rb_rules.specs.{declared.closing.Closed.Closed as ClosedStage, declared.plan.Plan.Plan, declared.plan.Window.Window, Core.{Act, state_at, window_here}, Goodness.{Scenario, is_good}, Hearing.{Coming, Span, coming_of, heard_from, row_of, said_by, span_of, window_numbered}, NodeState.NodeState, Ports.PortState, Rounds.{Moment, heard_at, sent_in, window_in}, WorldStep.{Site, after_act, await, coming_from, enter, proceed, says_in, span_from, stop, with_close, with_epoch}}
+use Rattle.rb_laws_events.proofs.{Invariant.{ahead_so_far, entry_of, heard_so_far, is_good_at, sending_of}, NodeEvents.{begun_after, epoch-is}, PendingLists.{Hears, all-came, is_later, is_now, none-now}, RoundNodes.slot-is, SameHeard.{AllOf, Every, IsOneOf}, SayLists.said_if, SendingLists.opens, TickWindows.first_of}
 
 -- What comes to the node.
 

@@ -1,47 +1,11 @@
 -- For the law that events are rounds: the last tick of a window at its node.
-use Rattle.std.proofs.Common.{◌≡◌, ℕ, suc, ◌+◌, ◌*◌, ◌-◌, ◌^◌, ◌<◌, ◌≤◌, ◌==◌, ◌⊎◌, nat_lt, if◌then◌else◌, Bool, true, false, List, [], ◌++◌, refl, ap, sym, ◌∙◌, subst, arith, inl, inr, Option, Some, None, slice_get, unwrap_or}
-use Rattle.std.proofs.lemmas.Bool.{cases_lt, le-leb, true≢false}
-use Rattle.std.proofs.lemmas.Bool.Decides.{nat_tests}
-use Rattle.rb_base.specs.Nodes.{Side, other}
-use Rattle.rb_base.specs.Sizes.{Sizes, sync_slot_of}
+use Rattle.std.proofs.{Common.{◌≡◌, ℕ, suc, ◌+◌, ◌*◌, ◌-◌, ◌^◌, ◌<◌, ◌≤◌, ◌==◌, ◌⊎◌, nat_lt, if◌then◌else◌, Bool, true, false, List, [], ◌++◌, refl, ap, sym, ◌∙◌, subst, arith, inl, inr, Option, Some, None, slice_get, unwrap_or}, lemmas.Bool.{cases_lt, le-leb, true≢false}, lemmas.Bool.Decides.nat_tests}
+use Rattle.rb_base.specs.{Nodes.{Side, other}, Sizes.{Sizes, sync_slot_of}}
 use Rattle.rb_base.proofs.Plain.{some-from}
-use Rattle.rb_rules.specs.declared.closing.Closed.{Closed as Shown}
-use Rattle.rb_rules.specs.declared.plan.Plan.{Plan}
-use Rattle.rb_rules.specs.declared.plan.Window.{Window}
-use Rattle.rb_rules.specs.Book.{of_kind, Row}
-use Rattle.rb_rules.specs.Clock.{Timeline, time_of}
-use Rattle.rb_rules.specs.Core.{Core, Act, of_source, pass_to, state_at, window_here}
-use Rattle.rb_rules.specs.ExactStage.{Outcome, close_exact, outcome_of}
-use Rattle.rb_rules.specs.Goodness.{Scenario, is_good, clock_of}
-use Rattle.rb_rules.specs.Hearing.{Coming, Span, close_window, row_of, span_of, window_numbered}
-use Rattle.rb_rules.specs.NodeState.{NodeState}
-use Rattle.rb_rules.specs.Ports.{HandIn, PortState}
-use Rattle.rb_rules.specs.Rounds.{Moment, Result, go_through, moment, sent_in, window_in, windows_in}
-use Rattle.rb_rules.specs.SyncStage.{new_epoch_of, close_sync, sync_outcome_of}
-use Rattle.rb_rules.specs.Sense.{Arrival, sense_of}
-use Rattle.rb_rules.specs.NodeSteps.{expect_of}
-use Rattle.rb_rules.specs.WorldStep.{Timed, Site, after_act, await, coming_from, pass_and_tick, says_in, stop}
-use Rattle.rb_rules.proofs.Drift.{times_rise_to}
-use Rattle.rb_rules.proofs.WindowNumbers.{sync-numbered}
-use Rattle.rb_laws_events.specs.Closing.{stages_in}
-use Rattle.rb_laws_events.specs.OwnMoments.{StandsWhereNotGood, open_window, ready_state}
-use Rattle.rb_laws_events.proofs.ClosingTicks.{HoldsHeard, closing_of, result-is, spoken}
-use Rattle.rb_laws_events.proofs.CloseOrder.{IsWindowLater, window-later}
-use Rattle.rb_laws_events.proofs.Invariant.{ComesInWindow, ComesLater, InTime, NodeStands, ahead_so_far, entry_of, heard_so_far, is_good_at, last_tick, next_stage, word_at}
-use Rattle.rb_laws_events.proofs.NodeActs.{ActsClose, HasRoom, HasWord, IsInWindow, acts-close}
-use Rattle.rb_laws_events.proofs.NodeCloses.{after-close, all-here, good-span, heard-all, opens-stage, opens-tail, site_closed, span-begins, stage-lists}
-use Rattle.rb_laws_events.proofs.NodeEvents.{begun_after}
-use Rattle.rb_laws_events.proofs.NodeGoesOn.{Entered, enters, none-in-tail, tail-close}
-use Rattle.rb_laws_events.proofs.NodeMoves.{Closed, NextPlace, after-tail, epoch-known, get-later, inner, last-stage, state_after}
-use Rattle.rb_laws_events.proofs.NodeSends.{KeepsTime, sending_at}
-use Rattle.rb_laws_events.proofs.NodeTicks.{Like, gone, like-kept, tail-last}
-use Rattle.rb_laws_events.proofs.PendingLists.{Hears}
-use Rattle.rb_laws_events.proofs.Receiving.{Receives}
-use Rattle.rb_laws_events.proofs.RoundNodes.{Stands, slot-is, slot_numbered}
-use Rattle.rb_laws_events.proofs.SameHeard.{AllOf, Every}
-use Rattle.rb_laws_events.proofs.SayLists.{ComesIn, every-to, said_if, say-more, says-come-in, says-now}
-use Rattle.rb_laws_events.proofs.StageOrder.{last_of}
-use Rattle.rb_laws_events.proofs.TickWindows.{first_of, here-is}
+use Rattle.rb_rules.specs.{declared.closing.Closed.Closed as Shown, declared.plan.Plan.Plan, declared.plan.Window.Window, Book.{of_kind, Row}, Clock.{Timeline, time_of}, Core.{Core, Act, of_source, pass_to, state_at, window_here}, ExactStage.{Outcome, close_exact, outcome_of}, Goodness.{Scenario, is_good, clock_of}, Hearing.{Coming, Span, close_window, row_of, span_of, window_numbered}, NodeState.NodeState, Ports.{HandIn, PortState}, Rounds.{Moment, Result, go_through, moment, sent_in, window_in, windows_in}, SyncStage.{new_epoch_of, close_sync, sync_outcome_of}, Sense.{Arrival, sense_of}, NodeSteps.expect_of, WorldStep.{Timed, Site, after_act, await, coming_from, pass_and_tick, says_in, stop}}
+use Rattle.rb_rules.proofs.{Drift.times_rise_to, WindowNumbers.sync-numbered}
+use Rattle.rb_laws_events.specs.{Closing.stages_in, OwnMoments.{StandsWhereNotGood, open_window, ready_state}}
+use Rattle.rb_laws_events.proofs.{ClosingTicks.{HoldsHeard, closing_of, result-is, spoken}, CloseOrder.{IsWindowLater, window-later}, Invariant.{ComesInWindow, ComesLater, InTime, NodeStands, ahead_so_far, entry_of, heard_so_far, is_good_at, last_tick, next_stage, word_at}, NodeActs.{ActsClose, HasRoom, HasWord, IsInWindow, acts-close}, NodeCloses.{after-close, all-here, good-span, heard-all, opens-stage, opens-tail, site_closed, span-begins, stage-lists}, NodeEvents.begun_after, NodeGoesOn.{Entered, enters, none-in-tail, tail-close}, NodeMoves.{Closed, NextPlace, after-tail, epoch-known, get-later, inner, last-stage, state_after}, NodeSends.{KeepsTime, sending_at}, NodeTicks.{Like, gone, like-kept, tail-last}, PendingLists.Hears, Receiving.Receives, RoundNodes.{Stands, slot-is, slot_numbered}, SameHeard.{AllOf, Every}, SayLists.{ComesIn, every-to, said_if, say-more, says-come-in, says-now}, StageOrder.last_of, TickWindows.{first_of, here-is}}
 
 -- when a node closes the window of moment `p`, all good sources have sent what they send for it,
 -- and none has sent anything for the stage after the next

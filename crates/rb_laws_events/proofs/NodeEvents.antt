@@ -1,33 +1,10 @@
 -- For the law that events are rounds: a node stays where it stands when something comes to it, when
 -- an event happens elsewhere, and at a tick that is not the last of its window.
-use Rattle.std.proofs.Common.{◌≡◌, ℕ, suc, ◌+◌, ◌^◌, ◌<◌, ◌≤◌, ◌==◌, Bool, true, false, List, [], ◌∷◌, ◌++◌, map, refl, ap, sym, ◌∙◌, subst, arith, Option, Some, None, option_map, option_to_list}
-use Rattle.std.proofs.lemmas.Bool.Decides.{nat_tests}
-use Rattle.std.proofs.lemmas.List.{append-nil}
-use Rattle.rb_base.specs.Nodes.{Side}
-use Rattle.rb_base.specs.Sizes.{Sizes}
-use Rattle.rb_rules.specs.declared.plan.Plan.{Plan}
-use Rattle.rb_rules.specs.declared.record.Epoch.{Epoch}
-use Rattle.rb_rules.specs.Book.{Begun}
-use Rattle.rb_rules.specs.Clock.{Timeline, time_of, stamp_of}
-use Rattle.rb_rules.specs.Core.{Core, Act, arrive, next_tick, pass_to, state_at, window_here}
-use Rattle.rb_rules.specs.Goodness.{Scenario, clock_of}
-use Rattle.rb_rules.specs.Hearing.{Coming, Span, span_of, begun_of, window_numbered}
-use Rattle.rb_rules.specs.NodeState.{NodeState}
-use Rattle.rb_rules.specs.Ports.{HandIn, PortState}
-use Rattle.rb_rules.specs.Rounds.{Moment, moment}
-use Rattle.rb_rules.specs.WorldStep.{Timed, Site, after_act, after_arrival, enter, pass_and_tick, proceed, span_from, times_of, with_close, with_epoch}
-use Rattle.rb_rules.proofs.Drift.{times_rise_to}
-use Rattle.rb_rules.proofs.QuietTicks.{arrive-same}
-use Rattle.rb_rules.proofs.Stamps.{Moves}
-use Rattle.rb_laws_events.proofs.Invariant.{NodeStands, last_tick, word_at}
-use Rattle.rb_laws_events.proofs.NodeActs.{ActsOpen, HasRoom, HasWord, IsInWindow, acts-open}
-use Rattle.rb_laws_events.proofs.NodeNext.{NextIn, next-found, next-in}
-use Rattle.rb_laws_events.proofs.NodeSends.{sending_at}
-use Rattle.rb_laws_events.proofs.NodeTicks.{Like, gone, like-in, like-keeps, like-tick, no-turn, state_in}
-use Rattle.rb_laws_events.proofs.Receiving.{ArrivesNow, Receives, arrival-received}
-use Rattle.rb_laws_events.proofs.SameHeard.{Every}
-use Rattle.rb_laws_events.proofs.SayLists.{every-to}
-use Rattle.rb_laws_events.proofs.TickWindows.{IsTickIn, first_of, here-is}
+use Rattle.std.proofs.{Common.{◌≡◌, ℕ, suc, ◌+◌, ◌^◌, ◌<◌, ◌≤◌, ◌==◌, Bool, true, false, List, [], ◌∷◌, ◌++◌, map, refl, ap, sym, ◌∙◌, subst, arith, Option, Some, None, option_map, option_to_list}, lemmas.Bool.Decides.nat_tests, lemmas.List.append-nil}
+use Rattle.rb_base.specs.{Nodes.Side, Sizes.Sizes}
+use Rattle.rb_rules.specs.{declared.plan.Plan.Plan, declared.record.Epoch.Epoch, Book.Begun, Clock.{Timeline, time_of, stamp_of}, Core.{Core, Act, arrive, next_tick, pass_to, state_at, window_here}, Goodness.{Scenario, clock_of}, Hearing.{Coming, Span, span_of, begun_of, window_numbered}, NodeState.NodeState, Ports.{HandIn, PortState}, Rounds.{Moment, moment}, WorldStep.{Timed, Site, after_act, after_arrival, enter, pass_and_tick, proceed, span_from, times_of, with_close, with_epoch}}
+use Rattle.rb_rules.proofs.{Drift.times_rise_to, QuietTicks.arrive-same, Stamps.Moves}
+use Rattle.rb_laws_events.proofs.{Invariant.{NodeStands, last_tick, word_at}, NodeActs.{ActsOpen, HasRoom, HasWord, IsInWindow, acts-open}, NodeNext.{NextIn, next-found, next-in}, NodeSends.sending_at, NodeTicks.{Like, gone, like-in, like-keeps, like-tick, no-turn, state_in}, Receiving.{ArrivesNow, Receives, arrival-received}, SameHeard.Every, SayLists.every-to, TickWindows.{IsTickIn, first_of, here-is}}
 
 -- An event elsewhere.
 

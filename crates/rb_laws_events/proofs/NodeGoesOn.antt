@@ -1,41 +1,11 @@
 -- For the law that events are rounds: at the last tick of its window a node closes it as the rounds
 -- do, and stands in the next moment, or stops.
-use Rattle.std.proofs.Common.{◌≡◌, ℕ, zero, suc, ◌+◌, ◌^◌, ◌<◌, ◌≤◌, ◌==◌, nat_lt, Bool, true, false, List, [], ◌∷◌, ◌++◌, map, refl, ap, sym, ◌∙◌, subst, arith, Option, Some, None, slice_get, option_map, option_to_list, get_or}
-use Rattle.std.proofs.lemmas.Bool.Decides.{nat_tests}
-use Rattle.rb_base.specs.Nodes.{Side, other}
-use Rattle.rb_base.specs.Nodes.Side.{Biu, Rmu}
-use Rattle.rb_base.specs.Sizes.{Sizes, sync_slot_of}
-use Rattle.rb_rules.specs.declared.plan.Plan.{Plan}
-use Rattle.rb_rules.specs.declared.plan.Window.{Window}
-use Rattle.rb_rules.specs.Book.{of_kind, map_each}
-use Rattle.rb_rules.specs.Clock.{Timeline, time_of}
-use Rattle.rb_rules.specs.Core.{state_at}
-use Rattle.rb_rules.specs.ExactStage.{Outcome, close_exact}
-use Rattle.rb_rules.specs.Goodness.{Scenario, clock_of}
-use Rattle.rb_rules.specs.Hearing.{Coming, Sending, Span, close_window, coming_of, sending, span_of, window_numbered}
-use Rattle.rb_rules.specs.NodeState.{NodeState}
-use Rattle.rb_rules.specs.Ports.{HandIn}
-use Rattle.rb_rules.specs.Rounds.{Moment, moment, sending_in, sent_in, window_in, word_for_window}
-use Rattle.rb_rules.specs.Sense.{Arrival, sense_of}
-use Rattle.rb_rules.specs.declared.sense.Sense.{Sense}
-use Rattle.rb_rules.specs.NodeSteps.{expect_of}
-use Rattle.rb_rules.specs.SyncStage.{new_epoch_of, close_sync, sync_outcome_of}
-use Rattle.rb_rules.specs.WorldStep.{Timed, Site, await, says_in}
-use Rattle.rb_rules.proofs.Drift.{times_rise_to}
-use Rattle.rb_rules.proofs.WindowNumbers.{sync-numbered, get-each}
+use Rattle.std.proofs.{Common.{◌≡◌, ℕ, zero, suc, ◌+◌, ◌^◌, ◌<◌, ◌≤◌, ◌==◌, nat_lt, Bool, true, false, List, [], ◌∷◌, ◌++◌, map, refl, ap, sym, ◌∙◌, subst, arith, Option, Some, None, slice_get, option_map, option_to_list, get_or}, lemmas.Bool.Decides.nat_tests}
+use Rattle.rb_base.specs.{Nodes.{Side, other}, Nodes.Side.{Biu, Rmu}, Sizes.{Sizes, sync_slot_of}}
+use Rattle.rb_rules.specs.{declared.plan.Plan.Plan, declared.plan.Window.Window, Book.{of_kind, map_each}, Clock.{Timeline, time_of}, Core.state_at, ExactStage.{Outcome, close_exact}, Goodness.{Scenario, clock_of}, Hearing.{Coming, Sending, Span, close_window, coming_of, sending, span_of, window_numbered}, NodeState.NodeState, Ports.HandIn, Rounds.{Moment, moment, sending_in, sent_in, window_in, word_for_window}, Sense.{Arrival, sense_of}, declared.sense.Sense.Sense, NodeSteps.expect_of, SyncStage.{new_epoch_of, close_sync, sync_outcome_of}, WorldStep.{Timed, Site, await, says_in}}
+use Rattle.rb_rules.proofs.{Drift.times_rise_to, WindowNumbers.{sync-numbered, get-each}}
 use Rattle.rb_laws_events.specs.Closing.{stages_in}
-use Rattle.rb_laws_events.proofs.Invariant.{NodeStands, ahead_so_far, entry_of, heard_so_far, is_good_at, last_tick, next_stage, sending_of, word_at}
-use Rattle.rb_laws_events.proofs.NodeActs.{HasRoom, IsInWindow}
-use Rattle.rb_laws_events.proofs.NodeNext.{NextIn, next-found, next-in}
-use Rattle.rb_laws_events.proofs.NodeSends.{KeepsTime, sending_at, sent-in, unsent}
-use Rattle.rb_laws_events.proofs.NodeTicks.{by_said, gone, kept_in}
-use Rattle.rb_laws_events.proofs.PendingLists.{Hears, each-append}
-use Rattle.rb_laws_events.proofs.RoundNodes.{slot-is}
-use Rattle.rb_laws_events.proofs.SameHeard.{Every, kept_as}
-use Rattle.rb_laws_events.proofs.SayLists.{ComesIn, every-to, says-come-in}
-use Rattle.rb_laws_events.proofs.StageOrder.{last_of}
-use Rattle.rb_laws_events.proofs.TickWindows.{IsTickIn, first_of}
-use Rattle.rb_laws_events.proofs.WorldNodes.{Known, known-append, says-known}
+use Rattle.rb_laws_events.proofs.{Invariant.{NodeStands, ahead_so_far, entry_of, heard_so_far, is_good_at, last_tick, next_stage, sending_of, word_at}, NodeActs.{HasRoom, IsInWindow}, NodeNext.{NextIn, next-found, next-in}, NodeSends.{KeepsTime, sending_at, sent-in, unsent}, NodeTicks.{by_said, gone, kept_in}, PendingLists.{Hears, each-append}, RoundNodes.slot-is, SameHeard.{Every, kept_as}, SayLists.{ComesIn, every-to, says-come-in}, StageOrder.last_of, TickWindows.{IsTickIn, first_of}, WorldNodes.{Known, known-append, says-known}}
 
 -- The close of a tail leaves the next epoch what it was.
 

@@ -1,37 +1,12 @@
 -- For the law that events are rounds: where a node stands after it has closed a window: in the next
 -- one, or past an empty tail and the turn in the first one of the next frame.
-use Rattle.std.proofs.Common.{◌≡◌, ℕ, suc, ◌+◌, ◌*◌, ◌-◌, ◌<◌, ◌≤◌, ◌==◌, ◌&&◌, nat_le, nat_lt, Bool, true, false, refl, ap, sym, ◌∙◌, subst, arith, inl, inr, ◌⊎◌, List, Option, Some, None, is_some, slice_get, option_map, unwrap_or, if◌then◌else◌}
-use Rattle.std.proofs.lemmas.Bool.{cases_lt, le-ltb, lt-leb, lt-ltb}
-use Rattle.std.proofs.lemmas.Bool.Decides.{nat_tests}
-use Rattle.std.proofs.lemmas.Option.{same_Some}
-use Rattle.rb_base.specs.Nodes.{Side}
-use Rattle.rb_base.specs.Nodes.Side.{Biu, Rmu}
-use Rattle.rb_base.specs.Sizes.{Sizes, sync_slot_of}
+use Rattle.std.proofs.{Common.{◌≡◌, ℕ, suc, ◌+◌, ◌*◌, ◌-◌, ◌<◌, ◌≤◌, ◌==◌, ◌&&◌, nat_le, nat_lt, Bool, true, false, refl, ap, sym, ◌∙◌, subst, arith, inl, inr, ◌⊎◌, List, Option, Some, None, is_some, slice_get, option_map, unwrap_or, if◌then◌else◌}, lemmas.Bool.{cases_lt, le-ltb, lt-leb, lt-ltb}, lemmas.Bool.Decides.nat_tests, lemmas.Option.same_Some}
+use Rattle.rb_base.specs.{Nodes.Side, Nodes.Side.{Biu, Rmu}, Sizes.{Sizes, sync_slot_of}}
 use Rattle.rb_base.proofs.Plain.{is_some-map, none-from, some-from}
-use Rattle.rb_rules.specs.declared.plan.Plan.{Plan}
-use Rattle.rb_rules.specs.declared.plan.Window.{Window}
-use Rattle.rb_rules.specs.Book.{of_kind}
-use Rattle.rb_rules.specs.Conviction.{turn}
-use Rattle.rb_rules.specs.Core.{is_tick, state_at}
-use Rattle.rb_rules.specs.Goodness.{Scenario, is_good}
-use Rattle.rb_rules.specs.Hearing.{Sending, window_numbered}
-use Rattle.rb_rules.specs.Book.{Each}
-use Rattle.rb_rules.specs.NodeState.{NodeState}
-use Rattle.rb_rules.specs.NodeSteps.{turn_if_known}
-use Rattle.rb_rules.specs.Plan.{tail_start_of}
-use Rattle.rb_rules.specs.Ports.{HandIn}
-use Rattle.rb_rules.specs.Rounds.{Moment, Result, window_in, windows_in, sent_in, go_through, close_on, moment, word_for_window, heard_at}
-use Rattle.rb_rules.specs.ExactStage.{keep_sent}
-use Rattle.rb_rules.specs.SyncStage.{new_epoch_of}
+use Rattle.rb_rules.specs.{declared.plan.Plan.Plan, declared.plan.Window.Window, Book.of_kind, Conviction.turn, Core.{is_tick, state_at}, Goodness.{Scenario, is_good}, Hearing.{Sending, window_numbered}, Book.Each, NodeState.NodeState, NodeSteps.turn_if_known, Plan.tail_start_of, Ports.HandIn, Rounds.{Moment, Result, window_in, windows_in, sent_in, go_through, close_on, moment, word_for_window, heard_at}, ExactStage.keep_sent, SyncStage.new_epoch_of}
 use Rattle.rb_rules.proofs.RoundStates.{HasTicks, Knows, Stays, numbered-knows, state-after, state-turned, through-stays}
 use Rattle.rb_laws_events.specs.Closing.{stages_in}
-use Rattle.rb_laws_events.proofs.CloseOrder.{IsWindowLater, IsFrameLater, window-later, frame-later}
-use Rattle.rb_laws_events.proofs.Invariant.{is_good_at, next_stage}
-use Rattle.rb_laws_events.proofs.NodeSends.{KeepsTime}
-use Rattle.rb_laws_events.proofs.NodeTicks.{no-turn, tail-first, tail-last}
-use Rattle.rb_laws_events.proofs.RoundNodes.{slot-is}
-use Rattle.rb_laws_events.proofs.StageOrder.{last_of}
-use Rattle.rb_laws_events.proofs.TickWindows.{IsTickIn, Tiles, first_of, first-same, get-window, tiles}
+use Rattle.rb_laws_events.proofs.{CloseOrder.{IsWindowLater, IsFrameLater, window-later, frame-later}, Invariant.{is_good_at, next_stage}, NodeSends.KeepsTime, NodeTicks.{no-turn, tail-first, tail-last}, RoundNodes.slot-is, StageOrder.last_of, TickWindows.{IsTickIn, Tiles, first_of, first-same, get-window, tiles}}
 
 -- One step of a node.
 

@@ -1,27 +1,12 @@
 -- For the law that events are rounds: the next busy tick of a node in a window lies in it, and no
 -- message goes out before.
-use Rattle.std.proofs.Common.{◌≡◌, ℕ, zero, suc, ◌+◌, ◌-◌, ◌^◌, ◌<◌, ◌≤◌, ◌==◌, ◌||◌, Bool, true, false, refl, ap, sym, ◌∙◌, subst, arith, inl, inr, Option, Some, None, is_some}
-use Rattle.std.proofs.lemmas.Bool.{cases_lt, le-ltb, lt-ltb, true≢false}
-use Rattle.std.proofs.lemmas.Bool.Decides.{nat_tests}
-use Rattle.rb_base.specs.Nodes.{Side}
-use Rattle.rb_base.specs.Sizes.{Sizes}
+use Rattle.std.proofs.{Common.{◌≡◌, ℕ, zero, suc, ◌+◌, ◌-◌, ◌^◌, ◌<◌, ◌≤◌, ◌==◌, ◌||◌, Bool, true, false, refl, ap, sym, ◌∙◌, subst, arith, inl, inr, Option, Some, None, is_some}, lemmas.Bool.{cases_lt, le-ltb, lt-ltb, true≢false}, lemmas.Bool.Decides.nat_tests}
+use Rattle.rb_base.specs.{Nodes.Side, Sizes.Sizes}
 use Rattle.rb_base.proofs.Plain.{or_middle}
-use Rattle.rb_rules.specs.declared.message.Message.{Message}
-use Rattle.rb_rules.specs.declared.plan.Plan.{Plan}
-use Rattle.rb_rules.specs.declared.plan.Window.{Window}
-use Rattle.rb_rules.specs.Core.{Core, if_at, is_busy, is_last, is_tick, said_at, state_at, busy_among, next_tick}
-use Rattle.rb_rules.specs.Hearing.{Sending, sending, window_numbered}
-use Rattle.rb_rules.specs.NodeState.{NodeState}
-use Rattle.rb_rules.specs.NodeSteps.{message_said}
-use Rattle.rb_rules.specs.SyncStage.{send_tick_of}
+use Rattle.rb_rules.specs.{declared.message.Message.Message, declared.plan.Plan.Plan, declared.plan.Window.Window, Core.{Core, if_at, is_busy, is_last, is_tick, said_at, state_at, busy_among, next_tick}, Hearing.{Sending, sending, window_numbered}, NodeState.NodeState, NodeSteps.message_said, SyncStage.send_tick_of}
 use Rattle.rb_rules.proofs.QuietTicks.{IsNext, IsQuiet, quiet-from, next-is}
 use Rattle.rb_laws_events.specs.Closing.{stages_in}
-use Rattle.rb_laws_events.proofs.NodeActs.{HasRoom, IsInWindow, said-form}
-use Rattle.rb_laws_events.proofs.NodeSends.{KeepsTime, sending_at, sent-at}
-use Rattle.rb_laws_events.proofs.NodeTicks.{Like, like-in, like-tick, like-keeps, gone, by_said, kept_in, state_in, no-turn}
-use Rattle.rb_laws_events.proofs.NodeWords.{at_its_tick, none-message, said-at-tick}
-use Rattle.rb_laws_events.proofs.StageOrder.{last_of}
-use Rattle.rb_laws_events.proofs.TickWindows.{IsTickIn, first_of, last-is}
+use Rattle.rb_laws_events.proofs.{NodeActs.{HasRoom, IsInWindow, said-form}, NodeSends.{KeepsTime, sending_at, sent-at}, NodeTicks.{Like, like-in, like-tick, like-keeps, gone, by_said, kept_in, state_in, no-turn}, NodeWords.{at_its_tick, none-message, said-at-tick}, StageOrder.last_of, TickWindows.{IsTickIn, first_of, last-is}}
 
 -- tick `k` is the next busy tick of a node that stands at tick `had` of window `n`
 pub record NextIn (sizes : Sizes) (plan : Plan) (me : Side) (i : ℕ) (st : NodeState) (n word had k : ℕ) (c : NodeState) : Type 0 where

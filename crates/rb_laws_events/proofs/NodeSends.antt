@@ -1,33 +1,13 @@
 -- For the law that events are rounds: at each tick of a window the core says what the rounds send
 -- in this window, if that is its tick.
-use Rattle.std.proofs.Common.{◌≡◌, ℕ, zero, suc, ◌+◌, ◌*◌, ◌-◌, ◌/◌, ◌%◌, ◌<◌, ◌≤◌, ◌==◌, ◌⊎◌, true, false, refl, ap, sym, ◌∙◌, subst, arith, inl, inr, Option, Some, None, option_and_then, option_map, if◌then◌else◌}
-use Rattle.std.proofs.lemmas.Bool.{cases_lt}
-use Rattle.std.proofs.lemmas.Option.{same_Some}
+use Rattle.std.proofs.{Common.{◌≡◌, ℕ, zero, suc, ◌+◌, ◌*◌, ◌-◌, ◌/◌, ◌%◌, ◌<◌, ◌≤◌, ◌==◌, ◌⊎◌, true, false, refl, ap, sym, ◌∙◌, subst, arith, inl, inr, Option, Some, None, option_and_then, option_map, if◌then◌else◌}, lemmas.Bool.cases_lt, lemmas.Option.same_Some}
 use Rattle.std.specs.Option.{option_or}
-use Rattle.rb_base.specs.Nodes.{Side, other}
-use Rattle.rb_base.specs.Nodes.Side.{Biu, Rmu}
-use Rattle.rb_base.specs.Sizes.{Sizes, sync_slot_of}
-use Rattle.rb_rules.specs.declared.message.Message.{Message}
-use Rattle.rb_base.specs.declared.values.Heard.{Heard}
+use Rattle.rb_base.specs.{Nodes.{Side, other}, Nodes.Side.{Biu, Rmu}, Sizes.{Sizes, sync_slot_of}, declared.values.Heard.Heard}
+use Rattle.rb_rules.specs.{declared.message.Message.Message, declared.plan.Plan.Plan, declared.plan.Window.Window, Core.{if_at, said_at, window_here}, ExactStage.{says, says_of, message_of, keep_sent}, Hearing.{Sending, sending, window_numbered}, NodeState.{NodeState, trusted_of}, NodeSteps.message_said, Plan.{f0_of, tail_start_of}, Slots.sender_in, SyncStage.{calls, new_epoch_of, send_tick_of, call_tick_of}, Windows.send_offset_of}
 use Rattle.rb_base.proofs.Plain.{eq_self, less-differs, more-differs, option_map-back}
-use Rattle.rb_rules.specs.declared.plan.Plan.{Plan}
-use Rattle.rb_rules.specs.declared.plan.Window.{Window}
-use Rattle.rb_rules.specs.Core.{if_at, said_at, window_here}
-use Rattle.rb_rules.specs.ExactStage.{says, says_of, message_of, keep_sent}
-use Rattle.rb_rules.specs.Hearing.{Sending, sending, window_numbered}
-use Rattle.rb_rules.specs.NodeState.{NodeState, trusted_of}
-use Rattle.rb_rules.specs.NodeSteps.{message_said}
-use Rattle.rb_rules.specs.Plan.{f0_of, tail_start_of}
-use Rattle.rb_rules.specs.Slots.{sender_in}
-use Rattle.rb_rules.specs.SyncStage.{calls, new_epoch_of, send_tick_of, call_tick_of}
-use Rattle.rb_rules.specs.Windows.{send_offset_of}
-use Rattle.rb_rules.proofs.Lawfulness.{SendsInside}
-use Rattle.rb_rules.proofs.RoundStates.{HasTicks}
-use Rattle.rb_rules.proofs.Slots.{nothing-kept, sync_role}
-use Rattle.rb_rules.proofs.WindowNumbers.{exact-numbered, sync-numbered}
+use Rattle.rb_rules.proofs.{Lawfulness.SendsInside, RoundStates.HasTicks, Slots.{nothing-kept, sync_role}, WindowNumbers.{exact-numbered, sync-numbered}}
 use Rattle.rb_laws_events.specs.Closing.{stages_in}
-use Rattle.rb_laws_events.proofs.StageOrder.{last_of, last-same}
-use Rattle.rb_laws_events.proofs.TickWindows.{IsTickIn, first_of, first-same, ends-before-later, here-is}
+use Rattle.rb_laws_events.proofs.{StageOrder.{last_of, last-same}, TickWindows.{IsTickIn, first_of, first-same, ends-before-later, here-is}}
 
 -- a node's calls go out in their own windows, and the tick of its next epoch comes after the last
 -- stage

@@ -1,29 +1,12 @@
 -- For the law that events are rounds: what a core does at a tick of a window, whether it has
 -- already said what it has to say in it or not.
-use Rattle.std.proofs.Common.{◌≡◌, ℕ, ◌+◌, ◌*◌, ◌-◌, ◌<◌, ◌≤◌, ◌==◌, ◌&&◌, nat_lt, Bool, true, false, refl, ap, sym, ◌∙◌, subst, arith, inl, inr, Option, Some, None, is_some, option_and_then, option_map, unwrap_or, if◌then◌else◌}
-use Rattle.std.proofs.lemmas.Bool.{cases_lt, eqb-true, le-ltb, lt-ltb, ltb-false, ltb-true}
-use Rattle.std.proofs.lemmas.Bool.Decides.{nat_tests}
-use Rattle.rb_base.specs.Nodes.{Side}
-use Rattle.rb_base.specs.Nodes.Side.{Biu, Rmu}
-use Rattle.rb_base.specs.Sizes.{Sizes, sync_slot_of}
+use Rattle.std.proofs.{Common.{◌≡◌, ℕ, ◌+◌, ◌*◌, ◌-◌, ◌<◌, ◌≤◌, ◌==◌, ◌&&◌, nat_lt, Bool, true, false, refl, ap, sym, ◌∙◌, subst, arith, inl, inr, Option, Some, None, is_some, option_and_then, option_map, unwrap_or, if◌then◌else◌}, lemmas.Bool.{cases_lt, eqb-true, le-ltb, lt-ltb, ltb-false, ltb-true}, lemmas.Bool.Decides.nat_tests}
+use Rattle.rb_base.specs.{Nodes.Side, Nodes.Side.{Biu, Rmu}, Sizes.{Sizes, sync_slot_of}}
 use Rattle.rb_base.proofs.Plain.{less-differs, more-differs}
-use Rattle.rb_rules.specs.declared.message.Message.{Message}
-use Rattle.rb_rules.specs.declared.plan.Plan.{Plan}
-use Rattle.rb_rules.specs.declared.plan.Window.{Window}
-use Rattle.rb_rules.specs.Core.{if_at, is_tick, state_at, state_kept}
-use Rattle.rb_rules.specs.ExactStage.{keep_sent, says}
-use Rattle.rb_rules.specs.Hearing.{Sending, sending, window_numbered, tail_at}
-use Rattle.rb_rules.specs.NodeState.{NodeState}
-use Rattle.rb_rules.specs.NodeSteps.{message_said, turn_if_known}
-use Rattle.rb_rules.specs.Plan.{tail_start_of}
-use Rattle.rb_rules.specs.SyncStage.{new_epoch_of, send_tick_of}
-use Rattle.rb_rules.proofs.RoundStates.{HasTicks}
-use Rattle.rb_rules.proofs.WindowNumbers.{sync-numbered}
+use Rattle.rb_rules.specs.{declared.message.Message.Message, declared.plan.Plan.Plan, declared.plan.Window.Window, Core.{if_at, is_tick, state_at, state_kept}, ExactStage.{keep_sent, says}, Hearing.{Sending, sending, window_numbered, tail_at}, NodeState.NodeState, NodeSteps.{message_said, turn_if_known}, Plan.tail_start_of, SyncStage.{new_epoch_of, send_tick_of}}
+use Rattle.rb_rules.proofs.{RoundStates.HasTicks, WindowNumbers.sync-numbered}
 use Rattle.rb_laws_events.specs.Closing.{stages_in}
-use Rattle.rb_laws_events.proofs.NodeSends.{KeepsTime, sending_at}
-use Rattle.rb_laws_events.proofs.NodeWords.{HasPlace, SameWords, WordFits, kept-some, message-place}
-use Rattle.rb_laws_events.proofs.StageOrder.{last_of}
-use Rattle.rb_laws_events.proofs.TickWindows.{IsTickIn, first_of, ends-before-later}
+use Rattle.rb_laws_events.proofs.{NodeSends.{KeepsTime, sending_at}, NodeWords.{HasPlace, SameWords, WordFits, kept-some, message-place}, StageOrder.last_of, TickWindows.{IsTickIn, first_of, ends-before-later}}
 
 -- What a sender keeps of its own value changes nothing of what it does next.
 

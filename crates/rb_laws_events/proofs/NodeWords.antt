@@ -1,29 +1,9 @@
 -- For the law that events are rounds: the word that a core is given at a tick is the one that the
 -- rounds give the node in the window.
-use Rattle.std.proofs.Common.{◌≡◌, ℕ, ◌+◌, ◌-◌, ◌==◌, ◌&&◌, nat_lt, Bool, true, false, refl, ap, sym, ◌∙◌, subst, arith, Option, Some, None, is_some, option_and_then, option_map, unwrap_or, get_or, if◌then◌else◌, List}
-use Rattle.std.proofs.lemmas.Bool.{and_parts, eqb-true}
-use Rattle.std.proofs.lemmas.Bool.Decides.{nat_tests}
-use Rattle.std.proofs.lemmas.Option.{same_Some}
-use Rattle.rb_base.specs.Nodes.{Side, other}
-use Rattle.rb_base.specs.Nodes.Side.{Biu, Rmu}
-use Rattle.rb_base.specs.Sizes.{Sizes, sync_slot_of}
-use Rattle.rb_base.specs.declared.values.Heard.{Heard}
+use Rattle.std.proofs.{Common.{◌≡◌, ℕ, ◌+◌, ◌-◌, ◌==◌, ◌&&◌, nat_lt, Bool, true, false, refl, ap, sym, ◌∙◌, subst, arith, Option, Some, None, is_some, option_and_then, option_map, unwrap_or, get_or, if◌then◌else◌, List}, lemmas.Bool.{and_parts, eqb-true}, lemmas.Bool.Decides.nat_tests, lemmas.Option.same_Some}
+use Rattle.rb_base.specs.{Nodes.{Side, other}, Nodes.Side.{Biu, Rmu}, Sizes.{Sizes, sync_slot_of}, declared.values.Heard.Heard}
+use Rattle.rb_rules.specs.{declared.message.Message.Message, declared.plan.Plan.Plan, declared.role.Role.Role, declared.role.Role.TheVariants.{Schedule, Data, DiagBiu, DiagRmu, Sync}, Core.{if_at, is_tick, slot_wanted, state_kept}, ExactStage.{own_value, is_sender, value_said, says_of, says, message_of, keep_sent}, Goodness.Scenario, Hearing.{Sending, sending, word_for}, NodeState.{NodeState, sender_at}, NodeSteps.message_said, Ports.PortState, Slots.{Sender, first_diagnosis_of, role_of, listens}, Slots.Sender.{Nobody, Node, EachTrusted}, SyncStage.{call_of, calls, send_tick_of}, WorldStep.word_of}
 use Rattle.rb_base.specs.declared.values.Heard.TheVariants as heard
-use Rattle.rb_rules.specs.declared.message.Message.{Message}
-use Rattle.rb_rules.specs.declared.plan.Plan.{Plan}
-use Rattle.rb_rules.specs.declared.role.Role.{Role}
-use Rattle.rb_rules.specs.declared.role.Role.TheVariants.{Schedule, Data, DiagBiu, DiagRmu, Sync}
-use Rattle.rb_rules.specs.Core.{if_at, is_tick, slot_wanted, state_kept}
-use Rattle.rb_rules.specs.ExactStage.{own_value, is_sender, value_said, says_of, says, message_of, keep_sent}
-use Rattle.rb_rules.specs.Goodness.{Scenario}
-use Rattle.rb_rules.specs.Hearing.{Sending, sending, word_for}
-use Rattle.rb_rules.specs.NodeState.{NodeState, sender_at}
-use Rattle.rb_rules.specs.NodeSteps.{message_said}
-use Rattle.rb_rules.specs.Ports.{PortState}
-use Rattle.rb_rules.specs.Slots.{Sender, first_diagnosis_of, role_of, listens}
-use Rattle.rb_rules.specs.Slots.Sender.{Nobody, Node, EachTrusted}
-use Rattle.rb_rules.specs.SyncStage.{call_of, calls, send_tick_of}
-use Rattle.rb_rules.specs.WorldStep.{word_of}
 
 -- a word from outside is said in this stage
 abbrev pub takes_word : Sizes → ℕ → ℕ → Bool

@@ -1,52 +1,14 @@
 -- For the law that running nodes agree: what the rounds hold in common at a slot, the nodes hold
 -- that stand there.
-use Rattle.std.proofs.Common.{◌≡◌, ℕ, zero, suc, ◌+◌, ◌*◌, ◌-◌, ◌==◌, ◌&&◌, ◌<◌, ◌≤◌, ◌⊎◌, nat_lt, not, Bool, true, false, refl, ap, sym, ◌∙◌, subst, arith, inl, inr, List, Option, Some, get_or, slice_get, is_some, if◌then◌else◌}
-use Rattle.std.proofs.lemmas.Bool.{and_right, cases_lt}
-use Rattle.rb_base.specs.Nodes.{Side, has, set_of}
-use Rattle.rb_base.specs.Nodes.Side.{Biu, Rmu}
-use Rattle.rb_base.specs.Sizes.{Sizes, sync_slot_of}
-use Rattle.rb_base.specs.declared.values.Heard.{Heard}
-use Rattle.rb_base.specs.declared.values.Heard.TheVariants.{Fault}
+use Rattle.std.proofs.{Common.{◌≡◌, ℕ, zero, suc, ◌+◌, ◌*◌, ◌-◌, ◌==◌, ◌&&◌, ◌<◌, ◌≤◌, ◌⊎◌, nat_lt, not, Bool, true, false, refl, ap, sym, ◌∙◌, subst, arith, inl, inr, List, Option, Some, get_or, slice_get, is_some, if◌then◌else◌}, lemmas.Bool.{and_right, cases_lt}}
+use Rattle.rb_base.specs.{Nodes.{Side, has, set_of}, Nodes.Side.{Biu, Rmu}, Sizes.{Sizes, sync_slot_of}, declared.values.Heard.Heard, declared.values.Heard.TheVariants.Fault}
 use Rattle.rb_base.proofs.Sets.{has-set_of}
-use Rattle.rb_rules.specs.declared.plan.Plan.{Plan}
-use Rattle.rb_rules.specs.declared.plan.Window.{Window}
-use Rattle.rb_rules.specs.Book.{of_kind}
-use Rattle.rb_rules.specs.Clock.{time_of}
-use Rattle.rb_rules.specs.ExactStage.{keep_sent, says}
-use Rattle.rb_rules.specs.Goodness.{Scenario, clock_of, is_good}
-use Rattle.rb_rules.specs.Headline.{stated_skew}
-use Rattle.rb_rules.specs.Lawful.{IsLawful}
-use Rattle.rb_rules.specs.Moments.{BeginsFrame, IsComplete, IsGoodBefore, IsRunning, IsSettled, before_slot, before_stage, time_in_frame}
-use Rattle.rb_rules.specs.NodeState.{NodeState, trusted_of}
-use Rattle.rb_rules.specs.NodeSteps.{convicted_of}
-use Rattle.rb_rules.specs.Ports.{HandIn}
-use Rattle.rb_rules.specs.Rounds.{IsGoodIn, Moment, step, windows_in}
-use Rattle.rb_rules.specs.Slots.{count_of}
-use Rattle.rb_rules.specs.StandsFor.{votes_on}
-use Rattle.rb_rules.specs.SyncStage.{new_epoch_of}
-use Rattle.rb_rules.specs.WorldStep.{Choice, World, world_after}
+use Rattle.rb_rules.specs.{declared.plan.Plan.Plan, declared.plan.Window.Window, Book.of_kind, Clock.time_of, ExactStage.{keep_sent, says}, Goodness.{Scenario, clock_of, is_good}, Headline.stated_skew, Lawful.IsLawful, Moments.{BeginsFrame, IsComplete, IsGoodBefore, IsRunning, IsSettled, before_slot, before_stage, time_in_frame}, NodeState.{NodeState, trusted_of}, NodeSteps.convicted_of, Ports.HandIn, Rounds.{IsGoodIn, Moment, step, windows_in}, Slots.count_of, StandsFor.votes_on, SyncStage.new_epoch_of, WorldStep.{Choice, World, world_after}}
 use Rattle.rb_laws_agreement.specs.Values.{vote_on}
-use Rattle.rb_laws_agreement.proofs.Agreement.{running_before}
-use Rattle.rb_laws_agreement.proofs.ExactAgrees.{has_ticks}
-use Rattle.rb_laws_agreement.proofs.Exchanges.{trusted-either}
-use Rattle.rb_laws_agreement.proofs.FrameBegins.{settled_before}
-use Rattle.rb_laws_agreement.proofs.Goodnesses.{good_below_16}
-use Rattle.rb_laws_agreement.proofs.Invariant.{Agree, Holds, IsGoodNode, Shared, is_good_now, slot_numbered}
-use Rattle.rb_laws_agreement.proofs.Places.{IsPlaced, complete_before, good_before_slot, placed}
-use Rattle.rb_laws_agreement.proofs.Promises.{convict-alike}
-use Rattle.rb_laws_agreement.proofs.SlotLaws.{none_convicted}
-use Rattle.rb_laws_agreement.proofs.SlotRuns.{stage_next}
-use Rattle.rb_laws_agreement.proofs.WidelyAccused.{accused_by_all}
+use Rattle.rb_laws_agreement.proofs.{Agreement.running_before, ExactAgrees.has_ticks, Exchanges.trusted-either, FrameBegins.settled_before, Goodnesses.good_below_16, Invariant.{Agree, Holds, IsGoodNode, Shared, is_good_now, slot_numbered}, Places.{IsPlaced, complete_before, good_before_slot, placed}, Promises.convict-alike, SlotLaws.none_convicted, SlotRuns.stage_next, WidelyAccused.accused_by_all}
 use Rattle.rb_laws_synchrony.proofs.SyncLaws.{slots_near}
-use Rattle.rb_laws_events.specs.Closing.{stages_in}
-use Rattle.rb_laws_events.specs.OwnMoments.{FollowsTheRounds, HoldsTheState, IsStateOf, RunningNode, moment_of}
-use Rattle.rb_laws_events.specs.RunningNodes.{NodesBeginSlotsNear, NodesConvictAlike, NodesConvictNoGoodNode, NodesConvictWhomAllAccused, NodesHoldOneSchedule, NodesVoteAlike, RunningNodesAgreeInLawful, StandsInSlot, begin_of_slot, convicted_by, state_of, window_of}
-use Rattle.rb_laws_events.proofs.CloseOrder.{WasGood, was-good}
-use Rattle.rb_laws_events.proofs.CoreStates.{window-place}
-use Rattle.rb_laws_events.proofs.CoresPast.{cores-follow}
-use Rattle.rb_laws_events.proofs.MomentBooks.{number-of}
-use Rattle.rb_laws_events.proofs.RoundNodes.{moments-stand, slot-is}
-use Rattle.rb_laws_events.proofs.SlotShared.{SharedAt, SharedIn, shared-in}
+use Rattle.rb_laws_events.specs.{Closing.stages_in, OwnMoments.{FollowsTheRounds, HoldsTheState, IsStateOf, RunningNode, moment_of}, RunningNodes.{NodesBeginSlotsNear, NodesConvictAlike, NodesConvictNoGoodNode, NodesConvictWhomAllAccused, NodesHoldOneSchedule, NodesVoteAlike, RunningNodesAgreeInLawful, StandsInSlot, begin_of_slot, convicted_by, state_of, window_of}}
+use Rattle.rb_laws_events.proofs.{CloseOrder.{WasGood, was-good}, CoreStates.window-place, CoresPast.cores-follow, MomentBooks.number-of, RoundNodes.{moments-stand, slot-is}, SlotShared.{SharedAt, SharedIn, shared-in}}
 
 -- What a sender keeps of its own value is no part of its schedule, nor of whom it trusts.
 

@@ -1,46 +1,13 @@
 -- For the law that running nodes are the abstract bus: what a node holds in its slot it held when
 -- the slot began, and each run of the bus for which the rounds stand holds the same.
-use Rattle.std.proofs.Common.{◌≡◌, ℕ, zero, suc, ◌+◌, ◌-◌, ◌*◌, ◌<◌, ◌≤◌, ◌⊎◌, ◌/◌, max, min, true, refl, ap, sym, ◌∙◌, subst, arith, inl, inr, List, [], ◌∷◌, slice_get, get_or}
-use Rattle.std.proofs.Math.ListN.{get_or-append}
-use Rattle.std.proofs.lemmas.Bool.{cases_lt}
-use Rattle.rb_base.specs.Nodes.{Side, has, other}
-use Rattle.rb_base.specs.Nodes.Side.{Biu, Rmu}
-use Rattle.rb_base.specs.Sizes.{sync_slot_of}
-use Rattle.rb_base.specs.declared.values.Heard.TheVariants.{Fault}
-use Rattle.rb_rules.specs.declared.plan.Window.{Window}
-use Rattle.rb_rules.specs.AbstractBus.{AbstractBus}
-use Rattle.rb_rules.specs.Book.{of_kind}
-use Rattle.rb_rules.specs.Clock.{time_of}
-use Rattle.rb_rules.specs.Goodness.{Scenario, clock_of, is_good}
-use Rattle.rb_rules.specs.Lawful.{IsLawful}
-use Rattle.rb_rules.specs.Moments.{BeginsFrame, IsComplete, IsGoodAfter, IsGoodBefore, IsRunning, IsSettled, after_slot, before_slot, before_stage}
-use Rattle.rb_rules.specs.NodeState.{NodeState, trusted_of}
-use Rattle.rb_rules.specs.Plan.{longest_of, shortest_of, tail_start_of}
-use Rattle.rb_rules.specs.Ports.{HandIn}
-use Rattle.rb_rules.specs.Rounds.{Moment, windows_in}
-use Rattle.rb_rules.specs.Standing.{Standing}
-use Rattle.rb_rules.specs.StandsFor.{AgreesAfter, AgreesBefore, FrameTakes, HoldsVote, StandsFor, steps_to, value_on, votes_on}
-use Rattle.rb_rules.specs.WorldStep.{Choice, World, world_after}
-use Rattle.rb_laws_agreement.specs.BusValues.{bus_before, bus_in_rounds, bus_then, value_in_rounds}
-use Rattle.rb_laws_agreement.specs.Times.{KeepsTime}
-use Rattle.rb_laws_agreement.specs.Values.{vote_on}
-use Rattle.rb_laws_agreement.proofs.Agreement.{IsAgreed, agreement}
-use Rattle.rb_laws_agreement.proofs.BusLaws.{bus-slot-step}
-use Rattle.rb_laws_agreement.proofs.BusRuns.{IsHeld, as_placed, bus-over-slot, held_at}
-use Rattle.rb_laws_agreement.proofs.Goodnesses.{good_earlier}
-use Rattle.rb_laws_agreement.proofs.Invariant.{Holds, IsGoodNode, is_good_now, slot_numbered}
-use Rattle.rb_laws_agreement.proofs.Places.{IsPlaced, complete_before, good_before_slot, placed, running_earlier}
-use Rattle.rb_laws_agreement.proofs.PortHistories.{slot-follows}
-use Rattle.rb_laws_agreement.proofs.Settings.{good_state}
-use Rattle.rb_laws_agreement.proofs.Skews.{rounds_stand}
-use Rattle.rb_laws_agreement.proofs.Tests.{Present}
+use Rattle.std.proofs.{Common.{◌≡◌, ℕ, zero, suc, ◌+◌, ◌-◌, ◌*◌, ◌<◌, ◌≤◌, ◌⊎◌, ◌/◌, max, min, true, refl, ap, sym, ◌∙◌, subst, arith, inl, inr, List, [], ◌∷◌, slice_get, get_or}, Math.ListN.get_or-append, lemmas.Bool.cases_lt}
+use Rattle.rb_base.specs.{Nodes.{Side, has, other}, Nodes.Side.{Biu, Rmu}, Sizes.sync_slot_of, declared.values.Heard.TheVariants.Fault}
+use Rattle.rb_rules.specs.{declared.plan.Window.Window, AbstractBus.AbstractBus, Book.of_kind, Clock.time_of, Goodness.{Scenario, clock_of, is_good}, Lawful.IsLawful, Moments.{BeginsFrame, IsComplete, IsGoodAfter, IsGoodBefore, IsRunning, IsSettled, after_slot, before_slot, before_stage}, NodeState.{NodeState, trusted_of}, Plan.{longest_of, shortest_of, tail_start_of}, Ports.HandIn, Rounds.{Moment, windows_in}, Standing.Standing, StandsFor.{AgreesAfter, AgreesBefore, FrameTakes, HoldsVote, StandsFor, steps_to, value_on, votes_on}, WorldStep.{Choice, World, world_after}}
+use Rattle.rb_laws_agreement.specs.{BusValues.{bus_before, bus_in_rounds, bus_then, value_in_rounds}, Times.KeepsTime, Values.vote_on}
+use Rattle.rb_laws_agreement.proofs.{Agreement.{IsAgreed, agreement}, BusLaws.bus-slot-step, BusRuns.{IsHeld, as_placed, bus-over-slot, held_at}, Goodnesses.good_earlier, Invariant.{Holds, IsGoodNode, is_good_now, slot_numbered}, Places.{IsPlaced, complete_before, good_before_slot, placed, running_earlier}, PortHistories.slot-follows, Settings.good_state, Skews.rounds_stand, Tests.Present}
 use Rattle.rb_laws_synchrony.proofs.SyncLaws.{epochs_near}
-use Rattle.rb_laws_events.specs.OwnMoments.{FollowsTheRounds, HoldsTheState, RunningNode, moment_of}
-use Rattle.rb_laws_events.specs.RunningNodes.{NodesAccuseNoGoodNode, NodesHoldTheBus, NodesKnowTheNextFrame, NodesVoteAsTheBus, RunningNodesAreTheBus, state_of, StandsInSlot, window_of}
-use Rattle.rb_laws_events.proofs.CoresPast.{cores-follow}
-use Rattle.rb_laws_events.proofs.NodesAlike.{HasBegun, HoldsShared, IsIn, before-is, begins-first, has-begun, holds-shared, in-slot, of-state, settled-slot, votes-shared}
-use Rattle.rb_laws_events.proofs.RoundNodes.{slot-is}
-use Rattle.rb_laws_events.proofs.SlotShared.{SharedAt, SharedIn, shared-in}
+use Rattle.rb_laws_events.specs.{OwnMoments.{FollowsTheRounds, HoldsTheState, RunningNode, moment_of}, RunningNodes.{NodesAccuseNoGoodNode, NodesHoldTheBus, NodesKnowTheNextFrame, NodesVoteAsTheBus, RunningNodesAreTheBus, state_of, StandsInSlot, window_of}}
+use Rattle.rb_laws_events.proofs.{CoresPast.cores-follow, NodesAlike.{HasBegun, HoldsShared, IsIn, before-is, begins-first, has-begun, holds-shared, in-slot, of-state, settled-slot, votes-shared}, RoundNodes.slot-is, SlotShared.{SharedAt, SharedIn, shared-in}}
 
 -- The rounds stand for a run of the bus, since good nodes keep time.
 

@@ -1,19 +1,10 @@
 -- What is promised of running nodes holds in each lawful scenario.
 use Rattle.std.proofs.Common.{List}
-use Rattle.rb_rules.specs.Goodness.{Scenario}
-use Rattle.rb_rules.specs.Lawful.{IsLawful}
-use Rattle.rb_rules.specs.Ports.{HandIn}
-use Rattle.rb_rules.specs.WorldStep.{world_after}
-use Rattle.rb_laws_agreement.proofs.Convicting.{unheard}
-use Rattle.rb_laws_agreement.proofs.PortHistories.{ports_alike, ports_follow}
-use Rattle.rb_laws_agreement.proofs.WidelyAccused.{accused_by_all}
+use Rattle.rb_rules.specs.{Goodness.Scenario, Lawful.IsLawful, Ports.HandIn, WorldStep.world_after}
+use Rattle.rb_laws_agreement.proofs.{Convicting.unheard, PortHistories.{ports_alike, ports_follow}, WidelyAccused.accused_by_all}
 use Rattle.rb_laws_synchrony.proofs.SyncLaws.{all_timely}
 use Rattle.rb_laws_events.specs.Promise.{RoundsKeepThePromise, RunningNodesKeepThePromiseInLawful}
-use Rattle.rb_laws_events.proofs.CoresHold.{cores-hold}
-use Rattle.rb_laws_events.proofs.CoresPast.{cores-follow}
-use Rattle.rb_laws_events.proofs.NodesAlike.{nodes-agree, nodes-convict}
-use Rattle.rb_laws_events.proofs.NodesAreTheBus.{nodes-are-the-bus}
-use Rattle.rb_laws_events.proofs.PortsAlike.{ports-agree, ports-follow-the-bus}
+use Rattle.rb_laws_events.proofs.{CoresHold.cores-hold, CoresPast.cores-follow, NodesAlike.{nodes-agree, nodes-convict}, NodesAreTheBus.nodes-are-the-bus, PortsAlike.{ports-agree, ports-follow-the-bus}}
 
 rounds-keep : (sc : Scenario) → IsLawful sc → (hands : List HandIn) → RoundsKeepThePromise sc hands
 rounds-keep sc lawful hands = record {

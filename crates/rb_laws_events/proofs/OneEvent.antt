@@ -1,54 +1,13 @@
 -- For the law that events are rounds: what holds in every world in which all nodes stand in the
 -- rounds, and one event in it.
-use Rattle.std.proofs.Common.{◌≡◌, ℕ, ◌<◌, ◌≤◌, Bool, true, false, List, [], ◌∷◌, ◌++◌, flat_map, length, length-set, option_and_then, refl, ap, sym, ◌∙◌, subst, arith, inl, inr, Option, Some, None, slice_get}
+use Rattle.std.proofs.{Common.{◌≡◌, ℕ, ◌<◌, ◌≤◌, Bool, true, false, List, [], ◌∷◌, ◌++◌, flat_map, length, length-set, option_and_then, refl, ap, sym, ◌∙◌, subst, arith, inl, inr, Option, Some, None, slice_get}, lemmas.Option.{none-some, same_Some}}
 use Rattle.std.specs.Prelude.{⊤}
-use Rattle.std.proofs.lemmas.Option.{none-some, same_Some}
-use Rattle.rb_base.specs.Nodes.{Side}
-use Rattle.rb_base.specs.Nodes.Side.{Biu, Rmu}
-use Rattle.rb_base.specs.declared.values.Delivery.{Delivery}
-use Rattle.rb_rules.specs.declared.closing.Closed.{Closed}
-use Rattle.rb_rules.specs.Book.{Begun, Each, Row, in_order, of_kind}
-use Rattle.rb_rules.specs.Core.{Act}
-use Rattle.rb_rules.specs.Goodness.{Scenario, clock_of}
-use Rattle.rb_rules.specs.Hearing.{Coming, port_at, port_line}
-use Rattle.rb_rules.specs.Lawful.{IsLawful}
-use Rattle.rb_rules.specs.Plan.{longest_of, shortest_of}
-use Rattle.rb_rules.specs.Ports.{HandIn, PortState, delivered_to}
-use Rattle.rb_rules.specs.Rounds.{moment}
-use Rattle.rb_rules.specs.Clock.{time_of}
-use Rattle.rb_rules.specs.NodeState.{NodeState}
+use Rattle.rb_base.specs.{Nodes.Side, Nodes.Side.{Biu, Rmu}, declared.values.Delivery.Delivery}
+use Rattle.rb_rules.specs.{declared.closing.Closed.Closed, Book.{Begun, Each, Row, in_order, of_kind}, Core.Act, Goodness.{Scenario, clock_of}, Hearing.{Coming, port_at, port_line}, Lawful.IsLawful, Plan.{longest_of, shortest_of}, Ports.{HandIn, PortState, delivered_to}, Rounds.moment, Clock.time_of, NodeState.NodeState, WorldStep.{Due, Pending, Site, Timed, World, after_act, after_arrival, at_node, happens, pass_and_tick, times_of, with_act, with_delivery, with_pending}, WorldStep.Pending.{Tick, Arrival}}
 use Rattle.rb_laws_events.specs.Closing.{stages_in}
-use Rattle.rb_laws_events.proofs.Behind.{pend-of}
-use Rattle.rb_laws_events.proofs.Pace.{Bound, IsWithin}
-use Rattle.rb_laws_events.proofs.ToldSoFar.{AllHaveTold, all-have-told, so-far-after, so-far-arrival}
-use Rattle.rb_laws_events.proofs.UpToThere.{UpTo, next-le, next-up-to}
-use Rattle.rb_rules.specs.WorldStep.{Due, Pending, Site, Timed, World, after_act, after_arrival, at_node, happens, pass_and_tick, times_of, with_act, with_delivery, with_pending}
-use Rattle.rb_rules.specs.WorldStep.Pending.{Tick, Arrival}
-use Rattle.rb_rules.proofs.Drift.{HasLengths}
-use Rattle.rb_rules.proofs.Stamps.{Moves}
+use Rattle.rb_laws_events.proofs.{Behind.pend-of, Pace.{Bound, IsWithin}, ToldSoFar.{AllHaveTold, all-have-told, so-far-after, so-far-arrival}, UpToThere.{UpTo, next-le, next-up-to}, CloseOrder.shortest-some, Completing.EventAt, SettledOnce.Settled, DueEvents.{IsReady, every-at, every-back, every-front, every-unflat}, EventNodes.{arrival-at, arrival-site, handed-arrival, ports-arrival, tick-at}, NodeActs.HasRoom, Invariant.{last_tick, next_stage}, NodeEvents.{all-after, tick-after}, PendingLists.StandsAt, PortMoments.has-word, PortsInRounds.{AllHanded, PortsStand, handed-after, line-at-begin, ports-after}, Receiving.every-stands, RoundNodes.slot_numbered, SameHeard.Every, Settling.{RowOfRounds, RowsOfRounds}, SettlingFrames.{BegunInRounds, BegunOfRounds, IsOfMoment, TellRounds, ports_before}, Telling.{begun-then, closed-row, still-tell}, Timing.{AreInTime, HavePassed}, ToldInOrder.{AllTold, one-changes}, WorldEvents.{AfterTick, passed-on, tick-event}, WorldStands.{AllPend, IsDown, IsUp, SitesStand, arrival-keeps-world, sent_by}, WorldTicks.moved}
+use Rattle.rb_rules.proofs.{Drift.HasLengths, Stamps.Moves}
 use Rattle.rb_laws_agreement.proofs.FrameTimes.{good-clock}
-use Rattle.rb_laws_events.proofs.CloseOrder.{shortest-some}
-use Rattle.rb_laws_events.proofs.Completing.{EventAt}
-use Rattle.rb_laws_events.proofs.SettledOnce.{Settled}
-use Rattle.rb_laws_events.proofs.DueEvents.{IsReady, every-at, every-back, every-front, every-unflat}
-use Rattle.rb_laws_events.proofs.EventNodes.{arrival-at, arrival-site, handed-arrival, ports-arrival, tick-at}
-use Rattle.rb_laws_events.proofs.NodeActs.{HasRoom}
-use Rattle.rb_laws_events.proofs.Invariant.{last_tick, next_stage}
-use Rattle.rb_laws_events.proofs.NodeEvents.{all-after, tick-after}
-use Rattle.rb_laws_events.proofs.PendingLists.{StandsAt}
-use Rattle.rb_laws_events.proofs.PortMoments.{has-word}
-use Rattle.rb_laws_events.proofs.PortsInRounds.{AllHanded, PortsStand, handed-after, line-at-begin, ports-after}
-use Rattle.rb_laws_events.proofs.Receiving.{every-stands}
-use Rattle.rb_laws_events.proofs.RoundNodes.{slot_numbered}
-use Rattle.rb_laws_events.proofs.SameHeard.{Every}
-use Rattle.rb_laws_events.proofs.Settling.{RowOfRounds, RowsOfRounds}
-use Rattle.rb_laws_events.proofs.SettlingFrames.{BegunInRounds, BegunOfRounds, IsOfMoment, TellRounds, ports_before}
-use Rattle.rb_laws_events.proofs.Telling.{begun-then, closed-row, still-tell}
-use Rattle.rb_laws_events.proofs.Timing.{AreInTime, HavePassed}
-use Rattle.rb_laws_events.proofs.ToldInOrder.{AllTold, one-changes}
-use Rattle.rb_laws_events.proofs.WorldEvents.{AfterTick, passed-on, tick-event}
-use Rattle.rb_laws_events.proofs.WorldStands.{AllPend, IsDown, IsUp, SitesStand, arrival-keeps-world, sent_by}
-use Rattle.rb_laws_events.proofs.WorldTicks.{moved}
 
 -- the world stands in the rounds: each node in its moment, what they have told is what they tell
 -- there, the book is a moment's, the ports of the nodes that run are those of the rounds, and what

@@ -1,33 +1,10 @@
 -- For the law that events are rounds: what is handed in keeps the whole invariant.
-use Rattle.std.proofs.Common.{◌≡◌, ℕ, ◌+◌, ◌*◌, ◌%◌, ◌<◌, ◌≤◌, ◌==◌, nat_lt, Bool, true, false, List, [], ◌∷◌, ◌++◌, length, refl, ap, sym, ◌∙◌, subst, arith, ◌⊎◌, inl, inr, Option, Some, None, slice_get, if◌then◌else◌}
-use Rattle.std.proofs.lemmas.Bool.{eqb-true}
-use Rattle.std.proofs.lemmas.Bool.Decides.{nat_tests}
-use Rattle.std.proofs.lemmas.Nat.{mul-le}
-use Rattle.std.proofs.lemmas.Option.{slice_get_within}
-use Rattle.rb_base.specs.Nodes.{Side}
-use Rattle.rb_base.specs.Nodes.Side.{Biu}
-use Rattle.rb_base.specs.declared.values.Place.{Place}
-use Rattle.rb_rules.specs.Book.{Book, of_kind}
-use Rattle.rb_rules.specs.Book.Milestone.{Begin, Stage, End}
-use Rattle.rb_rules.specs.Goodness.{Scenario, is_good}
-use Rattle.rb_rules.specs.Lawful.{IsLawful}
-use Rattle.rb_rules.specs.Moments.{IsRunning}
-use Rattle.rb_rules.specs.Ports.{HandIn, with_state}
-use Rattle.rb_rules.specs.Rounds.{Moment, moment, windows_in}
-use Rattle.rb_rules.specs.WorldStep.{Site, World, frame_in, hand}
+use Rattle.std.proofs.{Common.{◌≡◌, ℕ, ◌+◌, ◌*◌, ◌%◌, ◌<◌, ◌≤◌, ◌==◌, nat_lt, Bool, true, false, List, [], ◌∷◌, ◌++◌, length, refl, ap, sym, ◌∙◌, subst, arith, ◌⊎◌, inl, inr, Option, Some, None, slice_get, if◌then◌else◌}, lemmas.Bool.eqb-true, lemmas.Bool.Decides.nat_tests, lemmas.Nat.mul-le, lemmas.Option.slice_get_within}
+use Rattle.rb_base.specs.{Nodes.Side, Nodes.Side.Biu, declared.values.Place.Place}
+use Rattle.rb_rules.specs.{Book.{Book, of_kind}, Book.Milestone.{Begin, Stage, End}, Goodness.{Scenario, is_good}, Lawful.IsLawful, Moments.IsRunning, Ports.{HandIn, with_state}, Rounds.{Moment, moment, windows_in}, WorldStep.{Site, World, frame_in, hand}}
 use Rattle.rb_laws_agreement.proofs.PortLists.{with-state-long}
 use Rattle.rb_laws_events.specs.Closing.{stages_in}
-use Rattle.rb_laws_events.proofs.Behind.{begins-at}
-use Rattle.rb_laws_events.proofs.HandedIn.{AreEarly, passed-handed, port-handed, sites-handed, tell-handed, told-handed}
-use Rattle.rb_laws_events.proofs.HandedMoments.{Alike, handed-alike}
-use Rattle.rb_laws_events.proofs.MomentBooks.{next_of, number-of, place_at, settles-next, SettlesNext}
-use Rattle.rb_laws_events.proofs.NodeActs.{HasRoom}
-use Rattle.rb_laws_events.proofs.ToldSoFar.{so-far-handed}
-use Rattle.rb_laws_events.proofs.OneEvent.{WorldInRounds}
-use Rattle.rb_laws_events.proofs.RoundNodes.{slot_numbered}
-use Rattle.rb_laws_events.proofs.SameHeard.{Every}
-use Rattle.rb_laws_events.proofs.SettlingFrames.{IsOfMoment, RunsIn, runs-in}
-use Rattle.rb_laws_events.proofs.Waiting.{AfterRecord}
+use Rattle.rb_laws_events.proofs.{Behind.begins-at, HandedIn.{AreEarly, passed-handed, port-handed, sites-handed, tell-handed, told-handed}, HandedMoments.{Alike, handed-alike}, MomentBooks.{next_of, number-of, place_at, settles-next, SettlesNext}, NodeActs.HasRoom, ToldSoFar.so-far-handed, OneEvent.WorldInRounds, RoundNodes.slot_numbered, SameHeard.Every, SettlingFrames.{IsOfMoment, RunsIn, runs-in}, Waiting.AfterRecord}
 
 -- a book that settles a frame's first stage next is that of the frame's first moment
 at-first : (sc : Scenario) (hands : List HandIn) (b : Book) (frame : ℕ) → 1 ≤ sc.sizes.bius → IsOfMoment sc hands b → b.ended ≡ false

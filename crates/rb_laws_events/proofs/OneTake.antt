@@ -1,40 +1,11 @@
 -- For the law that events are rounds: one due event keeps the whole invariant, as long as the nodes
 -- are in time where they stand and where the node of the event stands next.
-use Rattle.std.proofs.Common.{◌≡◌, ℕ, zero, suc, ◌<◌, ◌≤◌, ◌&&◌, not, Bool, true, false, List, length, refl, ap, sym, ◌∙◌, subst, arith, Option, Some, None, slice_get}
-use Rattle.std.proofs.lemmas.Option.{same_Some}
+use Rattle.std.proofs.{Common.{◌≡◌, ℕ, zero, suc, ◌<◌, ◌≤◌, ◌&&◌, not, Bool, true, false, List, length, refl, ap, sym, ◌∙◌, subst, arith, Option, Some, None, slice_get}, lemmas.Option.same_Some}
 use Rattle.rb_base.specs.Nodes.{Side, other}
-use Rattle.rb_rules.specs.Book.{Book, Record, of_kind}
-use Rattle.rb_rules.specs.Goodness.{Scenario, clock_of, is_good}
-use Rattle.rb_rules.specs.Lawful.{IsLawful}
-use Rattle.rb_rules.specs.Ports.{HandIn}
-use Rattle.rb_rules.specs.Rounds.{moment}
-use Rattle.rb_rules.specs.Clock.{time_of}
-use Rattle.rb_rules.specs.Slots.{count_of}
+use Rattle.rb_rules.specs.{Book.{Book, Record, of_kind}, Goodness.{Scenario, clock_of, is_good}, Lawful.IsLawful, Ports.HandIn, Rounds.moment, Clock.time_of, Slots.count_of, WorldStep.{Due, Pending, Site, Timed, Way, World, due_of, happens, is_complete, needs_no_event, record_since, settle, settle_next, take, take_if_due, with_act, with_pending}, WorldStep.Pending.{Tick, Arrival}, WorldStep.Way.ByAnEvent}
 use Rattle.rb_laws_events.specs.Closing.{stages_in}
-use Rattle.rb_laws_events.proofs.Behind.{WaitsAt, closes-before, runs-there, waits-at}
-use Rattle.rb_laws_events.proofs.Pace.{Bound, IsWithin, Paced, event-paced}
-use Rattle.rb_laws_events.proofs.ToldSoFar.{AllHaveTold}
-use Rattle.rb_laws_events.proofs.UpToThere.{UpTo}
-use Rattle.rb_rules.specs.WorldStep.{Due, Pending, Site, Timed, Way, World, due_of, happens, is_complete, needs_no_event, record_since, settle, settle_next, take, take_if_due, with_act, with_pending}
-use Rattle.rb_rules.specs.WorldStep.Pending.{Tick, Arrival}
-use Rattle.rb_rules.specs.WorldStep.Way.{ByAnEvent}
+use Rattle.rb_laws_events.proofs.{Behind.{WaitsAt, closes-before, runs-there, waits-at}, Pace.{Bound, IsWithin, Paced, event-paced}, ToldSoFar.AllHaveTold, UpToThere.UpTo, Completing.event-settled, SettledOnce.{Settled, next-eta}, DueEvents.{IsDue, IsReady}, NodeActs.HasRoom, Invariant.is_good_at, MomentSteps.{NextIsStage, next-is-stage}, PortsInRounds.{AllHanded, PortsStand}, RoundNodes.{item-at, slot_numbered}, SettlingFrames.{IsOfMoment, TellRounds, all-settled, next-hands}, Timing.{AreInTime, HavePassed}, ToldInOrder.AllTold, Waiting.is_due, WorldBooks.happens-book, WorldNodes.settle-sites, WorldStands.{AllPend, IsUp, SitesStand, sent_by}, OneEvent.{AfterEvent, ClosesEarlier, MayHappen, WorldInRounds, all-pend, happens-is, pending-happens, up-there}}
 use Rattle.rb_laws_agreement.proofs.Goodnesses.{good_counts}
-use Rattle.rb_laws_events.proofs.Completing.{event-settled}
-use Rattle.rb_laws_events.proofs.SettledOnce.{Settled, next-eta}
-use Rattle.rb_laws_events.proofs.DueEvents.{IsDue, IsReady}
-use Rattle.rb_laws_events.proofs.NodeActs.{HasRoom}
-use Rattle.rb_laws_events.proofs.Invariant.{is_good_at}
-use Rattle.rb_laws_events.proofs.MomentSteps.{NextIsStage, next-is-stage}
-use Rattle.rb_laws_events.proofs.PortsInRounds.{AllHanded, PortsStand}
-use Rattle.rb_laws_events.proofs.RoundNodes.{item-at, slot_numbered}
-use Rattle.rb_laws_events.proofs.SettlingFrames.{IsOfMoment, TellRounds, all-settled, next-hands}
-use Rattle.rb_laws_events.proofs.Timing.{AreInTime, HavePassed}
-use Rattle.rb_laws_events.proofs.ToldInOrder.{AllTold}
-use Rattle.rb_laws_events.proofs.Waiting.{is_due}
-use Rattle.rb_laws_events.proofs.WorldBooks.{happens-book}
-use Rattle.rb_laws_events.proofs.WorldNodes.{settle-sites}
-use Rattle.rb_laws_events.proofs.WorldStands.{AllPend, IsUp, SitesStand, sent_by}
-use Rattle.rb_laws_events.proofs.OneEvent.{AfterEvent, ClosesEarlier, MayHappen, WorldInRounds, all-pend, happens-is, pending-happens, up-there}
 
 pub settle-hands : (sc : Scenario) (way : Way) (n : ℕ) (w : World) → (settle sc way n w).hands ≡ w.hands
 settle-hands sc way zero w = refl

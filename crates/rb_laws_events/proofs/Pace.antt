@@ -1,33 +1,13 @@
 -- For the law that events are rounds: no node is beyond the stage after that which the book waits
 -- for, and what it waits for is not complete. Whatever is settled keeps it so.
-use Rattle.std.proofs.Common.{◌≡◌, ℕ, zero, suc, ◌+◌, ◌*◌, ◌<◌, ◌≤◌, ◌==◌, ◌&&◌, ◌⊎◌, not, nat_lt, if◌then◌else◌, Bool, true, false, List, [], ◌∷◌, ◌++◌, length, refl, ap, sym, ◌∙◌, subst, arith, inl, inr, Option, Some, None, slice_get}
+use Rattle.std.proofs.{Common.{◌≡◌, ℕ, zero, suc, ◌+◌, ◌*◌, ◌<◌, ◌≤◌, ◌==◌, ◌&&◌, ◌⊎◌, not, nat_lt, if◌then◌else◌, Bool, true, false, List, [], ◌∷◌, ◌++◌, length, refl, ap, sym, ◌∙◌, subst, arith, inl, inr, Option, Some, None, slice_get}, lemmas.Bool.{and_parts, eqb-true, le-ltb, ltb-true}, lemmas.List.append-nil}
 use Rattle.std.specs.Prelude.{⊤}
-use Rattle.std.proofs.lemmas.Bool.{and_parts, eqb-true, le-ltb, ltb-true}
-use Rattle.std.proofs.lemmas.List.{append-nil}
-use Rattle.rb_base.specs.Nodes.{Side}
-use Rattle.rb_base.specs.Sizes.{IsShape, Sizes, sync_slot_of}
-use Rattle.rb_base.specs.declared.values.Place.{Place}
+use Rattle.rb_base.specs.{Nodes.Side, Sizes.{IsShape, Sizes, sync_slot_of}, declared.values.Place.Place}
 use Rattle.rb_base.proofs.Plain.{true-false}
-use Rattle.rb_rules.specs.Book.{Begun, Book, Each, Milestone, Record, Row, after_stage, after_verdict, frame_records, judged_of, of_kind, with_frame, with_stage}
-use Rattle.rb_rules.specs.Book.Milestone.{Begin, Stage, End}
-use Rattle.rb_rules.specs.declared.cause.Cause.{Cause}
-use Rattle.rb_rules.specs.Judging.{verdict_of}
-use Rattle.rb_rules.specs.Goodness.{Scenario}
-use Rattle.rb_rules.specs.Ports.{HandIn}
-use Rattle.rb_rules.specs.Rounds.{windows_in}
-use Rattle.rb_rules.specs.Slots.{count_of}
-use Rattle.rb_rules.specs.WorldStep.{Site, Way, World, book_with, comes_so, is_complete, needs_no_event, nobody_good, record_since, row_for, settle, settle_next}
-use Rattle.rb_rules.specs.WorldStep.Way.{ByAnEvent, ByItself}
+use Rattle.rb_rules.specs.{Book.{Begun, Book, Each, Milestone, Record, Row, after_stage, after_verdict, frame_records, judged_of, of_kind, with_frame, with_stage}, Book.Milestone.{Begin, Stage, End}, declared.cause.Cause.Cause, Judging.verdict_of, Goodness.Scenario, Ports.HandIn, Rounds.windows_in, Slots.count_of, WorldStep.{Site, Way, World, book_with, comes_so, is_complete, needs_no_event, nobody_good, record_since, row_for, settle, settle_next}, WorldStep.Way.{ByAnEvent, ByItself}}
 use Rattle.rb_rules.proofs.Books.{GoesOn}
-use Rattle.rb_laws_agreement.proofs.Agreement.{ended-end}
-use Rattle.rb_laws_agreement.proofs.Goodnesses.{good_before, good_counts}
-use Rattle.rb_laws_events.proofs.MomentBooks.{stage-book-next}
-use Rattle.rb_laws_events.proofs.RoundNodes.{item-at}
-use Rattle.rb_laws_events.proofs.ToldInOrder.{AllTold, number_at}
-use Rattle.rb_laws_events.proofs.Untold.{no-row, nobody, somebody}
-use Rattle.rb_laws_events.proofs.Waiting.{untold}
-use Rattle.rb_laws_events.proofs.WorldBooks.{book-on, none-past}
-use Rattle.rb_laws_events.proofs.WorldNodes.{next-sites}
+use Rattle.rb_laws_agreement.proofs.{Agreement.ended-end, Goodnesses.{good_before, good_counts}}
+use Rattle.rb_laws_events.proofs.{MomentBooks.stage-book-next, RoundNodes.item-at, ToldInOrder.{AllTold, number_at}, Untold.{no-row, nobody, somebody}, Waiting.untold, WorldBooks.{book-on, none-past}, WorldNodes.next-sites}
 
 -- Numbers.
 

@@ -1,16 +1,8 @@
 -- For the law that events are rounds: what has come of a source for the open window, what is
 -- pending of it, and what was sent: how an arrival keeps them together.
-use Rattle.std.proofs.Common.{◌≡◌, ℕ, zero, suc, ◌+◌, ◌<◌, ◌≤◌, ◌^◌, ◌==◌, ◌&&◌, not, nat_lt, nat_le, Bool, true, false, List, [], ◌∷◌, ◌++◌, map, filter, remove, length, length-append, refl, sym, ◌∙◌, ap, subst, arith, cond}
-use Rattle.std.proofs.lemmas.Bool.Decides.{nat_tests}
-use Rattle.std.proofs.lemmas.List.{append-nil}
-use Rattle.rb_base.specs.Nodes.{Side, other}
-use Rattle.rb_base.specs.Sizes.{Sizes}
-use Rattle.rb_rules.specs.Clock.{Timeline, stamp_of}
-use Rattle.rb_rules.specs.Core.{Core, arrive, is_spent}
-use Rattle.rb_rules.specs.Hearing.{Coming}
-use Rattle.rb_rules.specs.Sense.{Arrival}
-use Rattle.rb_rules.specs.Slots.{count_of}
-use Rattle.rb_rules.specs.WorldStep.{coming_from}
+use Rattle.std.proofs.{Common.{◌≡◌, ℕ, zero, suc, ◌+◌, ◌<◌, ◌≤◌, ◌^◌, ◌==◌, ◌&&◌, not, nat_lt, nat_le, Bool, true, false, List, [], ◌∷◌, ◌++◌, map, filter, remove, length, length-append, refl, sym, ◌∙◌, ap, subst, arith, cond}, lemmas.Bool.Decides.nat_tests, lemmas.List.append-nil}
+use Rattle.rb_base.specs.{Nodes.{Side, other}, Sizes.Sizes}
+use Rattle.rb_rules.specs.{Clock.{Timeline, stamp_of}, Core.{Core, arrive, is_spent}, Hearing.Coming, Sense.Arrival, Slots.count_of, WorldStep.coming_from}
 use Rattle.rb_laws_events.proofs.SameHeard.{IsOneOf, Every, AllOf, kept_as}
 
 -- `c` comes from source `j`: by time `t`, and in `is_later` after it

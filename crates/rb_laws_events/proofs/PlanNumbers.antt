@@ -1,12 +1,8 @@
 -- For the law on the order of closes: what a feasible plan says on natural numbers.
-use Rattle.std.proofs.Common.{◌≡◌, ℕ, ◌+◌, ◌*◌, ◌-◌, ◌<◌, ◌≤◌, min, max, ap, ◌∙◌, subst, arith}
+use Rattle.std.proofs.{Common.{◌≡◌, ℕ, ◌+◌, ◌*◌, ◌-◌, ◌<◌, ◌≤◌, min, max, ap, ◌∙◌, subst, arith}, Math.IntN.pos-*ℤ-pos, Math.Nat.{add-mul, mul-add}, lemmas.Int.ints}
 use Rattle.std.specs.Prelude.{pos, ◌-ℤ◌, ◌*ℤ◌, ◌≤ℤ◌}
-use Rattle.std.proofs.Math.IntN.{pos-*ℤ-pos}
-use Rattle.std.proofs.Math.Nat.{add-mul, mul-add}
-use Rattle.std.proofs.lemmas.Int.{ints}
 use Rattle.rb_base.specs.Sizes.{Sizes}
-use Rattle.rb_rules.specs.declared.plan.Plan.{Plan}
-use Rattle.rb_rules.specs.Plan.{IsFeasible, IsPlan, Sides, drift_in, longest_of, next_skew_of, shortest_of, skew_of}
+use Rattle.rb_rules.specs.{declared.plan.Plan.Plan, Plan.{IsFeasible, IsPlan, Sides, drift_in, longest_of, next_skew_of, shortest_of, skew_of}}
 use Rattle.rb_rules.proofs.Lawfulness.{SendsInside, sends_inside_all}
 use Rattle.rb_laws_synchrony.proofs.PlanNumbers.{enough}
 

@@ -1,31 +1,11 @@
 -- For the law that events are rounds: the ports of a world and those of the rounds: the words that
 -- they offer, and what is delivered to them.
-use Rattle.std.proofs.Common.{◌≡◌, ℕ, suc, ◌<◌, ◌==◌, ◌≢◌, List, [], length, refl, ap, ◌∙◌, arith, Option, Some, None, slice_get, get_or, option_map, option_and_then}
-use Rattle.std.proofs.lemmas.Bool.{lt-ltb}
-use Rattle.std.proofs.lemmas.List.{get_or-set_same, get_or-set_other}
-use Rattle.std.proofs.lemmas.Option.{get_or_from_slice_get}
-use Rattle.rb_base.specs.Nodes.{Side}
-use Rattle.rb_base.specs.Nodes.Side.{Biu, Rmu}
-use Rattle.rb_base.specs.declared.values.Delivery.{Delivery}
-use Rattle.rb_rules.specs.declared.record.SlotLine.{SlotLine}
-use Rattle.rb_rules.specs.declared.role.Role.{Role}
-use Rattle.rb_rules.specs.declared.role.Role.TheVariants.{Schedule, Data, DiagBiu, DiagRmu, Sync}
-use Rattle.rb_rules.specs.Book.{Row, line_in, map_each, of_kind}
-use Rattle.rb_rules.specs.ExactStage.{says}
-use Rattle.rb_rules.specs.Goodness.{Scenario}
-use Rattle.rb_rules.specs.Hearing.{Coming, port_at, row_of, word_for}
-use Rattle.rb_rules.specs.declared.closing.Closed.{Closed}
-use Rattle.rb_rules.specs.NodeState.{NodeState}
-use Rattle.rb_rules.specs.Ports.{HandIn, PortState, delivered_to, offered_at}
-use Rattle.rb_rules.specs.Rounds.{Moment, Result, after_window, go_through, moment, port_after, ports_after, results_of, sent_in, step, window_in, windows_in}
-use Rattle.rb_rules.specs.Slots.{role_of}
-use Rattle.rb_rules.specs.WorldStep.{with_delivery}
-use Rattle.rb_rules.proofs.Books.{stepped}
-use Rattle.rb_rules.proofs.WindowNumbers.{get-each}
+use Rattle.std.proofs.{Common.{◌≡◌, ℕ, suc, ◌<◌, ◌==◌, ◌≢◌, List, [], length, refl, ap, ◌∙◌, arith, Option, Some, None, slice_get, get_or, option_map, option_and_then}, lemmas.Bool.lt-ltb, lemmas.List.{get_or-set_same, get_or-set_other}, lemmas.Option.get_or_from_slice_get}
+use Rattle.rb_base.specs.{Nodes.Side, Nodes.Side.{Biu, Rmu}, declared.values.Delivery.Delivery}
+use Rattle.rb_rules.specs.{declared.record.SlotLine.SlotLine, declared.role.Role.Role, declared.role.Role.TheVariants.{Schedule, Data, DiagBiu, DiagRmu, Sync}, Book.{Row, line_in, map_each, of_kind}, ExactStage.says, Goodness.Scenario, Hearing.{Coming, port_at, row_of, word_for}, declared.closing.Closed.Closed, NodeState.NodeState, Ports.{HandIn, PortState, delivered_to, offered_at}, Rounds.{Moment, Result, after_window, go_through, moment, port_after, ports_after, results_of, sent_in, step, window_in, windows_in}, Slots.role_of, WorldStep.with_delivery}
+use Rattle.rb_rules.proofs.{Books.stepped, WindowNumbers.get-each}
 use Rattle.rb_laws_agreement.proofs.PortLists.{port-after, ports_long}
-use Rattle.rb_laws_events.proofs.Invariant.{word_at}
-use Rattle.rb_laws_events.proofs.NodeActs.{HasWord}
-use Rattle.rb_laws_events.proofs.NodeWords.{from-says, rmu-words}
+use Rattle.rb_laws_events.proofs.{Invariant.word_at, NodeActs.HasWord, NodeWords.{from-says, rmu-words}}
 
 -- Words.
 

@@ -1,23 +1,11 @@
 -- For the law that running ports agree: between two deliveries the port of a running BIU is that of
 -- the rounds after the slot.
-use Rattle.std.proofs.Common.{◌≡◌, ℕ, ◌+◌, ◌<◌, true, ap, sym, ◌∙◌, arith, inl, inr, ◌⊎◌, List}
-use Rattle.std.proofs.lemmas.Bool.{cases_lt}
+use Rattle.std.proofs.{Common.{◌≡◌, ℕ, ◌+◌, ◌<◌, true, ap, sym, ◌∙◌, arith, inl, inr, ◌⊎◌, List}, lemmas.Bool.cases_lt}
 use Rattle.rb_base.specs.Nodes.Side.{Biu}
-use Rattle.rb_rules.specs.declared.plan.Window.{Window}
-use Rattle.rb_rules.specs.Goodness.{Scenario, is_good}
-use Rattle.rb_rules.specs.Hearing.{port_at}
-use Rattle.rb_rules.specs.Lawful.{IsLawful}
-use Rattle.rb_rules.specs.Moments.{IsRunning, after_slot, before_slot, before_stage}
-use Rattle.rb_rules.specs.Rounds.{Moment}
-use Rattle.rb_rules.specs.WorldStep.{Choice, World, world_after}
-use Rattle.rb_laws_agreement.proofs.PortHistories.{begun-port, ports_alike, ports_follow}
-use Rattle.rb_laws_agreement.proofs.Goodnesses.{good_counts, good_earlier}
-use Rattle.rb_laws_agreement.proofs.FrameBegins.{reached}
-use Rattle.rb_laws_events.specs.OwnMoments.{FollowsTheRounds, HasItsPort, HoldsItsState, HoldsTheRounds, IsBeforeTheBreak, RunningNode, moment_of}
-use Rattle.rb_laws_events.specs.RunningNodes.{IsAfterDelivery, RunningPortsAgreeInLawful, RunningPortsFollowTheBus, StandsAfterSlot, StandsAtBegin, window_of}
-use Rattle.rb_laws_events.proofs.CoresHold.{cores-hold}
-use Rattle.rb_laws_events.proofs.CoresPast.{cores-follow}
-use Rattle.rb_laws_events.proofs.PortsBetween.{before-third, begin-stays, then-first, then-second}
+use Rattle.rb_rules.specs.{declared.plan.Window.Window, Goodness.{Scenario, is_good}, Hearing.port_at, Lawful.IsLawful, Moments.{IsRunning, after_slot, before_slot, before_stage}, Rounds.Moment, WorldStep.{Choice, World, world_after}}
+use Rattle.rb_laws_agreement.proofs.{PortHistories.{begun-port, ports_alike, ports_follow}, Goodnesses.{good_counts, good_earlier}, FrameBegins.reached}
+use Rattle.rb_laws_events.specs.{OwnMoments.{FollowsTheRounds, HasItsPort, HoldsItsState, HoldsTheRounds, IsBeforeTheBreak, RunningNode, moment_of}, RunningNodes.{IsAfterDelivery, RunningPortsAgreeInLawful, RunningPortsFollowTheBus, StandsAfterSlot, StandsAtBegin, window_of}}
+use Rattle.rb_laws_events.proofs.{CoresHold.cores-hold, CoresPast.cores-follow, PortsBetween.{before-third, begin-stays, then-first, then-second}}
 
 -- the BIU is good in the slot, and its port is that after the slot
 record IsAfter {w : World} (sc : Scenario) (frame slot : ℕ) (node : RunningNode w Biu) : Type 0 where

@@ -1,34 +1,11 @@
 -- For the law that running cores agree: between the delivery of a slot and that of the next a port
 -- stays in the rounds.
-use Rattle.std.proofs.Common.{◌≡◌, ℕ, suc, ◌+◌, ◌-◌, ◌*◌, ◌%◌, length, ◌<◌, ◌≤◌, ◌==◌, ◌&&◌, ◌⊎◌, nat_le, Bool, true, false, refl, ap, sym, ◌∙◌, arith, inl, inr, List, None, option_map}
-use Rattle.std.proofs.lemmas.Bool.{cases_lt}
-use Rattle.std.proofs.lemmas.Bool.Decides.{nat_tests}
-use Rattle.rb_base.specs.Nodes.{Side}
-use Rattle.rb_base.specs.Nodes.Side.{Biu}
-use Rattle.rb_base.specs.Sizes.{Sizes, sync_slot_of}
-use Rattle.rb_base.specs.declared.values.Delivery.{Delivery}
-use Rattle.rb_rules.specs.declared.plan.Window.{Window}
-use Rattle.rb_rules.specs.declared.record.SlotLine.{SlotLine}
-use Rattle.rb_rules.specs.declared.sense.Sense.{Sense}
-use Rattle.rb_rules.specs.Book.{line_in, of_kind}
-use Rattle.rb_rules.specs.ExactStage.{Outcome, close_exact, keep_sent, outcome_of}
-use Rattle.rb_rules.specs.Goodness.{Scenario, is_good}
-use Rattle.rb_rules.specs.Hearing.{port_at, row_of}
-use Rattle.rb_rules.specs.Lawful.{IsLawful}
-use Rattle.rb_rules.specs.Moments.{IsComplete, IsRunning, after_slot, before_stage}
-use Rattle.rb_rules.specs.NodeState.{NodeState}
-use Rattle.rb_rules.specs.Ports.{HandIn}
-use Rattle.rb_rules.specs.Rounds.{Moment, Result, close_on, go_through, heard_at, moment, port_after, sent_in, window_in, windows_in, word_for_window}
-use Rattle.rb_rules.specs.Slots.{count_of, role_of}
-use Rattle.rb_rules.specs.SyncStage.{close_sync, sync_outcome_of}
+use Rattle.std.proofs.{Common.{◌≡◌, ℕ, suc, ◌+◌, ◌-◌, ◌*◌, ◌%◌, length, ◌<◌, ◌≤◌, ◌==◌, ◌&&◌, ◌⊎◌, nat_le, Bool, true, false, refl, ap, sym, ◌∙◌, arith, inl, inr, List, None, option_map}, lemmas.Bool.cases_lt, lemmas.Bool.Decides.nat_tests}
+use Rattle.rb_base.specs.{Nodes.Side, Nodes.Side.Biu, Sizes.{Sizes, sync_slot_of}, declared.values.Delivery.Delivery}
+use Rattle.rb_rules.specs.{declared.plan.Window.Window, declared.record.SlotLine.SlotLine, declared.sense.Sense.Sense, Book.{line_in, of_kind}, ExactStage.{Outcome, close_exact, keep_sent, outcome_of}, Goodness.{Scenario, is_good}, Hearing.{port_at, row_of}, Lawful.IsLawful, Moments.{IsComplete, IsRunning, after_slot, before_stage}, NodeState.NodeState, Ports.HandIn, Rounds.{Moment, Result, close_on, go_through, heard_at, moment, port_after, sent_in, window_in, windows_in, word_for_window}, Slots.{count_of, role_of}, SyncStage.{close_sync, sync_outcome_of}}
 use Rattle.rb_rules.proofs.RoundStates.{HasTicks}
-use Rattle.rb_laws_agreement.proofs.Deliveries.{no-delivery}
-use Rattle.rb_laws_agreement.proofs.ExactAgrees.{has_ticks}
-use Rattle.rb_laws_agreement.proofs.Places.{IsPlaced, complete_before, placed}
-use Rattle.rb_laws_events.proofs.MomentBooks.{stage-is-of}
-use Rattle.rb_laws_events.proofs.PortMoments.{port-after-window}
-use Rattle.rb_laws_events.proofs.PortsKept.{still-late}
-use Rattle.rb_laws_events.proofs.RoundNodes.{AllStand, item-at, moments-stand}
+use Rattle.rb_laws_agreement.proofs.{Deliveries.no-delivery, ExactAgrees.has_ticks, Places.{IsPlaced, complete_before, placed}}
+use Rattle.rb_laws_events.proofs.{MomentBooks.stage-is-of, PortMoments.port-after-window, PortsKept.still-late, RoundNodes.{AllStand, item-at, moments-stand}}
 
 gives-none : (sizes : Sizes) (me : Side) (i : ℕ) (st : NodeState) (slot stage first : ℕ) (sense : ℕ → Sense) (b : Bool) → (stage == 2) ≡ false
     → (elim b as (λ _. Outcome) [ true ↦ close_sync sizes me st stage first sense | false ↦ close_exact sizes me i st slot stage sense ]).closed.delivered ≡ None

@@ -1,49 +1,11 @@
 -- For the law that events are rounds: an event keeps the ports of the nodes that run those of the
 -- rounds, and what is handed in is of frames that all good nodes have begun.
-use Rattle.std.proofs.Common.{◌≡◌, ℕ, zero, suc, ◌+◌, ◌*◌, ◌<◌, ◌≤◌, ◌==◌, ◌&&◌, ◌⊎◌, nat_le, Bool, true, false, List, [], ◌∷◌, length, refl, ap, sym, ◌∙◌, subst, arith, inl, inr, Option, Some, None, slice_get, option_and_then, option_map}
-use Rattle.std.proofs.lemmas.Bool.{cases_lt, eqb-true}
-use Rattle.std.proofs.lemmas.Bool.Decides.{nat_tests}
-use Rattle.std.proofs.lemmas.Nat.{mul-le}
-use Rattle.std.proofs.lemmas.Option.{same_Some}
-use Rattle.rb_base.specs.Nodes.{Side}
-use Rattle.rb_base.specs.Nodes.Side.{Biu, Rmu}
-use Rattle.rb_base.specs.Sizes.{sync_slot_of}
-use Rattle.rb_base.specs.declared.values.Delivery.{Delivery}
-use Rattle.rb_rules.specs.declared.closing.Closed.{Closed}
-use Rattle.rb_rules.specs.declared.message.Message.{Message}
-use Rattle.rb_rules.specs.declared.plan.Window.{Window}
-use Rattle.rb_rules.specs.declared.record.Epoch.{Epoch}
-use Rattle.rb_rules.specs.declared.record.SlotLine.{SlotLine}
-use Rattle.rb_rules.specs.declared.sense.Sense.{Sense}
-use Rattle.rb_rules.specs.Book.{Begun, Each, line_in, of_kind}
-use Rattle.rb_rules.specs.Core.{Act}
-use Rattle.rb_rules.specs.ExactStage.{Outcome, close_exact, keep_sent, outcome_of}
-use Rattle.rb_rules.specs.Goodness.{Scenario, is_good}
-use Rattle.rb_rules.specs.Hearing.{Coming, begun_of, port_at, port_line, row_of}
-use Rattle.rb_rules.specs.NodeState.{NodeState}
-use Rattle.rb_rules.specs.Ports.{HandIn, PortState}
-use Rattle.rb_rules.specs.Rounds.{Moment, Result, begin_frame, close_on, go_through, heard_at, moment, sent_in, window_in, windows_in, word_for_window}
-use Rattle.rb_rules.specs.SyncStage.{close_sync, sync_outcome_of}
-use Rattle.rb_rules.specs.WorldStep.{Site, Timed, after_act, at_node, with_delivery, with_message}
+use Rattle.std.proofs.{Common.{◌≡◌, ℕ, zero, suc, ◌+◌, ◌*◌, ◌<◌, ◌≤◌, ◌==◌, ◌&&◌, ◌⊎◌, nat_le, Bool, true, false, List, [], ◌∷◌, length, refl, ap, sym, ◌∙◌, subst, arith, inl, inr, Option, Some, None, slice_get, option_and_then, option_map}, lemmas.Bool.{cases_lt, eqb-true}, lemmas.Bool.Decides.nat_tests, lemmas.Nat.mul-le, lemmas.Option.same_Some}
+use Rattle.rb_base.specs.{Nodes.Side, Nodes.Side.{Biu, Rmu}, Sizes.sync_slot_of, declared.values.Delivery.Delivery}
+use Rattle.rb_rules.specs.{declared.closing.Closed.Closed, declared.message.Message.Message, declared.plan.Window.Window, declared.record.Epoch.Epoch, declared.record.SlotLine.SlotLine, declared.sense.Sense.Sense, Book.{Begun, Each, line_in, of_kind}, Core.Act, ExactStage.{Outcome, close_exact, keep_sent, outcome_of}, Goodness.{Scenario, is_good}, Hearing.{Coming, begun_of, port_at, port_line, row_of}, NodeState.NodeState, Ports.{HandIn, PortState}, Rounds.{Moment, Result, begin_frame, close_on, go_through, heard_at, moment, sent_in, window_in, windows_in, word_for_window}, SyncStage.{close_sync, sync_outcome_of}, WorldStep.{Site, Timed, after_act, at_node, with_delivery, with_message}}
 use Rattle.rb_rules.proofs.RoundStates.{HasTicks}
 use Rattle.rb_laws_agreement.proofs.Goodnesses.{good_counts}
-use Rattle.rb_laws_events.proofs.CloseOrder.{IsWindowLater, frame-later, window-later}
-use Rattle.rb_laws_events.proofs.DueEvents.{every-weaker}
-use Rattle.rb_laws_events.proofs.Invariant.{is_good_at, word_at}
-use Rattle.rb_laws_events.proofs.MomentBooks.{number-of}
-use Rattle.rb_laws_events.proofs.NodeClosing.{ClosesWindow}
-use Rattle.rb_laws_events.proofs.NodeEvents.{begun_after}
-use Rattle.rb_laws_events.proofs.PortMoments.{port-kept}
-use Rattle.rb_laws_events.proofs.PortsKept.{NoneHanded, none-over, port-then, ports-turned}
-use Rattle.rb_laws_events.proofs.RoundNodes.{slot_numbered}
-use Rattle.rb_laws_events.proofs.SameHeard.{Every}
-use Rattle.rb_laws_events.proofs.SettlingFrames.{ports_before}
-use Rattle.rb_laws_events.proofs.ToldInOrder.{AllTold, NodeTold, begun-at, one-changes}
-use Rattle.rb_laws_events.proofs.Telling.{reached-tells}
-use Rattle.rb_laws_events.proofs.Waiting.{HasBegun}
-use Rattle.rb_laws_events.proofs.WorldEvents.{AfterTick}
-use Rattle.rb_laws_events.proofs.WorldStands.{is_node, sent_by}
-use Rattle.rb_laws_events.proofs.WorldTicks.{moved, reached-same}
+use Rattle.rb_laws_events.proofs.{CloseOrder.{IsWindowLater, frame-later, window-later}, DueEvents.every-weaker, Invariant.{is_good_at, word_at}, MomentBooks.number-of, NodeClosing.ClosesWindow, NodeEvents.begun_after, PortMoments.port-kept, PortsKept.{NoneHanded, none-over, port-then, ports-turned}, RoundNodes.slot_numbered, SameHeard.Every, SettlingFrames.ports_before, ToldInOrder.{AllTold, NodeTold, begun-at, one-changes}, Telling.reached-tells, Waiting.HasBegun, WorldEvents.AfterTick, WorldStands.{is_node, sent_by}, WorldTicks.{moved, reached-same}}
 
 -- the ports of the BIUs that run are those of the rounds where they stand
 abbrev pub PortsStand : Scenario → List HandIn → (Side → ℕ → ℕ) → Each Site → List PortState → Type 0

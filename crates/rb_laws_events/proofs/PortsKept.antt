@@ -1,40 +1,12 @@
 -- For the law that events are rounds: the port of a BIU that closes a window is that of the rounds
 -- in the moment where the node stands then.
-use Rattle.std.proofs.Common.{◌≡◌, ℕ, suc, ◌+◌, ◌-◌, ◌*◌, ◌<◌, ◌≤◌, ◌==◌, ◌&&◌, ◌⊎◌, nat_le, nat_lt, Bool, true, false, List, [], ◌∷◌, length, refl, ap, sym, ◌∙◌, subst, arith, inl, inr, Option, Some, None, slice_get, option_and_then, option_map, if◌then◌else◌}
-use Rattle.std.proofs.lemmas.Bool.{cases_lt, lt-ltb, le-ltb}
-use Rattle.rb_base.specs.Nodes.{Side}
-use Rattle.rb_base.specs.Nodes.Side.{Biu, Rmu}
-use Rattle.rb_base.specs.Sizes.{Sizes, sync_slot_of}
-use Rattle.rb_base.specs.declared.values.Delivery.{Delivery}
-use Rattle.rb_base.specs.declared.values.Heard.{Heard}
-use Rattle.rb_rules.specs.declared.closing.Closed.{Closed}
-use Rattle.rb_rules.specs.declared.plan.Window.{Window}
-use Rattle.rb_rules.specs.declared.record.SlotLine.{SlotLine}
-use Rattle.rb_rules.specs.declared.role.Role.{Role}
-use Rattle.rb_rules.specs.declared.role.Role.TheVariants.{Schedule, Data, DiagBiu, DiagRmu, Sync}
-use Rattle.rb_rules.specs.declared.sense.Sense.{Sense}
-use Rattle.rb_rules.specs.Book.{line_in, of_kind}
-use Rattle.rb_rules.specs.ExactStage.{Outcome, close_exact, delivery_of, keep_sent, outcome_of, says}
-use Rattle.rb_rules.specs.Goodness.{Scenario, is_good}
-use Rattle.rb_rules.specs.Hearing.{Coming, port_at, row_of, word_for}
-use Rattle.rb_rules.specs.NodeState.{NodeState}
-use Rattle.rb_rules.specs.Ports.{HandIn, PortState, hand_over, with_state}
-use Rattle.rb_rules.specs.Rounds.{Moment, Result, begin_frame, close_on, go_through, heard_at, moment, port_after, sent_in, step, window_in, windows_in, word_for_window}
-use Rattle.rb_rules.specs.Slots.{Sender, count_of, role_of}
-use Rattle.rb_rules.specs.SyncStage.{close_sync, sync_outcome_of}
-use Rattle.rb_rules.specs.WorldStep.{with_delivery}
-use Rattle.rb_rules.proofs.Books.{stepped}
-use Rattle.rb_rules.proofs.RoundStates.{HasTicks}
-use Rattle.rb_rules.proofs.Slots.{schedule_role, sync_role}
+use Rattle.std.proofs.{Common.{◌≡◌, ℕ, suc, ◌+◌, ◌-◌, ◌*◌, ◌<◌, ◌≤◌, ◌==◌, ◌&&◌, ◌⊎◌, nat_le, nat_lt, Bool, true, false, List, [], ◌∷◌, length, refl, ap, sym, ◌∙◌, subst, arith, inl, inr, Option, Some, None, slice_get, option_and_then, option_map, if◌then◌else◌}, lemmas.Bool.{cases_lt, lt-ltb, le-ltb}}
+use Rattle.rb_base.specs.{Nodes.Side, Nodes.Side.{Biu, Rmu}, Sizes.{Sizes, sync_slot_of}, declared.values.Delivery.Delivery, declared.values.Heard.Heard}
+use Rattle.rb_rules.specs.{declared.closing.Closed.Closed, declared.plan.Window.Window, declared.record.SlotLine.SlotLine, declared.role.Role.Role, declared.role.Role.TheVariants.{Schedule, Data, DiagBiu, DiagRmu, Sync}, declared.sense.Sense.Sense, Book.{line_in, of_kind}, ExactStage.{Outcome, close_exact, delivery_of, keep_sent, outcome_of, says}, Goodness.{Scenario, is_good}, Hearing.{Coming, port_at, row_of, word_for}, NodeState.NodeState, Ports.{HandIn, PortState, hand_over, with_state}, Rounds.{Moment, Result, begin_frame, close_on, go_through, heard_at, moment, port_after, sent_in, step, window_in, windows_in, word_for_window}, Slots.{Sender, count_of, role_of}, SyncStage.{close_sync, sync_outcome_of}, WorldStep.with_delivery}
+use Rattle.rb_rules.proofs.{Books.stepped, RoundStates.HasTicks, Slots.{schedule_role, sync_role}}
 use Rattle.rb_laws_agreement.proofs.NodeWindows.{sync_windows_are}
 use Rattle.rb_laws_events.specs.Closing.{stages_in}
-use Rattle.rb_laws_events.proofs.CloseOrder.{IsFrameLater, IsWindowLater, frame-later, window-later}
-use Rattle.rb_laws_events.proofs.Invariant.{next_stage, word_at}
-use Rattle.rb_laws_events.proofs.NodeActs.{HasWord}
-use Rattle.rb_laws_events.proofs.NodeWords.{from-says}
-use Rattle.rb_laws_events.proofs.PortMoments.{port-after-close, port-after-window}
-use Rattle.rb_laws_events.proofs.RoundNodes.{AllStand, item-at, moments-stand, slot-is, slot_numbered}
-use Rattle.rb_laws_events.proofs.SameHeard.{Every}
+use Rattle.rb_laws_events.proofs.{CloseOrder.{IsFrameLater, IsWindowLater, frame-later, window-later}, Invariant.{next_stage, word_at}, NodeActs.HasWord, NodeWords.from-says, PortMoments.{port-after-close, port-after-window}, RoundNodes.{AllStand, item-at, moments-stand, slot-is, slot_numbered}, SameHeard.Every}
 
 -- What delivers nothing.
 

@@ -1,15 +1,9 @@
 -- For the law that something is due: as long as something is pending, some event is due.
 use Rattle.std.proofs.Common.{◌≡◌, ℕ, ◌≤◌, ◌||◌, false, List, [], ◌∷◌, ◌++◌, flat_map, length, map, refl, ap, ◌∙◌, subst, arith, Option, Some, None, option_map, option_to_list, slice_get}
-use Rattle.rb_base.specs.Nodes.{Side}
-use Rattle.rb_base.specs.Nodes.Side.{Biu, Rmu}
-use Rattle.rb_rules.specs.Book.{in_order, of_kind}
-use Rattle.rb_rules.specs.Goodness.{Scenario}
-use Rattle.rb_rules.specs.Hearing.{Coming}
-use Rattle.rb_rules.specs.WorldStep.{Choice, Due, Site, Timed, World, due_of, least, needs_no_event, times_of, world_after}
+use Rattle.rb_base.specs.{Nodes.Side, Nodes.Side.{Biu, Rmu}}
+use Rattle.rb_rules.specs.{Book.{in_order, of_kind}, Goodness.Scenario, Hearing.Coming, WorldStep.{Choice, Due, Site, Timed, World, due_of, least, needs_no_event, times_of, world_after}}
 use Rattle.rb_laws_events.specs.Laws.{SomethingIsDue}
-use Rattle.rb_laws_events.proofs.DueEvents.{every-at, every-back, every-front, every-unflat, least-none, some-due}
-use Rattle.rb_laws_events.proofs.SameHeard.{Every}
-use Rattle.rb_laws_events.proofs.WorldNodes.{worlds-known}
+use Rattle.rb_laws_events.proofs.{DueEvents.{every-at, every-back, every-front, every-unflat, least-none, some-due}, SameHeard.Every, WorldNodes.worlds-known}
 
 -- some node has a pending tick
 pub record SomePends (w : World) : Type 0 where

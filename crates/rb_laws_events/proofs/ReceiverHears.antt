@@ -1,32 +1,10 @@
 -- For the law that events are rounds: what a tick of one node does at the nodes that hear of it.
-use Rattle.std.proofs.Common.{◌≡◌, ℕ, suc, ◌+◌, ◌-◌, ◌<◌, ◌≤◌, ◌==◌, ◌⊎◌, nat_lt, Bool, true, false, All, List, [], ◌∷◌, ◌++◌, refl, ap, sym, ◌∙◌, subst, arith, inl, inr, if◌then◌else◌}
-use Rattle.std.proofs.lemmas.Bool.{eqb-true}
-use Rattle.std.proofs.lemmas.Bool.Decides.{nat_tests}
-use Rattle.std.proofs.lemmas.List.Elements.{All-head, All-tail}
-use Rattle.std.proofs.Math.Path.{fun_ext}
-use Rattle.rb_base.specs.Nodes.{Side, other}
-use Rattle.rb_base.specs.Sizes.{Sizes}
-use Rattle.rb_base.specs.declared.node.NodeName.{NodeName}
-use Rattle.rb_base.specs.declared.values.Place.{Place}
+use Rattle.std.proofs.{Common.{◌≡◌, ℕ, suc, ◌+◌, ◌-◌, ◌<◌, ◌≤◌, ◌==◌, ◌⊎◌, nat_lt, Bool, true, false, All, List, [], ◌∷◌, ◌++◌, refl, ap, sym, ◌∙◌, subst, arith, inl, inr, if◌then◌else◌}, lemmas.Bool.eqb-true, lemmas.Bool.Decides.nat_tests, lemmas.List.Elements.{All-head, All-tail}, Math.Path.fun_ext}
+use Rattle.rb_base.specs.{Nodes.{Side, other}, Sizes.Sizes, declared.node.NodeName.NodeName, declared.values.Place.Place}
 use Rattle.rb_base.proofs.Plain.{differs-turned, eq_self}
-use Rattle.rb_rules.specs.declared.link.Rule.{Rule}
-use Rattle.rb_rules.specs.Clock.{time_of}
-use Rattle.rb_rules.specs.Goodness.{Scenario, clock_of}
-use Rattle.rb_rules.specs.Hearing.{Coming, Sending, coming_of, said_by, span_of}
-use Rattle.rb_rules.specs.Lawful.{IsLawful, IsRuleOf}
-use Rattle.rb_rules.specs.Links.{applies, delay_after, delay_of, name_of}
-use Rattle.rb_rules.specs.NodeState.{NodeState}
-use Rattle.rb_rules.specs.Ports.{HandIn}
-use Rattle.rb_rules.specs.Rounds.{Moment, moment, window_in, windows_in}
+use Rattle.rb_rules.specs.{declared.link.Rule.Rule, Clock.time_of, Goodness.{Scenario, clock_of}, Hearing.{Coming, Sending, coming_of, said_by, span_of}, Lawful.{IsLawful, IsRuleOf}, Links.{applies, delay_after, delay_of, name_of}, NodeState.NodeState, Ports.HandIn, Rounds.{Moment, moment, window_in, windows_in}, Slots.count_of, WorldStep.{Timed, Site}}
 use Rattle.rb_laws_events.specs.Closing.{stages_in}
-use Rattle.rb_rules.specs.Slots.{count_of}
-use Rattle.rb_rules.specs.WorldStep.{Timed, Site}
-use Rattle.rb_laws_events.proofs.Invariant.{NodeStands, ahead_so_far, entry_of, heard_so_far, is_good_at, last_tick, next_stage}
-use Rattle.rb_laws_events.proofs.PendingLists.{Hears}
-use Rattle.rb_laws_events.proofs.Receiving.{Receives}
-use Rattle.rb_laws_events.proofs.SameHeard.{Every}
-use Rattle.rb_laws_events.proofs.SendingLists.{say-next, say-now, say-other}
-use Rattle.rb_laws_events.proofs.WorldNodes.{known-append}
+use Rattle.rb_laws_events.proofs.{Invariant.{NodeStands, ahead_so_far, entry_of, heard_so_far, is_good_at, last_tick, next_stage}, PendingLists.Hears, Receiving.Receives, SameHeard.Every, SendingLists.{say-next, say-now, say-other}, WorldNodes.known-append}
 
 -- Delays.
 

@@ -1,20 +1,10 @@
 -- For the law that events are rounds: a node in an open window: what was sent to it so far has come
 -- or is pending, and its next busy tick is pending. An arrival keeps it so.
-use Rattle.std.proofs.Common.{◌≡◌, ℕ, zero, suc, ◌^◌, ◌<◌, ◌≤◌, List, [], ◌∷◌, map, remove, refl, sym, ◌∙◌, subst, arith, inl, inr, Some}
-use Rattle.std.proofs.lemmas.Bool.{cases_lt}
+use Rattle.std.proofs.{Common.{◌≡◌, ℕ, zero, suc, ◌^◌, ◌<◌, ◌≤◌, List, [], ◌∷◌, map, remove, refl, sym, ◌∙◌, subst, arith, inl, inr, Some}, lemmas.Bool.cases_lt}
 use Rattle.rb_base.specs.Nodes.{Side, other}
-use Rattle.rb_rules.specs.Clock.{Timeline, time_of, stamp_of, IsStamp}
-use Rattle.rb_rules.specs.Core.{Core, arrive, pass_to}
-use Rattle.rb_rules.specs.Goodness.{Scenario, clock_of}
-use Rattle.rb_rules.specs.Hearing.{Coming}
-use Rattle.rb_rules.specs.Slots.{count_of}
-use Rattle.rb_rules.specs.WorldStep.{Timed, Site, after_arrival}
-use Rattle.rb_rules.proofs.Drift.{times_rise_to}
-use Rattle.rb_rules.proofs.QuietTicks.{IsNext, arrive-same, passed-next}
-use Rattle.rb_rules.proofs.Stamps.{Moves, stamp_of-is, stamp_le}
-use Rattle.rb_laws_events.proofs.PendingLists.{Hears, StandsAt, arrival-keeps, inbox-keeps}
-use Rattle.rb_laws_events.proofs.SameHeard.{Every, kept_as}
-use Rattle.rb_laws_events.proofs.SayLists.{every-to}
+use Rattle.rb_rules.specs.{Clock.{Timeline, time_of, stamp_of, IsStamp}, Core.{Core, arrive, pass_to}, Goodness.{Scenario, clock_of}, Hearing.Coming, Slots.count_of, WorldStep.{Timed, Site, after_arrival}}
+use Rattle.rb_rules.proofs.{Drift.times_rise_to, QuietTicks.{IsNext, arrive-same, passed-next}, Stamps.{Moves, stamp_of-is, stamp_le}}
+use Rattle.rb_laws_events.proofs.{PendingLists.{Hears, StandsAt, arrival-keeps, inbox-keeps}, SameHeard.{Every, kept_as}, SayLists.every-to}
 
 -- node i of kind me in an open window, of which this is the last tick. `sent` gives what was sent
 -- to it of each source for the window so far, `next` what was sent for the one after it; `now` is

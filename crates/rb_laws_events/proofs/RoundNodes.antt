@@ -1,27 +1,10 @@
 -- For the law that events are rounds: in every moment of the rounds each good node is in the
 -- moment's frame, and knows the middles of the windows passed.
-use Rattle.std.proofs.Common.{◌≡◌, ℕ, zero, suc, ◌+◌, ◌-◌, ◌*◌, ◌/◌, ◌<◌, ◌≤◌, ◌==◌, nat_lt, min, Bool, true, false, List, [], ◌∷◌, length, refl, subst, inl, inr, sym, ◌∙◌, ap, arith, Option, Some, None, slice_get, is_some}
-use Rattle.std.proofs.lemmas.Bool.{cases_lt}
-use Rattle.std.proofs.lemmas.Bool.Decides.{nat_tests}
-use Rattle.std.proofs.lemmas.Option.{same_Some}
-use Rattle.rb_base.specs.Nodes.{Side}
-use Rattle.rb_base.specs.Sizes.{Sizes, sync_slot_of}
-use Rattle.rb_rules.specs.declared.plan.Plan.{Plan}
-use Rattle.rb_rules.specs.Book.{Book, of_kind, each_of}
-use Rattle.rb_rules.specs.Conviction.{turn}
-use Rattle.rb_rules.specs.Goodness.{Scenario, is_good}
-use Rattle.rb_rules.specs.Hearing.{window_numbered}
-use Rattle.rb_rules.specs.NodeState.{NodeState, first_state}
-use Rattle.rb_rules.specs.NodeSteps.{turn_if_known}
-use Rattle.rb_rules.specs.Ports.{HandIn}
-use Rattle.rb_rules.specs.Rounds.{Moment, Result, window_in, sent_in, go_through, results_of, after_window, begin_frame, next_frame, first_moment, step, moment, windows_in}
-use Rattle.rb_rules.specs.Slots.{count_of}
-use Rattle.rb_rules.specs.SyncStage.{new_epoch_of}
-use Rattle.rb_rules.proofs.Books.{stepped}
-use Rattle.rb_rules.proofs.RoundStates.{state-after, state-turned, through-stays, Knows, knows-none, HasTicks, numbered-knows}
-use Rattle.rb_rules.proofs.WindowNumbers.{length-each, get-made, exact-numbered, sync-numbered}
-use Rattle.rb_laws_agreement.proofs.Goodnesses.{good_before, good_counts, good_earlier}
-use Rattle.rb_laws_agreement.proofs.FrameAgrees.{epoch-known}
+use Rattle.std.proofs.{Common.{◌≡◌, ℕ, zero, suc, ◌+◌, ◌-◌, ◌*◌, ◌/◌, ◌<◌, ◌≤◌, ◌==◌, nat_lt, min, Bool, true, false, List, [], ◌∷◌, length, refl, subst, inl, inr, sym, ◌∙◌, ap, arith, Option, Some, None, slice_get, is_some}, lemmas.Bool.cases_lt, lemmas.Bool.Decides.nat_tests, lemmas.Option.same_Some}
+use Rattle.rb_base.specs.{Nodes.Side, Sizes.{Sizes, sync_slot_of}}
+use Rattle.rb_rules.specs.{declared.plan.Plan.Plan, Book.{Book, of_kind, each_of}, Conviction.turn, Goodness.{Scenario, is_good}, Hearing.window_numbered, NodeState.{NodeState, first_state}, NodeSteps.turn_if_known, Ports.HandIn, Rounds.{Moment, Result, window_in, sent_in, go_through, results_of, after_window, begin_frame, next_frame, first_moment, step, moment, windows_in}, Slots.count_of, SyncStage.new_epoch_of}
+use Rattle.rb_rules.proofs.{Books.stepped, RoundStates.{state-after, state-turned, through-stays, Knows, knows-none, HasTicks, numbered-knows}, WindowNumbers.{length-each, get-made, exact-numbered, sync-numbered}}
+use Rattle.rb_laws_agreement.proofs.{Goodnesses.{good_before, good_counts, good_earlier}, FrameAgrees.epoch-known}
 use Rattle.rb_laws_events.proofs.WorldNodes.{first-counts}
 
 -- Places.

@@ -1,43 +1,12 @@
 -- For the law that events are rounds: in a run that has not ended good nodes are in time.
-use Rattle.std.proofs.Common.{◌≡◌, ℕ, suc, ◌+◌, ◌*◌, ◌≤◌, ◌<◌, true, List, refl, ap, sym, ◌∙◌, subst, arith, inl, inr, Some, slice_get}
-use Rattle.std.proofs.lemmas.Bool.{cases_lt}
-use Rattle.std.proofs.lemmas.Option.{same_Some}
-use Rattle.rb_base.specs.Nodes.{Side, other}
-use Rattle.rb_base.specs.Sizes.{Sizes, sync_slot_of}
-use Rattle.rb_rules.specs.declared.plan.Plan.{Plan}
-use Rattle.rb_rules.specs.declared.plan.Window.{Window}
-use Rattle.rb_rules.specs.Book.{of_kind, with_frame}
-use Rattle.rb_rules.specs.Clock.{time_of}
-use Rattle.rb_rules.specs.Goodness.{Scenario, clock_of}
-use Rattle.rb_rules.specs.Hearing.{window_numbered}
-use Rattle.rb_rules.specs.Lawful.{IsLawful}
-use Rattle.rb_rules.specs.Moments.{IsRunning}
-use Rattle.rb_rules.specs.NodeState.{NodeState}
-use Rattle.rb_rules.specs.Plan.{tail_start_of}
-use Rattle.rb_rules.specs.Ports.{HandIn}
-use Rattle.rb_rules.specs.Rounds.{Moment, begin_frame, moment}
+use Rattle.std.proofs.{Common.{◌≡◌, ℕ, suc, ◌+◌, ◌*◌, ◌≤◌, ◌<◌, true, List, refl, ap, sym, ◌∙◌, subst, arith, inl, inr, Some, slice_get}, lemmas.Bool.cases_lt, lemmas.Option.same_Some}
+use Rattle.rb_base.specs.{Nodes.{Side, other}, Sizes.{Sizes, sync_slot_of}}
+use Rattle.rb_rules.specs.{declared.plan.Plan.Plan, declared.plan.Window.Window, Book.{of_kind, with_frame}, Clock.time_of, Goodness.{Scenario, clock_of}, Hearing.window_numbered, Lawful.IsLawful, Moments.IsRunning, NodeState.NodeState, Plan.tail_start_of, Ports.HandIn, Rounds.{Moment, begin_frame, moment}}
 use Rattle.rb_rules.proofs.RoundStates.{HasTicks}
-use Rattle.rb_laws_agreement.proofs.Places.{running_earlier}
-use Rattle.rb_laws_synchrony.proofs.CallTicks.{all_know_next}
-use Rattle.rb_laws_synchrony.proofs.StageCalls.{clock_now}
-use Rattle.rb_laws_synchrony.proofs.SyncLaws.{all_timely}
-use Rattle.rb_laws_synchrony.proofs.Synchronous.{KnowsEpoch}
-use Rattle.rb_laws_agreement.proofs.ExactAgrees.{has_ticks}
+use Rattle.rb_laws_agreement.proofs.{Places.running_earlier, ExactAgrees.has_ticks}
+use Rattle.rb_laws_synchrony.proofs.{CallTicks.all_know_next, StageCalls.clock_now, SyncLaws.all_timely, Synchronous.KnowsEpoch}
 use Rattle.rb_laws_events.specs.Closing.{HaveBegunAFrame, stages_in}
-use Rattle.rb_laws_events.proofs.CloseOrder.{IsWindowLater, WasGood, was-good, window-later}
-use Rattle.rb_laws_events.proofs.FrameTimes.{BegunWell, KnewEpoch, begun-well, good-node, knew-epoch, node-in}
-use Rattle.rb_laws_events.proofs.Invariant.{ComesInWindow, ComesLater, InTime, entry_of, is_good_at, last_tick, next_stage}
-use Rattle.rb_laws_events.proofs.MomentSteps.{NextIsStage, good-state, next-inner, next-is-stage, next-outer}
-use Rattle.rb_laws_events.proofs.NodeClosing.{good-in-sync}
-use Rattle.rb_laws_events.proofs.NodeTicks.{tail-first}
-use Rattle.rb_laws_events.proofs.RoundNodes.{Stands, moments-stand}
-use Rattle.rb_laws_events.proofs.SameHeard.{Every}
-use Rattle.rb_laws_events.proofs.SayLists.{every-to}
-use Rattle.rb_laws_events.proofs.StageOrder.{last_of}
-use Rattle.rb_laws_events.proofs.StageTimes.{keeps-exact, keeps-running, stage-room, tail-room}
-use Rattle.rb_laws_events.proofs.TickWindows.{Tiles, first_of, get-window, tiles, ends-before-later}
-use Rattle.rb_laws_events.proofs.TimelyMoments.{good-in, heard-exact, later-exact, order-inner, order-outer, timely-heard}
-use Rattle.rb_laws_events.proofs.TurnTimes.{Turns, before-next, closes-after-all, sent-after-all, tail-ends}
+use Rattle.rb_laws_events.proofs.{CloseOrder.{IsWindowLater, WasGood, was-good, window-later}, FrameTimes.{BegunWell, KnewEpoch, begun-well, good-node, knew-epoch, node-in}, Invariant.{ComesInWindow, ComesLater, InTime, entry_of, is_good_at, last_tick, next_stage}, MomentSteps.{NextIsStage, good-state, next-inner, next-is-stage, next-outer}, NodeClosing.good-in-sync, NodeTicks.tail-first, RoundNodes.{Stands, moments-stand}, SameHeard.Every, SayLists.every-to, StageOrder.last_of, StageTimes.{keeps-exact, keeps-running, stage-room, tail-room}, TickWindows.{Tiles, first_of, get-window, tiles, ends-before-later}, TimelyMoments.{good-in, heard-exact, later-exact, order-inner, order-outer, timely-heard}, TurnTimes.{Turns, before-next, closes-after-all, sent-after-all, tail-ends}}
 
 -- what good sources send in the next stage comes after a moment's window
 abbrev pub AllLater : Scenario → List HandIn → ℕ → Type 0

@@ -1,29 +1,12 @@
 -- For the law that every run ends: if each world has ticks left, the number of events that are
 -- taken is bounded, whatever is chosen.
-use Rattle.std.proofs.Common.{◌≡◌, ℕ, zero, suc, ◌+◌, ◌*◌, ◌^◌, ◌<◌, ◌≤◌, ◌==◌, ◌&&◌, Bool, true, false, List, [], ◌∷◌, ◌++◌, fold, length, map, refl, sym, ◌∙◌, subst, arith, Option, Some, None, slice_get}
+use Rattle.std.proofs.{Common.{◌≡◌, ℕ, zero, suc, ◌+◌, ◌*◌, ◌^◌, ◌<◌, ◌≤◌, ◌==◌, ◌&&◌, Bool, true, false, List, [], ◌∷◌, ◌++◌, fold, length, map, refl, sym, ◌∙◌, subst, arith, Option, Some, None, slice_get}, lemmas.Nat.mul-le, lemmas.Option.same_Some}
 use Rattle.std.specs.List.{range_with_len}
-use Rattle.std.proofs.lemmas.Nat.{mul-le}
-use Rattle.std.proofs.lemmas.Option.{same_Some}
-use Rattle.rb_base.specs.Nodes.{Side}
-use Rattle.rb_base.specs.Nodes.Side.{Biu, Rmu}
-use Rattle.rb_rules.specs.Book.{of_kind}
-use Rattle.rb_rules.specs.Core.{Act}
-use Rattle.rb_rules.specs.Goodness.{Scenario}
-use Rattle.rb_rules.specs.Slots.{count_of, same_side}
-use Rattle.rb_rules.specs.WorldStep.{Choice, Due, Pending, Site, Timed, World, after_act, after_arrival, at_node, choose, due_of, first_world, fresh_site, go_on, hand, happens, pass_and_tick, proceed, settle, span_from, take, take_if_due, with_act, with_pending, world_after}
-use Rattle.rb_rules.specs.WorldStep.Choice.{Take, GoOn, Hand}
-use Rattle.rb_rules.specs.WorldStep.Pending.{Tick, Arrival}
-use Rattle.rb_rules.specs.WorldStep.Way.{ByAnEvent, ByItself}
+use Rattle.rb_base.specs.{Nodes.Side, Nodes.Side.{Biu, Rmu}}
+use Rattle.rb_rules.specs.{Book.of_kind, Core.Act, Goodness.Scenario, Slots.{count_of, same_side}, WorldStep.{Choice, Due, Pending, Site, Timed, World, after_act, after_arrival, at_node, choose, due_of, first_world, fresh_site, go_on, hand, happens, pass_and_tick, proceed, settle, span_from, take, take_if_due, with_act, with_pending, world_after}, WorldStep.Choice.{Take, GoOn, Hand}, WorldStep.Pending.{Tick, Arrival}, WorldStep.Way.{ByAnEvent, ByItself}}
 use Rattle.rb_rules.proofs.WindowNumbers.{length-each}
 use Rattle.rb_laws_events.specs.Laws.{EveryRunEndsBy, SayAtMost, most_with, nodes_of, taken_by, takes_from, takes_with}
-use Rattle.rb_laws_events.proofs.DueEvents.{IsDue, IsReady}
-use Rattle.rb_laws_events.proofs.EveryWorld.{after-more, due-going}
-use Rattle.rb_laws_events.proofs.OneEvent.{all-pend, up-there}
-use Rattle.rb_laws_events.proofs.OneTake.{StandsInRounds}
-use Rattle.rb_laws_events.proofs.Takes.{LeavesFew, all_left, arrival-left, enter-few, left_of, message-left, one-less, sum_left, tick-left, ticks_left}
-use Rattle.rb_laws_events.proofs.WorldBooks.{hand-leaves}
-use Rattle.rb_laws_events.proofs.WorldNodes.{events-due, settle-sites}
-use Rattle.rb_laws_events.proofs.WorldStands.{AllPend, IsUp, sent_by}
+use Rattle.rb_laws_events.proofs.{DueEvents.{IsDue, IsReady}, EveryWorld.{after-more, due-going}, OneEvent.{all-pend, up-there}, OneTake.StandsInRounds, Takes.{LeavesFew, all_left, arrival-left, enter-few, left_of, message-left, one-less, sum_left, tick-left, ticks_left}, WorldBooks.hand-leaves, WorldNodes.{events-due, settle-sites}, WorldStands.{AllPend, IsUp, sent_by}}
 
 -- A take.
 

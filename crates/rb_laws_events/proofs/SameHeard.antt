@@ -1,27 +1,11 @@
 -- For the law that events are rounds: a close needs only how many messages came of each source, and
 -- the sole one. So a node closes on its inbox as the rounds do on what is heard, if as many came
 -- from each source, and each of them is one of those.
-use Rattle.std.proofs.Common.{◌≡◌, ℕ, ◌==◌, Bool, true, false, List, [], ◌∷◌, map, filter, length, refl, ◌∙◌, ap, arith, ◌⊎◌, inl, inr, cond, get_or}
+use Rattle.std.proofs.{Common.{◌≡◌, ℕ, ◌==◌, Bool, true, false, List, [], ◌∷◌, map, filter, length, refl, ◌∙◌, ap, arith, ◌⊎◌, inl, inr, cond, get_or}, lemmas.List.Elements.{All-head, All-tail}}
 use Rattle.std.specs.Prelude.{All}
-use Rattle.std.proofs.lemmas.List.Elements.{All-head, All-tail}
+use Rattle.rb_base.specs.{Nodes.Side, Sizes.Sizes, declared.values.See.See, declared.values.See.TheVariants.Nothing}
+use Rattle.rb_rules.specs.{declared.closing.Closed.Closed, declared.plan.Plan.Plan, declared.plan.Window.Window, declared.sense.Expect.Expect, Book.Row, Clock.Timeline, Core.of_source, ExactStage.each_node, Hearing.{Coming, arrival_of, close_window, sole_time, judged_see, row_of}, NodeState.NodeState, NodeSteps.{expect_of, close}, Sense.{Arrival, sense_of}, WorldStep.coming_from}
 use mathlib.Core.Path.{fun_ext}
-use Rattle.rb_base.specs.Nodes.{Side}
-use Rattle.rb_base.specs.Sizes.{Sizes}
-use Rattle.rb_base.specs.declared.values.See.{See}
-use Rattle.rb_base.specs.declared.values.See.TheVariants.{Nothing}
-use Rattle.rb_rules.specs.declared.closing.Closed.{Closed}
-use Rattle.rb_rules.specs.declared.plan.Plan.{Plan}
-use Rattle.rb_rules.specs.declared.plan.Window.{Window}
-use Rattle.rb_rules.specs.declared.sense.Expect.{Expect}
-use Rattle.rb_rules.specs.Book.{Row}
-use Rattle.rb_rules.specs.Clock.{Timeline}
-use Rattle.rb_rules.specs.Core.{of_source}
-use Rattle.rb_rules.specs.ExactStage.{each_node}
-use Rattle.rb_rules.specs.Hearing.{Coming, arrival_of, close_window, sole_time, judged_see, row_of}
-use Rattle.rb_rules.specs.NodeState.{NodeState}
-use Rattle.rb_rules.specs.NodeSteps.{expect_of, close}
-use Rattle.rb_rules.specs.Sense.{Arrival, sense_of}
-use Rattle.rb_rules.specs.WorldStep.{coming_from}
 
 -- the entry is one of the list
 abbrev pub IsOneOf : Coming → List Coming → Type 0

@@ -1,21 +1,12 @@
 -- For the law that events are rounds: what nodes that are not good say in a window that opens: it
 -- comes in the window, and stands together with what good nodes have already sent for it.
-use Rattle.std.proofs.Common.{◌≡◌, ℕ, zero, suc, ◌+◌, ◌<◌, ◌≤◌, ◌==◌, ◌&&◌, ◌⊎◌, nat_le, Bool, true, false, cond, All, List, [], ◌∷◌, ◌++◌, filter, flat_map, get_or, length, refl, ap, sym, ◌∙◌, subst, arith, inl, inr}
+use Rattle.std.proofs.{Common.{◌≡◌, ℕ, zero, suc, ◌+◌, ◌<◌, ◌≤◌, ◌==◌, ◌&&◌, ◌⊎◌, nat_le, Bool, true, false, cond, All, List, [], ◌∷◌, ◌++◌, filter, flat_map, get_or, length, refl, ap, sym, ◌∙◌, subst, arith, inl, inr}, lemmas.Bool.{cases_lt, eq-eqb, le-leb, le-ltb}, lemmas.Bool.Decides.nat_tests, lemmas.List.append-nil, lemmas.List.Elements.{filter-append, All-head}}
 use Rattle.std.specs.List.{range_with_len}
-use Rattle.std.proofs.lemmas.Bool.{cases_lt, eq-eqb, le-leb, le-ltb}
-use Rattle.std.proofs.lemmas.Bool.Decides.{nat_tests}
-use Rattle.std.proofs.lemmas.List.{append-nil}
-use Rattle.std.proofs.lemmas.List.Elements.{filter-append, All-head}
 use Rattle.rb_base.specs.Nodes.{Side, other}
 use Rattle.rb_base.proofs.Plain.{and-false}
-use Rattle.rb_rules.specs.Clock.{Timeline, time_of}
-use Rattle.rb_rules.specs.Goodness.{Scenario, is_good, clock_of}
-use Rattle.rb_rules.specs.Hearing.{Coming, Span, said_by}
-use Rattle.rb_rules.specs.Slots.{count_of}
-use Rattle.rb_rules.specs.WorldStep.{says_in}
-use Rattle.rb_laws_events.proofs.PendingLists.{Hears, is_later, is_now}
+use Rattle.rb_rules.specs.{Clock.{Timeline, time_of}, Goodness.{Scenario, is_good, clock_of}, Hearing.{Coming, Span, said_by}, Slots.count_of, WorldStep.says_in}
+use Rattle.rb_laws_events.proofs.{PendingLists.{Hears, is_later, is_now}, SameHeard.{Every, IsOneOf, all-every}}
 use Rattle.rb_laws_agreement.proofs.SaidWindows.{IsSaid, all-said}
-use Rattle.rb_laws_events.proofs.SameHeard.{Every, IsOneOf, all-every}
 
 -- Times.
 

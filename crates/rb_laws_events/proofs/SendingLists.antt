@@ -1,13 +1,8 @@
 -- For the law that events are rounds: what was sent and what is pending stay together when a
 -- message goes out, and when a window opens.
-use Rattle.std.proofs.Common.{◌≡◌, ℕ, ◌+◌, ◌<◌, ◌≤◌, ◌==◌, nat_lt, nat_le, Bool, true, false, List, [], ◌∷◌, ◌++◌, filter, length, length-append, refl, sym, ◌∙◌, ap, subst, arith, inl, cond}
-use Rattle.std.proofs.lemmas.Bool.Decides.{nat_tests}
-use Rattle.std.proofs.lemmas.List.{append-nil}
-use Rattle.rb_rules.specs.Hearing.{Coming}
-use Rattle.rb_rules.specs.WorldStep.{coming_from}
-use Rattle.rb_laws_events.proofs.SameHeard.{IsOneOf, Every}
-use Rattle.rb_laws_events.proofs.PendingLists.{Hears, is_now, is_later, filter-last, each-append}
-use Rattle.rb_laws_events.proofs.SayLists.{each-itself}
+use Rattle.std.proofs.{Common.{◌≡◌, ℕ, ◌+◌, ◌<◌, ◌≤◌, ◌==◌, nat_lt, nat_le, Bool, true, false, List, [], ◌∷◌, ◌++◌, filter, length, length-append, refl, sym, ◌∙◌, ap, subst, arith, inl, cond}, lemmas.Bool.Decides.nat_tests, lemmas.List.append-nil}
+use Rattle.rb_rules.specs.{Hearing.Coming, WorldStep.coming_from}
+use Rattle.rb_laws_events.proofs.{SameHeard.{IsOneOf, Every}, PendingLists.{Hears, is_now, is_later, filter-last, each-append}, SayLists.each-itself}
 
 each-none : (P : Coming → Type 0) (xs : List Coming) → Every (λ c. IsOneOf c []) xs → Every P xs
 each-none P [] e = tt

@@ -1,24 +1,10 @@
 -- For the law that events are rounds if the premise on faults is broken in a sync slot: a node that
 -- has sent what it sends in a window has nothing left to do in it but to close it.
-use Rattle.std.proofs.Common.{◌≡◌, ℕ, ◌+◌, ◌<◌, ◌≤◌, ◌==◌, ◌||◌, Bool, true, false, refl, ap, sym, ◌∙◌, arith, Option, Some, None, is_some}
-use Rattle.std.proofs.lemmas.Bool.Decides.{nat_tests}
-use Rattle.rb_base.specs.Nodes.{Side}
-use Rattle.rb_base.specs.Sizes.{Sizes}
-use Rattle.rb_rules.specs.declared.message.Message.{Message}
-use Rattle.rb_rules.specs.declared.plan.Plan.{Plan}
-use Rattle.rb_rules.specs.declared.plan.Window.{Window}
-use Rattle.rb_rules.specs.Core.{if_at, is_busy, is_last, is_tick, said_at, state_at}
-use Rattle.rb_rules.specs.Hearing.{Sending, sending, window_numbered}
-use Rattle.rb_rules.specs.NodeState.{NodeState}
-use Rattle.rb_rules.specs.NodeSteps.{message_said}
-use Rattle.rb_rules.specs.SyncStage.{send_tick_of}
+use Rattle.std.proofs.{Common.{◌≡◌, ℕ, ◌+◌, ◌<◌, ◌≤◌, ◌==◌, ◌||◌, Bool, true, false, refl, ap, sym, ◌∙◌, arith, Option, Some, None, is_some}, lemmas.Bool.Decides.nat_tests}
+use Rattle.rb_base.specs.{Nodes.Side, Sizes.Sizes}
+use Rattle.rb_rules.specs.{declared.message.Message.Message, declared.plan.Plan.Plan, declared.plan.Window.Window, Core.{if_at, is_busy, is_last, is_tick, said_at, state_at}, Hearing.{Sending, sending, window_numbered}, NodeState.NodeState, NodeSteps.message_said, SyncStage.send_tick_of}
 use Rattle.rb_laws_events.specs.Closing.{stages_in}
-use Rattle.rb_laws_events.proofs.NodeActs.{HasRoom, IsInWindow, said-form}
-use Rattle.rb_laws_events.proofs.NodeSends.{sending_at}
-use Rattle.rb_laws_events.proofs.NodeTicks.{Like, like-in, like-tick, state_in}
-use Rattle.rb_laws_events.proofs.NodeWords.{at_its_tick, none-message, said-at-tick}
-use Rattle.rb_laws_events.proofs.StageOrder.{last_of}
-use Rattle.rb_laws_events.proofs.TickWindows.{last-is}
+use Rattle.rb_laws_events.proofs.{NodeActs.{HasRoom, IsInWindow, said-form}, NodeSends.sending_at, NodeTicks.{Like, like-in, like-tick, state_in}, NodeWords.{at_its_tick, none-message, said-at-tick}, StageOrder.last_of, TickWindows.last-is}
 
 -- after the tick of its message a node says nothing, whatever word it is given
 said-nothing : (sizes : Sizes) (plan : Plan) (me : Side) (i : ℕ) (st y : NodeState) (n word k : ℕ) → HasRoom plan → n ≤ stages_in sizes → (stands : IsInWindow sizes plan me i st n word k y)

@@ -1,26 +1,12 @@
 -- For the law that events are rounds: what a tick of a node changes of what it has sent in the
 -- rounds.
-use Rattle.std.proofs.Common.{◌≡◌, ℕ, zero, suc, ◌+◌, ◌*◌, ◌<◌, ◌≤◌, ◌==◌, ◌&&◌, ◌||◌, ◌⊎◌, nat_lt, Bool, true, false, List, [], ◌∷◌, refl, ap, sym, ◌∙◌, subst, arith, inl, inr, Option, Some, None, slice_get, option_map, get_or}
-use Rattle.std.proofs.lemmas.Bool.{cases_lt, eqb-true, le-ltb, lt-ltb}
-use Rattle.std.proofs.lemmas.Bool.Decides.{nat_tests}
-use Rattle.std.proofs.lemmas.Option.{get_or_from_slice_get}
-use Rattle.rb_base.specs.Nodes.{Side}
-use Rattle.rb_base.specs.Sizes.{Sizes, sync_slot_of}
+use Rattle.std.proofs.{Common.{◌≡◌, ℕ, zero, suc, ◌+◌, ◌*◌, ◌<◌, ◌≤◌, ◌==◌, ◌&&◌, ◌||◌, ◌⊎◌, nat_lt, Bool, true, false, List, [], ◌∷◌, refl, ap, sym, ◌∙◌, subst, arith, inl, inr, Option, Some, None, slice_get, option_map, get_or}, lemmas.Bool.{cases_lt, eqb-true, le-ltb, lt-ltb}, lemmas.Bool.Decides.nat_tests, lemmas.Option.get_or_from_slice_get}
+use Rattle.rb_base.specs.{Nodes.Side, Sizes.{Sizes, sync_slot_of}}
 use Rattle.rb_base.proofs.Plain.{eq_self}
-use Rattle.rb_rules.specs.declared.message.Message.{Message}
-use Rattle.rb_rules.specs.declared.plan.Window.{Window}
-use Rattle.rb_rules.specs.Book.{of_kind, map_each}
-use Rattle.rb_rules.specs.Core.{if_at}
-use Rattle.rb_rules.specs.Goodness.{Scenario}
-use Rattle.rb_rules.specs.Hearing.{Sending, sending}
-use Rattle.rb_rules.specs.NodeState.{NodeState}
-use Rattle.rb_rules.specs.Rounds.{Moment, sending_in, sent_in, window_in, windows_in}
-use Rattle.rb_rules.specs.WorldStep.{Timed}
+use Rattle.rb_rules.specs.{declared.message.Message.Message, declared.plan.Window.Window, Book.{of_kind, map_each}, Core.if_at, Goodness.Scenario, Hearing.{Sending, sending}, NodeState.NodeState, Rounds.{Moment, sending_in, sent_in, window_in, windows_in}, WorldStep.Timed}
 use Rattle.rb_rules.proofs.WindowNumbers.{get-each, sync-numbered}
 use Rattle.rb_laws_events.specs.Closing.{stages_in}
-use Rattle.rb_laws_events.proofs.Invariant.{has_sent, is_past, sending_of, word_at}
-use Rattle.rb_laws_events.proofs.NodeSends.{sending_at, unsent}
-use Rattle.rb_laws_events.proofs.NodeTicks.{gone}
+use Rattle.rb_laws_events.proofs.{Invariant.{has_sent, is_past, sending_of, word_at}, NodeSends.{sending_at, unsent}, NodeTicks.gone}
 
 -- What a node sends in the rounds.
 

@@ -1,25 +1,11 @@
 -- For the law that events are rounds: what waits is not settled, and a stage and a frame's start
 -- that are settled give the records that they give.
-use Rattle.std.proofs.Common.{◌≡◌, ℕ, zero, suc, ◌+◌, ◌*◌, ◌≤◌, ◌==◌, ◌&&◌, nat_lt, Bool, true, false, List, [], ◌∷◌, ◌++◌, length, refl, ap, sym, ◌∙◌, subst, arith, Option, Some, None, slice_get, if◌then◌else◌}
-use Rattle.std.proofs.lemmas.Bool.{le-ltb}
-use Rattle.std.proofs.lemmas.List.{append-nil}
-use Rattle.rb_base.specs.Nodes.{Side}
-use Rattle.rb_base.specs.Sizes.{sync_slot_of}
-use Rattle.rb_base.specs.declared.values.Place.{Place}
+use Rattle.std.proofs.{Common.{◌≡◌, ℕ, zero, suc, ◌+◌, ◌*◌, ◌≤◌, ◌==◌, ◌&&◌, nat_lt, Bool, true, false, List, [], ◌∷◌, ◌++◌, length, refl, ap, sym, ◌∙◌, subst, arith, Option, Some, None, slice_get, if◌then◌else◌}, lemmas.Bool.le-ltb, lemmas.List.append-nil}
+use Rattle.rb_base.specs.{Nodes.Side, Sizes.sync_slot_of, declared.values.Place.Place}
 use Rattle.rb_base.proofs.Plain.{true-false}
-use Rattle.rb_rules.specs.declared.cause.Cause.{Cause}
-use Rattle.rb_rules.specs.Book.{Begun, Book, Each, Record, Row, after_verdict, frame_records, judged_of, of_kind, with_frame, with_stage}
-use Rattle.rb_rules.specs.Book.Milestone.{Begin, Stage, End}
-use Rattle.rb_rules.specs.Book.Record.{Breach, Slot}
-use Rattle.rb_rules.specs.Goodness.{Scenario}
-use Rattle.rb_rules.specs.Judging.{verdict_of}
-use Rattle.rb_rules.specs.Ports.{HandIn}
-use Rattle.rb_rules.specs.Rounds.{windows_in}
-use Rattle.rb_rules.specs.WorldStep.{Site, Way, World, begun_for, book_with, comes_so, frame_in, is_complete, record_since, settle, settle_next}
-use Rattle.rb_rules.specs.WorldStep.Way.{ByAnEvent}
+use Rattle.rb_rules.specs.{declared.cause.Cause.Cause, Book.{Begun, Book, Each, Record, Row, after_verdict, frame_records, judged_of, of_kind, with_frame, with_stage}, Book.Milestone.{Begin, Stage, End}, Book.Record.{Breach, Slot}, Goodness.Scenario, Judging.verdict_of, Ports.HandIn, Rounds.windows_in, WorldStep.{Site, Way, World, begun_for, book_with, comes_so, frame_in, is_complete, record_since, settle, settle_next}, WorldStep.Way.ByAnEvent}
 use Rattle.rb_rules.proofs.Books.{record-same}
-use Rattle.rb_laws_events.proofs.Waiting.{AfterRecord, Waits, begun-there, good-told}
-use Rattle.rb_laws_events.proofs.WorldBooks.{last-one, next-on, none-past, settle_rest}
+use Rattle.rb_laws_events.proofs.{Waiting.{AfterRecord, Waits, begun-there, good-told}, WorldBooks.{last-one, next-on, none-past, settle_rest}}
 
 -- Settling.
 

@@ -1,29 +1,12 @@
 -- For the law that events are rounds: if each node has told what it tells in the rounds, a stage
 -- that the world settles is settled as in the rounds.
-use Rattle.std.proofs.Common.{◌≡◌, ℕ, zero, suc, ◌+◌, ◌%◌, ◌<◌, ◌≤◌, ◌==◌, ◌&&◌, ◌||◌, not, nat_le, nat_lt, Bool, true, false, List, [], ◌∷◌, ◌++◌, length, refl, ap, sym, ◌∙◌, subst, arith, Option, Some, None, is_some, slice_get, option_map}
+use Rattle.std.proofs.{Common.{◌≡◌, ℕ, zero, suc, ◌+◌, ◌%◌, ◌<◌, ◌≤◌, ◌==◌, ◌&&◌, ◌||◌, not, nat_le, nat_lt, Bool, true, false, List, [], ◌∷◌, ◌++◌, length, refl, ap, sym, ◌∙◌, subst, arith, Option, Some, None, is_some, slice_get, option_map}, lemmas.Bool.{and_parts, eqb-true, lt-ltb}, lemmas.Option.{same_Some, slice_get_past, slice_get_within}}
 use Rattle.std.specs.List.{list_all}
-use Rattle.std.proofs.lemmas.Bool.{and_parts, eqb-true, lt-ltb}
-use Rattle.std.proofs.lemmas.Option.{same_Some, slice_get_past, slice_get_within}
-use Rattle.rb_base.specs.Nodes.{Side}
-use Rattle.rb_base.specs.Nodes.Side.{Biu, Rmu}
-use Rattle.rb_base.specs.declared.values.Place.{Place}
-use Rattle.rb_rules.specs.declared.plan.Window.{Window}
-use Rattle.rb_rules.specs.Book.{Each, Row, in_order, map_each, of_kind, with_stage}
-use Rattle.rb_rules.specs.Book.Milestone.{Stage, End}
-use Rattle.rb_rules.specs.ExactStage.{keep_sent}
-use Rattle.rb_rules.specs.Goodness.{Scenario, is_good}
-use Rattle.rb_rules.specs.NodeState.{NodeState}
-use Rattle.rb_rules.specs.Ports.{HandIn}
-use Rattle.rb_rules.specs.Rounds.{Moment, Result, after_window, book_after, close_on, go_through, heard_at, moment, results_of, sent_in, step, window_in, windows_in, word_for_window}
-use Rattle.rb_rules.specs.Slots.{count_of}
-use Rattle.rb_rules.specs.WorldStep.{Site, book_with, is_complete, row_for, same_place, told_by_good}
-use Rattle.rb_rules.proofs.Books.{stepped}
-use Rattle.rb_rules.proofs.RoundStates.{HasTicks}
-use Rattle.rb_rules.proofs.WindowNumbers.{get-each}
+use Rattle.rb_base.specs.{Nodes.Side, Nodes.Side.{Biu, Rmu}, declared.values.Place.Place}
+use Rattle.rb_rules.specs.{declared.plan.Window.Window, Book.{Each, Row, in_order, map_each, of_kind, with_stage}, Book.Milestone.{Stage, End}, ExactStage.keep_sent, Goodness.{Scenario, is_good}, NodeState.NodeState, Ports.HandIn, Rounds.{Moment, Result, after_window, book_after, close_on, go_through, heard_at, moment, results_of, sent_in, step, window_in, windows_in, word_for_window}, Slots.count_of, WorldStep.{Site, book_with, is_complete, row_for, same_place, told_by_good}}
+use Rattle.rb_rules.proofs.{Books.stepped, RoundStates.HasTicks, WindowNumbers.get-each}
 use Rattle.rb_laws_events.specs.Closing.{stages_in}
-use Rattle.rb_laws_events.proofs.Invariant.{is_good_at}
-use Rattle.rb_laws_events.proofs.MomentBooks.{one-number, one-place, place_at, stage-window}
-use Rattle.rb_laws_events.proofs.RoundNodes.{AllStand, item-at, moments-stand, slot-is, slot_numbered}
+use Rattle.rb_laws_events.proofs.{Invariant.is_good_at, MomentBooks.{one-number, one-place, place_at, stage-window}, RoundNodes.{AllStand, item-at, moments-stand, slot-is, slot_numbered}}
 
 -- Lists.
 

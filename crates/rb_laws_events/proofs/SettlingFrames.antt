@@ -1,33 +1,14 @@
 -- For the law that events are rounds: if each node has told what it tells in the rounds, the start
 -- of a frame that the world settles is settled as in the rounds, and so whatever is settled makes
 -- the book one of the rounds'.
-use Rattle.std.proofs.Common.{◌≡◌, ℕ, zero, suc, ◌+◌, ◌<◌, ◌≤◌, ◌==◌, ◌&&◌, ◌||◌, ◌⊎◌, not, nat_lt, Bool, true, false, List, [], ◌∷◌, length, map, refl, ap, sym, ◌∙◌, subst, arith, inl, inr, Option, Some, None, is_some, slice_get, option_map, if◌then◌else◌}
-use Rattle.std.proofs.lemmas.Bool.{and_parts, cases_lt, eqb-true, le-ltb, lt-ltb}
-use Rattle.std.proofs.lemmas.Option.{same_Some, slice_get_past, slice_get_within}
-use Rattle.rb_base.specs.Counting.{numbers}
-use Rattle.rb_base.specs.Nodes.{Side}
+use Rattle.std.proofs.{Common.{◌≡◌, ℕ, zero, suc, ◌+◌, ◌<◌, ◌≤◌, ◌==◌, ◌&&◌, ◌||◌, ◌⊎◌, not, nat_lt, Bool, true, false, List, [], ◌∷◌, length, map, refl, ap, sym, ◌∙◌, subst, arith, inl, inr, Option, Some, None, is_some, slice_get, option_map, if◌then◌else◌}, lemmas.Bool.{and_parts, cases_lt, eqb-true, le-ltb, lt-ltb}, lemmas.Option.{same_Some, slice_get_past, slice_get_within}}
+use Rattle.rb_base.specs.{Counting.numbers, Nodes.Side}
 use Rattle.rb_base.proofs.Plain.{less-from_differs, true-false}
-use Rattle.rb_rules.specs.Book.{Begun, Book, Each, Milestone, Record, fresh_book, in_order, map_each, of_kind, with_frame}
-use Rattle.rb_rules.specs.Book.Milestone.{Begin, Stage, End}
-use Rattle.rb_rules.specs.ExactStage.{present}
-use Rattle.rb_rules.specs.Goodness.{Scenario, is_good}
-use Rattle.rb_rules.specs.Hearing.{begun_of, epoch_of, port_at}
-use Rattle.rb_rules.specs.NodeState.{NodeState}
-use Rattle.rb_rules.specs.Ports.{HandIn, PortState}
-use Rattle.rb_rules.specs.Rounds.{Moment, after_window, begin_frame, begun_if_good, Result, book_after, moment, next_frame, results_of, step, windows_in}
-use Rattle.rb_rules.specs.Slots.{count_of}
-use Rattle.rb_rules.specs.WorldStep.{Site, Way, World, begun_for, book_with, comes_so, is_complete, record_since, settle, settle_next, told_by_good}
-use Rattle.rb_rules.proofs.Books.{GoesOn, moments-on, stepped}
-use Rattle.rb_rules.proofs.RoundStates.{HasTicks}
-use Rattle.rb_rules.proofs.WindowNumbers.{get-each}
+use Rattle.rb_rules.specs.{Book.{Begun, Book, Each, Milestone, Record, fresh_book, in_order, map_each, of_kind, with_frame}, Book.Milestone.{Begin, Stage, End}, ExactStage.present, Goodness.{Scenario, is_good}, Hearing.{begun_of, epoch_of, port_at}, NodeState.NodeState, Ports.{HandIn, PortState}, Rounds.{Moment, after_window, begin_frame, begun_if_good, Result, book_after, moment, next_frame, results_of, step, windows_in}, Slots.count_of, WorldStep.{Site, Way, World, begun_for, book_with, comes_so, is_complete, record_since, settle, settle_next, told_by_good}}
+use Rattle.rb_rules.proofs.{Books.{GoesOn, moments-on, stepped}, RoundStates.HasTicks, WindowNumbers.get-each}
 use Rattle.rb_laws_agreement.proofs.Agreement.{ended-end}
 use Rattle.rb_laws_events.specs.Closing.{stages_in}
-use Rattle.rb_laws_events.proofs.CloseOrder.{IsFrameLater, IsWindowLater, frame-later, window-later}
-use Rattle.rb_laws_events.proofs.MomentBooks.{SettlesNext, next_of, no-window, number-of, one-number, place_at, settles-next}
-use Rattle.rb_laws_events.proofs.RoundNodes.{AllStand, item-at, moments-stand}
-use Rattle.rb_laws_events.proofs.Settling.{RowsOfRounds, each-at, end-settled, or-told, same-each, stage-settled}
-use Rattle.rb_laws_events.proofs.WorldBooks.{settle-on}
-use Rattle.rb_laws_events.proofs.WorldNodes.{next-sites}
+use Rattle.rb_laws_events.proofs.{CloseOrder.{IsFrameLater, IsWindowLater, frame-later, window-later}, MomentBooks.{SettlesNext, next_of, no-window, number-of, one-number, place_at, settles-next}, RoundNodes.{AllStand, item-at, moments-stand}, Settling.{RowsOfRounds, each-at, end-settled, or-told, same-each, stage-settled}, WorldBooks.settle-on, WorldNodes.next-sites}
 
 -- the ports before what is handed in at a frame's start
 unfoldable pub ports_before : Scenario → List HandIn → ℕ → List PortState

@@ -2,25 +2,11 @@
 -- the kind that is heard in a stage of the sync slot do not listen in it, so whatever came to them
 -- they say nothing in the next one, and in the tail.
 use Rattle.std.proofs.Common.{◌≡◌, ℕ, zero, suc, ◌+◌, ◌*◌, ◌<◌, true, false, refl, ap, sym, ◌∙◌, subst, arith, Option, Some, None}
-use Rattle.rb_base.specs.Nodes.{Side, other}
-use Rattle.rb_base.specs.Nodes.Side.{Biu, Rmu}
-use Rattle.rb_base.specs.Sizes.{Sizes, sync_slot_of}
-use Rattle.rb_rules.specs.declared.plan.Plan.{Plan}
-use Rattle.rb_rules.specs.declared.plan.Window.{Window}
-use Rattle.rb_rules.specs.declared.role.Role.TheVariants.{Sync}
-use Rattle.rb_rules.specs.declared.sense.Sense.{Sense}
-use Rattle.rb_rules.specs.Core.{if_at, said_at}
-use Rattle.rb_rules.specs.Hearing.{Sending, sending}
-use Rattle.rb_rules.specs.NodeState.{NodeState}
-use Rattle.rb_rules.specs.Slots.{listens}
-use Rattle.rb_rules.specs.Standing.{has_evidence, with_evidence}
-use Rattle.rb_rules.specs.SyncStage.{close_sync, expects_call}
+use Rattle.rb_base.specs.{Nodes.{Side, other}, Nodes.Side.{Biu, Rmu}, Sizes.{Sizes, sync_slot_of}}
+use Rattle.rb_rules.specs.{declared.plan.Plan.Plan, declared.plan.Window.Window, declared.role.Role.TheVariants.Sync, declared.sense.Sense.Sense, Core.{if_at, said_at}, Hearing.{Sending, sending}, NodeState.NodeState, Slots.listens, Standing.{has_evidence, with_evidence}, SyncStage.{close_sync, expects_call}}
 use Rattle.rb_rules.proofs.WindowNumbers.{sync-numbered}
 use Rattle.rb_laws_synchrony.proofs.TakenCalls.{call_sent}
-use Rattle.rb_laws_events.proofs.DeafCloses.{deaf-state}
-use Rattle.rb_laws_events.proofs.NodeActs.{HasRoom}
-use Rattle.rb_laws_events.proofs.NodeSends.{KeepsTime, said-is, sending_at}
-use Rattle.rb_laws_events.proofs.TickWindows.{IsTickIn}
+use Rattle.rb_laws_events.proofs.{DeafCloses.deaf-state, NodeActs.HasRoom, NodeSends.{KeepsTime, said-is, sending_at}, TickWindows.IsTickIn}
 
 -- a node that does not listen in a stage keeps time over its close
 pub deaf-keeps : (sizes : Sizes) (plan : Plan) (me : Side) (st : NodeState) (stage first : ℕ) (sense : ℕ → Sense) → listens me Sync stage ≡ false → KeepsTime sizes plan me st

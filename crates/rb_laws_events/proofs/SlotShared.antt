@@ -1,20 +1,9 @@
 -- For the law that running nodes agree: what all good nodes hold in common is the same before each
 -- of the three stages of a complete slot, and in the sync slot before the tail.
-use Rattle.std.proofs.Common.{◌≡◌, ℕ, zero, suc, ◌+◌, ◌-◌, ◌*◌, ◌<◌, ◌≤◌, inl, inr, ap, sym, ◌∙◌, subst, arith, List}
-use Rattle.std.proofs.lemmas.Bool.{cases_lt}
+use Rattle.std.proofs.{Common.{◌≡◌, ℕ, zero, suc, ◌+◌, ◌-◌, ◌*◌, ◌<◌, ◌≤◌, inl, inr, ap, sym, ◌∙◌, subst, arith, List}, lemmas.Bool.cases_lt}
 use Rattle.rb_base.specs.Sizes.{sync_slot_of}
-use Rattle.rb_rules.specs.Goodness.{Scenario}
-use Rattle.rb_rules.specs.Lawful.{IsLawful}
-use Rattle.rb_rules.specs.Moments.{IsComplete, IsRunning, before_stage}
-use Rattle.rb_rules.specs.Ports.{HandIn}
-use Rattle.rb_rules.specs.Rounds.{Moment, step}
-use Rattle.rb_laws_agreement.proofs.Invariant.{Agree, Shared}
-use Rattle.rb_laws_agreement.proofs.JudgedWindows.{IsPassed, passed, rows_of}
-use Rattle.rb_laws_agreement.proofs.NextMoments.{next}
-use Rattle.rb_laws_agreement.proofs.NodeWindows.{sync_windows_are}
-use Rattle.rb_laws_agreement.proofs.Places.{IsPlaced, complete_before, placed}
-use Rattle.rb_laws_agreement.proofs.SlotRuns.{IsSlot, slot_runs, stage_next, step_through}
-use Rattle.rb_laws_agreement.proofs.SyncAgrees.{agree_sync, book_sync, stage_setting}
+use Rattle.rb_rules.specs.{Goodness.Scenario, Lawful.IsLawful, Moments.{IsComplete, IsRunning, before_stage}, Ports.HandIn, Rounds.{Moment, step}}
+use Rattle.rb_laws_agreement.proofs.{Invariant.{Agree, Shared}, JudgedWindows.{IsPassed, passed, rows_of}, NextMoments.next, NodeWindows.sync_windows_are, Places.{IsPlaced, complete_before, placed}, SlotRuns.{IsSlot, slot_runs, stage_next, step_through}, SyncAgrees.{agree_sync, book_sync, stage_setting}}
 
 -- what all good nodes hold in common before a stage
 pub record SharedAt (sc : Scenario) (hands : List HandIn) (frame slot : ℕ) (s : Shared) (stage : ℕ) : Type 0 where

@@ -1,10 +1,7 @@
 -- For the law that pending events are few: sums over the nodes from which something comes.
-use Rattle.std.proofs.Common.{◌≡◌, ℕ, zero, suc, ◌+◌, ◌*◌, ◌<◌, ◌≤◌, ◌==◌, nat_lt, nat_le, Bool, true, false, List, [], ◌∷◌, cond, filter, length, refl, ap, subst, arith, inl, inr}
-use Rattle.std.proofs.lemmas.Bool.{cases_lt}
-use Rattle.std.proofs.lemmas.Bool.Decides.{nat_tests}
+use Rattle.std.proofs.{Common.{◌≡◌, ℕ, zero, suc, ◌+◌, ◌*◌, ◌<◌, ◌≤◌, ◌==◌, nat_lt, nat_le, Bool, true, false, List, [], ◌∷◌, cond, filter, length, refl, ap, subst, arith, inl, inr}, lemmas.Bool.cases_lt, lemmas.Bool.Decides.nat_tests}
 use Rattle.rb_rules.specs.Hearing.{Coming}
-use Rattle.rb_laws_events.proofs.PendingLists.{is_later, is_now}
-use Rattle.rb_laws_events.proofs.SameHeard.{Every}
+use Rattle.rb_laws_events.proofs.{PendingLists.{is_later, is_now}, SameHeard.Every}
 
 -- the sum of `f` over the numbers below `n`
 abbrev pub sum_to : (ℕ → ℕ) → ℕ → ℕ

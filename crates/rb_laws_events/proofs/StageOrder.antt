@@ -1,15 +1,8 @@
 -- For the law on the order of closes: how far apart the last ticks of two stages in a row are, and
 -- what is known of a node's earlier states.
-use Rattle.std.proofs.Common.{◌≡◌, ℕ, ◌+◌, ◌*◌, ◌-◌, ◌<◌, ◌≤◌, ap, sym, ◌∙◌, subst, arith, inl, inr}
-use Rattle.std.proofs.lemmas.Bool.{cases_lt}
-use Rattle.std.proofs.lemmas.Nat.{mul-le}
-use Rattle.std.proofs.Math.Nat.{add-mul, mul-add}
-use Rattle.rb_base.specs.Nodes.{Side}
-use Rattle.rb_base.specs.Sizes.{Sizes, sync_slot_of}
-use Rattle.rb_rules.specs.declared.plan.Plan.{Plan}
-use Rattle.rb_rules.specs.Hearing.{window_numbered}
-use Rattle.rb_rules.specs.NodeState.{NodeState}
-use Rattle.rb_rules.specs.Plan.{drift_in, f0_of, longest_of, shortest_of, skew_of, tail_start_of}
+use Rattle.std.proofs.{Common.{◌≡◌, ℕ, ◌+◌, ◌*◌, ◌-◌, ◌<◌, ◌≤◌, ap, sym, ◌∙◌, subst, arith, inl, inr}, lemmas.Bool.cases_lt, lemmas.Nat.mul-le, Math.Nat.{add-mul, mul-add}}
+use Rattle.rb_base.specs.{Nodes.Side, Sizes.{Sizes, sync_slot_of}}
+use Rattle.rb_rules.specs.{declared.plan.Plan.Plan, Hearing.window_numbered, NodeState.NodeState, Plan.{drift_in, f0_of, longest_of, shortest_of, skew_of, tail_start_of}}
 use Rattle.rb_rules.proofs.WindowNumbers.{exact-numbered, sync-numbered}
 use Rattle.rb_laws_events.specs.Closing.{stages_in}
 use Rattle.rb_laws_events.proofs.PlanNumbers.{Fits}

@@ -1,35 +1,14 @@
 -- For the law that events are rounds: if a run has not ended, the calls and the epochs of good
 -- nodes come where they must, and no window ends too late for a clock.
-use Rattle.std.proofs.Common.{◌≡◌, ℕ, ◌+◌, ◌*◌, ◌-◌, ◌^◌, ◌≤◌, ◌<◌, true, List, ap, sym, ◌∙◌, subst, arith, inl, inr, Some, slice_get}
-use Rattle.std.proofs.lemmas.Bool.{cases_lt}
-use Rattle.rb_base.specs.Nodes.{Side}
-use Rattle.rb_base.specs.Nodes.Side.{Biu, Rmu}
-use Rattle.rb_base.specs.Sizes.{Sizes, sync_slot_of}
+use Rattle.std.proofs.{Common.{◌≡◌, ℕ, ◌+◌, ◌*◌, ◌-◌, ◌^◌, ◌≤◌, ◌<◌, true, List, ap, sym, ◌∙◌, subst, arith, inl, inr, Some, slice_get}, lemmas.Bool.cases_lt}
+use Rattle.rb_base.specs.{Nodes.Side, Nodes.Side.{Biu, Rmu}, Sizes.{Sizes, sync_slot_of}}
 use Rattle.rb_base.proofs.Plain.{none_and_known, option_map-back}
-use Rattle.rb_rules.specs.declared.plan.Plan.{Plan}
-use Rattle.rb_rules.specs.Book.{of_kind}
-use Rattle.rb_rules.specs.Goodness.{Scenario}
-use Rattle.rb_rules.specs.Lawful.{IsLawful}
-use Rattle.rb_rules.specs.Moments.{IsRunning}
-use Rattle.rb_rules.specs.NodeState.{NodeState}
-use Rattle.rb_rules.specs.Plan.{f0_of, tail_start_of}
-use Rattle.rb_rules.specs.Ports.{HandIn}
-use Rattle.rb_rules.specs.Rounds.{Moment, moment}
-use Rattle.rb_rules.specs.SyncStage.{new_epoch_of}
-use Rattle.rb_rules.proofs.RoundStates.{Knows}
-use Rattle.rb_rules.proofs.WindowNumbers.{sync-numbered}
-use Rattle.rb_laws_synchrony.proofs.CallTicks.{KeepsTicks, all_keep_ticks, all_know_next, not-yet}
-use Rattle.rb_laws_synchrony.proofs.EpochTicks.{frame_ticks}
-use Rattle.rb_laws_synchrony.proofs.Synchronous.{KnowNext, KnowsEpoch}
+use Rattle.rb_rules.specs.{declared.plan.Plan.Plan, Book.of_kind, Goodness.Scenario, Lawful.IsLawful, Moments.IsRunning, NodeState.NodeState, Plan.{f0_of, tail_start_of}, Ports.HandIn, Rounds.{Moment, moment}, SyncStage.new_epoch_of}
+use Rattle.rb_rules.proofs.{RoundStates.Knows, WindowNumbers.sync-numbered}
+use Rattle.rb_laws_synchrony.proofs.{CallTicks.{KeepsTicks, all_keep_ticks, all_know_next, not-yet}, EpochTicks.frame_ticks, Synchronous.{KnowNext, KnowsEpoch}}
 use Rattle.rb_laws_agreement.proofs.ExactAgrees.{has_ticks}
 use Rattle.rb_laws_events.specs.Closing.{stages_in}
-use Rattle.rb_laws_events.proofs.FrameTimes.{BegunWell, begun-well, good-node}
-use Rattle.rb_laws_events.proofs.Invariant.{is_good_at, last_tick}
-use Rattle.rb_laws_events.proofs.NodeSends.{KeepsTime}
-use Rattle.rb_laws_events.proofs.RoundNodes.{Stands, moments-stand}
-use Rattle.rb_laws_events.proofs.StageOrder.{last_of, last-second-call, last-third-call}
-use Rattle.rb_laws_events.proofs.TickRooms.{below-all, ends-by-then, tail-by-then}
-use Rattle.rb_laws_events.proofs.TickWindows.{first_of}
+use Rattle.rb_laws_events.proofs.{FrameTimes.{BegunWell, begun-well, good-node}, Invariant.{is_good_at, last_tick}, NodeSends.KeepsTime, RoundNodes.{Stands, moments-stand}, StageOrder.{last_of, last-second-call, last-third-call}, TickRooms.{below-all, ends-by-then, tail-by-then}, TickWindows.first_of}
 
 -- Calls and epochs.
 

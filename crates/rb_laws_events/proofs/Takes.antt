@@ -1,23 +1,8 @@
 -- For the law that every run ends: each event that is taken leaves fewer ticks before 2^31, or
 -- fewer messages on their way, so their number is bounded.
-use Rattle.std.proofs.Common.{◌≡◌, ℕ, zero, suc, ◌+◌, ◌-◌, ◌*◌, ◌^◌, ◌<◌, ◌≤◌, ◌==◌, ◌&&◌, Bool, true, false, List, [], ◌∷◌, ◌++◌, length, refl, ap, sym, ◌∙◌, subst, arith, Option, Some, None, option_map, remove, slice_get}
-use Rattle.std.proofs.lemmas.Bool.Decides.{nat_tests}
-use Rattle.std.proofs.lemmas.Nat.{mul-le}
-use Rattle.rb_base.specs.Nodes.{Side, other}
-use Rattle.rb_base.specs.Nodes.Side.{Biu, Rmu}
-use Rattle.rb_base.specs.Sizes.{Sizes}
-use Rattle.rb_rules.specs.declared.closing.Closed.{Closed}
-use Rattle.rb_rules.specs.declared.message.Message.{Message}
-use Rattle.rb_rules.specs.declared.plan.Plan.{Plan}
-use Rattle.rb_rules.specs.declared.record.Epoch.{Epoch}
-use Rattle.rb_rules.specs.Book.{Each, map_from, of_kind}
-use Rattle.rb_rules.specs.Core.{Act, Core, act_at, act_on, busy_among, is_busy, is_last, is_spent, next_tick, pass_to, said_at, state_at, state_kept, tick, window_here, epoch_at, of_source}
-use Rattle.rb_rules.specs.Goodness.{Scenario, is_good}
-use Rattle.rb_rules.specs.Hearing.{Coming, Sending, Span, close_window, coming_of}
-use Rattle.rb_rules.specs.NodeState.{NodeState}
-use Rattle.rb_rules.specs.Ports.{PortState}
-use Rattle.rb_rules.specs.Slots.{same_side}
-use Rattle.rb_rules.specs.WorldStep.{Site, Timed, after_act, after_arrival, at_node, await, enter, pass_and_tick, proceed, says_in, sent_to, span_from, stop, with_close, with_epoch, with_message}
+use Rattle.std.proofs.{Common.{◌≡◌, ℕ, zero, suc, ◌+◌, ◌-◌, ◌*◌, ◌^◌, ◌<◌, ◌≤◌, ◌==◌, ◌&&◌, Bool, true, false, List, [], ◌∷◌, ◌++◌, length, refl, ap, sym, ◌∙◌, subst, arith, Option, Some, None, option_map, remove, slice_get}, lemmas.Bool.Decides.nat_tests, lemmas.Nat.mul-le}
+use Rattle.rb_base.specs.{Nodes.{Side, other}, Nodes.Side.{Biu, Rmu}, Sizes.Sizes}
+use Rattle.rb_rules.specs.{declared.closing.Closed.Closed, declared.message.Message.Message, declared.plan.Plan.Plan, declared.record.Epoch.Epoch, Book.{Each, map_from, of_kind}, Core.{Act, Core, act_at, act_on, busy_among, is_busy, is_last, is_spent, next_tick, pass_to, said_at, state_at, state_kept, tick, window_here, epoch_at, of_source}, Goodness.{Scenario, is_good}, Hearing.{Coming, Sending, Span, close_window, coming_of}, NodeState.NodeState, Ports.PortState, Slots.same_side, WorldStep.{Site, Timed, after_act, after_arrival, at_node, await, enter, pass_and_tick, proceed, says_in, sent_to, span_from, stop, with_close, with_epoch, with_message}}
 use Rattle.rb_laws_events.specs.Laws.{SayAtMost, most_with, nodes_of}
 use Rattle.rb_laws_events.proofs.PendingLists.{StandsAt}
 

@@ -1,48 +1,12 @@
 -- For the law that events are rounds: an event keeps all that the nodes have told what they tell in
 -- the rounds.
-use Rattle.std.proofs.Common.{◌≡◌, ℕ, zero, suc, ◌+◌, ◌<◌, ◌≤◌, ◌==◌, ◌&&◌, nat_le, Bool, true, false, List, [], ◌∷◌, ◌++◌, map, refl, ap, sym, ◌∙◌, subst, arith, inl, inr, Option, Some, None, slice_get}
-use Rattle.std.proofs.lemmas.Bool.{cases_lt}
-use Rattle.std.proofs.lemmas.Bool.Decides.{nat_tests}
-use Rattle.std.proofs.lemmas.Option.{same_Some}
-use Rattle.rb_base.specs.Nodes.{Side, other}
-use Rattle.rb_base.specs.Sizes.{Sizes, sync_slot_of}
-use Rattle.rb_base.specs.declared.values.Place.{Place}
+use Rattle.std.proofs.{Common.{◌≡◌, ℕ, zero, suc, ◌+◌, ◌<◌, ◌≤◌, ◌==◌, ◌&&◌, nat_le, Bool, true, false, List, [], ◌∷◌, ◌++◌, map, refl, ap, sym, ◌∙◌, subst, arith, inl, inr, Option, Some, None, slice_get}, lemmas.Bool.cases_lt, lemmas.Bool.Decides.nat_tests, lemmas.Option.same_Some}
+use Rattle.rb_base.specs.{Nodes.{Side, other}, Sizes.{Sizes, sync_slot_of}, declared.values.Place.Place}
 use Rattle.rb_base.proofs.Plain.{option_map-back}
-use Rattle.rb_rules.specs.declared.message.Message.{Message}
-use Rattle.rb_rules.specs.declared.plan.Plan.{Plan}
-use Rattle.rb_rules.specs.declared.plan.Window.{Window}
-use Rattle.rb_rules.specs.declared.sense.Sense.{Sense}
-use Rattle.rb_rules.specs.declared.record.Epoch.{Epoch}
-use Rattle.rb_rules.specs.Book.{Begun, Each, Row, of_kind}
-use Rattle.rb_rules.specs.Core.{Act, epoch_at}
-use Rattle.rb_rules.specs.ExactStage.{Outcome, close_exact, keep_sent, outcome_of}
-use Rattle.rb_rules.specs.Goodness.{Scenario, is_good, clock_of}
-use Rattle.rb_rules.specs.Hearing.{arrival_of, begun_of, coming_of, epoch_of, port_at, port_line, row_of, window_numbered}
-use Rattle.rb_rules.specs.NodeState.{NodeState}
-use Rattle.rb_rules.specs.NodeSteps.{expect_of}
-use Rattle.rb_rules.specs.Ports.{HandIn, PortState}
-use Rattle.rb_rules.specs.Rounds.{Moment, Result, close_on, go_through, heard_at, moment, sent_in, window_in, word_for_window}
-use Rattle.rb_rules.specs.Sense.{sense_of}
-use Rattle.rb_rules.specs.SyncStage.{close_sync, sync_outcome_of}
-use Rattle.rb_rules.specs.WorldStep.{Site, at_node, with_message}
-use Rattle.rb_rules.proofs.RoundStates.{HasTicks, keeping-stays}
-use Rattle.rb_rules.proofs.WindowNumbers.{sync-numbered}
+use Rattle.rb_rules.specs.{declared.message.Message.Message, declared.plan.Plan.Plan, declared.plan.Window.Window, declared.sense.Sense.Sense, declared.record.Epoch.Epoch, Book.{Begun, Each, Row, of_kind}, Core.{Act, epoch_at}, ExactStage.{Outcome, close_exact, keep_sent, outcome_of}, Goodness.{Scenario, is_good, clock_of}, Hearing.{arrival_of, begun_of, coming_of, epoch_of, port_at, port_line, row_of, window_numbered}, NodeState.NodeState, NodeSteps.expect_of, Ports.{HandIn, PortState}, Rounds.{Moment, Result, close_on, go_through, heard_at, moment, sent_in, window_in, word_for_window}, Sense.sense_of, SyncStage.{close_sync, sync_outcome_of}, WorldStep.{Site, at_node, with_message}, Slots.same_side}
+use Rattle.rb_rules.proofs.{RoundStates.{HasTicks, keeping-stays}, WindowNumbers.sync-numbered}
 use Rattle.rb_laws_events.specs.Closing.{stages_in}
-use Rattle.rb_laws_events.proofs.Invariant.{word_at}
-use Rattle.rb_laws_events.proofs.MomentBooks.{place_at, stage-is-of}
-use Rattle.rb_laws_events.proofs.NodeActs.{HasRoom}
-use Rattle.rb_laws_events.proofs.NodeEvents.{begun_after}
-use Rattle.rb_laws_events.proofs.NodeGoesOn.{none-gone}
-use Rattle.rb_laws_events.proofs.NodeSends.{KeepsTime, sending_at}
-use Rattle.rb_laws_events.proofs.NodeTicks.{Like, by_said, gone, kept_in, like-in, state_in}
-use Rattle.rb_laws_events.proofs.StageOrder.{last_of}
-use Rattle.rb_laws_events.proofs.TickWindows.{IsTickIn, ends-before-later, first_of}
-use Rattle.rb_rules.specs.Slots.{same_side}
-use Rattle.rb_laws_events.proofs.RoundNodes.{slot-is, slot_numbered}
-use Rattle.rb_laws_events.proofs.Settling.{RowOfRounds, RowsOfRounds}
-use Rattle.rb_laws_events.proofs.SettlingFrames.{BegunInRounds, BegunOfRounds, TellRounds, ports_before}
-use Rattle.rb_laws_events.proofs.WorldStands.{is_node, node-is}
-use Rattle.rb_laws_events.proofs.WorldTicks.{after_tick, get-after, length-after, reached}
+use Rattle.rb_laws_events.proofs.{Invariant.word_at, MomentBooks.{place_at, stage-is-of}, NodeActs.HasRoom, NodeEvents.begun_after, NodeGoesOn.none-gone, NodeSends.{KeepsTime, sending_at}, NodeTicks.{Like, by_said, gone, kept_in, like-in, state_in}, StageOrder.last_of, TickWindows.{IsTickIn, ends-before-later, first_of}, RoundNodes.{slot-is, slot_numbered}, Settling.{RowOfRounds, RowsOfRounds}, SettlingFrames.{BegunInRounds, BegunOfRounds, TellRounds, ports_before}, WorldStands.{is_node, node-is}, WorldTicks.{after_tick, get-after, length-after, reached}}
 
 -- The row of a window has the window's place.
 

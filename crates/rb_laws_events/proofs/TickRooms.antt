@@ -1,25 +1,13 @@
 -- For the law that events are rounds: a lawful plan's windows have room, and no good node counts
 -- 2^31 ticks in a run.
-use Rattle.std.proofs.Common.{◌≡◌, ℕ, ◌+◌, ◌*◌, ◌-◌, ◌^◌, ◌<◌, ◌≤◌, ap, ◌∙◌, arith, lit≤, Some, unwrap_or}
-use Rattle.std.proofs.lemmas.Nat.{mul-le}
-use Rattle.rb_base.specs.Nodes.{Side}
-use Rattle.rb_base.specs.Sizes.{IsShape, Sizes, sync_slot_of}
-use Rattle.rb_rules.specs.declared.plan.Plan.{Plan}
-use Rattle.rb_rules.specs.Goodness.{Scenario}
-use Rattle.rb_rules.specs.Lawful.{IsLawful}
-use Rattle.rb_rules.specs.NodeState.{NodeState}
-use Rattle.rb_rules.specs.Plan.{IsPlan, tail_start_of}
-use Rattle.rb_rules.specs.SyncStage.{new_epoch_of}
-use Rattle.rb_rules.proofs.Lawfulness.{sends_inside_all}
-use Rattle.rb_rules.proofs.RoundStates.{HasTicks}
-use Rattle.rb_rules.proofs.WindowNumbers.{sync-numbered}
+use Rattle.std.proofs.{Common.{◌≡◌, ℕ, ◌+◌, ◌*◌, ◌-◌, ◌^◌, ◌<◌, ◌≤◌, ap, ◌∙◌, arith, lit≤, Some, unwrap_or}, lemmas.Nat.mul-le}
+use Rattle.rb_base.specs.{Nodes.Side, Sizes.{IsShape, Sizes, sync_slot_of}}
+use Rattle.rb_rules.specs.{declared.plan.Plan.Plan, Goodness.Scenario, Lawful.IsLawful, NodeState.NodeState, Plan.{IsPlan, tail_start_of}, SyncStage.new_epoch_of}
+use Rattle.rb_rules.proofs.{Lawfulness.sends_inside_all, RoundStates.HasTicks, WindowNumbers.sync-numbered}
 use Rattle.rb_laws_synchrony.proofs.EpochTicks.{frame_ticks}
 use Rattle.rb_laws_agreement.proofs.ExactAgrees.{has_ticks}
 use Rattle.rb_laws_events.specs.Closing.{stages_in}
-use Rattle.rb_laws_events.proofs.NodeActs.{HasRoom}
-use Rattle.rb_laws_events.proofs.NodeTicks.{tail-last}
-use Rattle.rb_laws_events.proofs.StageOrder.{last_of}
-use Rattle.rb_laws_events.proofs.TickWindows.{ends-before-later, first_of}
+use Rattle.rb_laws_events.proofs.{NodeActs.HasRoom, NodeTicks.tail-last, StageOrder.last_of, TickWindows.{ends-before-later, first_of}}
 
 pub has-room : (sc : Scenario) → IsLawful sc → HasRoom sc.plan
 has-room sc lawful = record { ticks = has_ticks sc lawful; inside = sends_inside_all sc.sizes sc.plan lawful.plan lawful.feasible }

@@ -1,23 +1,10 @@
 -- For the law that events are rounds: which window of its frame a tick lies in, as the core finds
 -- it.
-use Rattle.std.proofs.Common.{◌≡◌, ℕ, zero, suc, ◌+◌, ◌*◌, ◌-◌, ◌<◌, ◌≤◌, ◌==◌, nat_le, Bool, true, false, List, [], ◌∷◌, length, map, refl, ap, sym, ◌∙◌, subst, arith, inl, inr, Some, None, slice_get, get_or, unwrap_or, find, cond, length-append}
-use Rattle.std.proofs.lemmas.Bool.{and_from, and_right, cases_lt}
-use Rattle.std.proofs.lemmas.Bool.Decides.{nat_tests}
-use Rattle.std.proofs.lemmas.List.FromFn.{length-map-range_with_len}
-use Rattle.std.proofs.lemmas.Option.{same_Some, slice_get-get_or, slice_get_within}
-use Rattle.std.proofs.Math.Nat.{add-mul}
-use Rattle.rb_base.specs.Nodes.{Side}
-use Rattle.rb_base.specs.Sizes.{Sizes, sync_slot_of}
-use Rattle.rb_rules.specs.declared.plan.Plan.{Plan}
-use Rattle.rb_rules.specs.declared.plan.Window.{Window}
-use Rattle.rb_rules.specs.Core.{window_here, is_last}
-use Rattle.rb_rules.specs.Hearing.{window_numbered, tail_at}
-use Rattle.rb_rules.specs.NodeState.{NodeState}
-use Rattle.rb_rules.specs.Plan.{f0_of, tail_start_of}
+use Rattle.std.proofs.{Common.{◌≡◌, ℕ, zero, suc, ◌+◌, ◌*◌, ◌-◌, ◌<◌, ◌≤◌, ◌==◌, nat_le, Bool, true, false, List, [], ◌∷◌, length, map, refl, ap, sym, ◌∙◌, subst, arith, inl, inr, Some, None, slice_get, get_or, unwrap_or, find, cond, length-append}, lemmas.Bool.{and_from, and_right, cases_lt}, lemmas.Bool.Decides.nat_tests, lemmas.List.FromFn.length-map-range_with_len, lemmas.Option.{same_Some, slice_get-get_or, slice_get_within}, Math.Nat.add-mul}
+use Rattle.rb_base.specs.{Nodes.Side, Sizes.{Sizes, sync_slot_of}}
+use Rattle.rb_rules.specs.{declared.plan.Plan.Plan, declared.plan.Window.Window, Core.{window_here, is_last}, Hearing.{window_numbered, tail_at}, NodeState.NodeState, Plan.{f0_of, tail_start_of}, Windows.{exact_window, sync_windows, windows_of_frame, holds_offset}}
 use Rattle.std.specs.List.{range_with_len}
-use Rattle.rb_rules.specs.Windows.{exact_window, sync_windows, windows_of_frame, holds_offset}
-use Rattle.rb_rules.proofs.RoundStates.{HasTicks}
-use Rattle.rb_rules.proofs.WindowNumbers.{exact-numbered, sync-numbered}
+use Rattle.rb_rules.proofs.{RoundStates.HasTicks, WindowNumbers.{exact-numbered, sync-numbered}}
 use Rattle.rb_laws_events.specs.Closing.{stages_in}
 use Rattle.rb_laws_events.proofs.StageOrder.{last_of, last-same, last-second-call, last-third-call}
 

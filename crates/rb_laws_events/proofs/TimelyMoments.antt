@@ -1,40 +1,12 @@
 -- For the law that events are rounds: what a timely window and epochs that are close together give
 -- of being in time.
-use Rattle.std.proofs.Common.{◌≡◌, ℕ, suc, ◌+◌, ◌*◌, ◌<◌, ◌≤◌, true, false, All, List, [], ◌∷◌, refl, ap, sym, ◌∙◌, subst, arith, inl, Some, slice_get, Option, None, option_map, option_to_list, ◌-◌}
-use Rattle.std.proofs.lemmas.List.Elements.{All-head, All-tail}
-use Rattle.std.proofs.Math.Nat.{add-mul, mul-add}
-use Rattle.rb_base.specs.Nodes.{Side, other}
-use Rattle.rb_rules.specs.declared.plan.Window.{Window}
-use Rattle.rb_rules.specs.Book.{of_kind}
-use Rattle.rb_rules.specs.Clock.{IsStamp, Timeline, stamp_of, time_of}
-use Rattle.rb_rules.specs.Goodness.{Scenario, is_good, clock_of}
-use Rattle.rb_rules.specs.Hearing.{Coming, said_by, span_of, Sending, coming_of}
-use Rattle.rb_rules.specs.Lawful.{IsLawful}
-use Rattle.rb_rules.specs.NodeState.{NodeState}
-use Rattle.rb_rules.specs.Ports.{HandIn}
-use Rattle.rb_rules.specs.Rounds.{IsGoodIn, IsTickOf, IsTimely, Moment, heard_at, moment, sent_in, window_in}
-use Rattle.rb_rules.proofs.Drift.{times_rise_to, HasLengths, drift}
-use Rattle.rb_rules.proofs.Stamps.{Moves, stamp_of-is}
+use Rattle.std.proofs.{Common.{◌≡◌, ℕ, suc, ◌+◌, ◌*◌, ◌<◌, ◌≤◌, true, false, All, List, [], ◌∷◌, refl, ap, sym, ◌∙◌, subst, arith, inl, Some, slice_get, Option, None, option_map, option_to_list, ◌-◌}, lemmas.List.Elements.{All-head, All-tail}, Math.Nat.{add-mul, mul-add}, lemmas.Nat.mul-le}
+use Rattle.rb_base.specs.{Nodes.{Side, other}, declared.values.Place.Place, Sizes.sync_slot_of}
+use Rattle.rb_rules.specs.{declared.plan.Window.Window, Book.of_kind, Clock.{IsStamp, Timeline, stamp_of, time_of}, Goodness.{Scenario, is_good, clock_of}, Hearing.{Coming, said_by, span_of, Sending, coming_of}, Lawful.IsLawful, NodeState.NodeState, Ports.HandIn, Rounds.{IsGoodIn, IsTickOf, IsTimely, Moment, heard_at, moment, sent_in, window_in}, Links.{delay_of, name_of}, Plan.{f0_of, longest_of, shortest_of, skew_of}}
+use Rattle.rb_rules.proofs.{Drift.{times_rise_to, HasLengths, drift}, Stamps.{Moves, stamp_of-is}}
 use Rattle.rb_laws_events.specs.Closing.{CloseInOrder, HaveBegunAFrame, HaveBegunTogether, stages_in}
-use Rattle.rb_laws_events.proofs.CloseOrder.{next-in-order, turn-in-order, IsWindowLater, WasGood, shortest-some, was-good, window-later}
-use Rattle.rb_laws_events.proofs.Invariant.{ComesInWindow, entry_of, is_good_at, last_tick, word_at, sending_of}
-use Rattle.rb_laws_events.proofs.NodeCloses.{heard-all}
-use Rattle.rb_laws_events.proofs.RoundNodes.{slot-is, moments-stand, slot_numbered}
-use Rattle.rb_laws_events.proofs.SameHeard.{Every}
-use Rattle.rb_laws_events.proofs.PlanNumbers.{Fits, fits}
-use Rattle.rb_laws_events.proofs.StageOrder.{last_of, last-same}
-use Rattle.rb_laws_events.proofs.NodeSends.{sending_at, sent-exactly}
-use Rattle.rb_laws_events.proofs.SentChanges.{sending-of-is}
-use Rattle.rb_laws_events.proofs.ReceiverHears.{way-least, way-most}
-use Rattle.rb_laws_events.proofs.SayLists.{every-to}
-use Rattle.rb_rules.specs.Links.{delay_of, name_of}
-use Rattle.rb_base.specs.declared.values.Place.{Place}
-use Rattle.rb_base.specs.Sizes.{sync_slot_of}
-use Rattle.rb_rules.specs.Plan.{f0_of, longest_of, shortest_of, skew_of}
-use Rattle.std.proofs.lemmas.Nat.{mul-le}
-use Rattle.rb_laws_agreement.proofs.FrameTimes.{good-clock}
-use Rattle.rb_laws_agreement.proofs.ExactAgrees.{has_ticks}
-use Rattle.rb_laws_events.proofs.TickWindows.{first-same, first_of}
+use Rattle.rb_laws_events.proofs.{CloseOrder.{next-in-order, turn-in-order, IsWindowLater, WasGood, shortest-some, was-good, window-later}, Invariant.{ComesInWindow, entry_of, is_good_at, last_tick, word_at, sending_of}, NodeCloses.heard-all, RoundNodes.{slot-is, moments-stand, slot_numbered}, SameHeard.Every, PlanNumbers.{Fits, fits}, StageOrder.{last_of, last-same}, NodeSends.{sending_at, sent-exactly}, SentChanges.sending-of-is, ReceiverHears.{way-least, way-most}, SayLists.every-to, TickWindows.{first-same, first_of}}
+use Rattle.rb_laws_agreement.proofs.{FrameTimes.good-clock, ExactAgrees.has_ticks}
 
 -- Good nodes.
 

@@ -1,33 +1,12 @@
 -- For the law that events are rounds: if all good nodes are in time, each message lands in the
 -- window that it is for, and a node that closes a window has been sent all that is sent for it.
-use Rattle.std.proofs.Common.{◌≡◌, ℕ, ◌<◌, ◌≤◌, ◌⊎◌, Bool, true, false, List, [], ◌∷◌, length, refl, ap, sym, ◌∙◌, subst, arith, inl, inr, Option, Some, None, slice_get, option_and_then, option_map, option_to_list}
-use Rattle.std.proofs.lemmas.Bool.{cases_lt, lt-ltb, true≢false}
-use Rattle.std.proofs.lemmas.Option.{same_Some, slice_get_within}
+use Rattle.std.proofs.{Common.{◌≡◌, ℕ, ◌<◌, ◌≤◌, ◌⊎◌, Bool, true, false, List, [], ◌∷◌, length, refl, ap, sym, ◌∙◌, subst, arith, inl, inr, Option, Some, None, slice_get, option_and_then, option_map, option_to_list}, lemmas.Bool.{cases_lt, lt-ltb, true≢false}, lemmas.Option.{same_Some, slice_get_within}}
 use Rattle.rb_base.specs.Nodes.{Side, other}
-use Rattle.rb_rules.specs.Book.{Each, of_kind}
-use Rattle.rb_rules.specs.Clock.{Timeline, time_of}
-use Rattle.rb_rules.specs.Goodness.{Scenario, clock_of}
-use Rattle.rb_rules.specs.Hearing.{Coming, Sending, coming_of}
-use Rattle.rb_rules.specs.Lawful.{IsLawful}
-use Rattle.rb_rules.specs.NodeState.{NodeState}
-use Rattle.rb_rules.specs.Ports.{HandIn}
-use Rattle.rb_rules.specs.Rounds.{Moment, moment, windows_in}
-use Rattle.rb_rules.specs.Slots.{count_of}
-use Rattle.rb_rules.specs.WorldStep.{Timed, Site}
-use Rattle.rb_rules.proofs.Drift.{times_rise_to}
-use Rattle.rb_rules.proofs.RoundStates.{HasTicks}
-use Rattle.rb_rules.proofs.Slots.{other_twice}
+use Rattle.rb_rules.specs.{Book.{Each, of_kind}, Clock.{Timeline, time_of}, Goodness.{Scenario, clock_of}, Hearing.{Coming, Sending, coming_of}, Lawful.IsLawful, NodeState.NodeState, Ports.HandIn, Rounds.{Moment, moment, windows_in}, Slots.count_of, WorldStep.{Timed, Site}}
+use Rattle.rb_rules.proofs.{Drift.times_rise_to, RoundStates.HasTicks, Slots.other_twice}
 use Rattle.rb_laws_agreement.proofs.Goodnesses.{good_counts}
 use Rattle.rb_laws_events.specs.Closing.{stages_in}
-use Rattle.rb_laws_events.proofs.Invariant.{ComesInWindow, ComesLater, InTime, NodeStands, entry_of, has_sent, is_good_at, is_past, last_tick, next_stage, sending_of}
-use Rattle.rb_laws_events.proofs.MomentSteps.{NextIsStage, good-back, good-state, next-is-stage}
-use Rattle.rb_laws_events.proofs.NodeClosing.{OthersKeepUp}
-use Rattle.rb_laws_events.proofs.ReceiverHears.{comes-after}
-use Rattle.rb_laws_events.proofs.RoundNodes.{item-at, slot_numbered}
-use Rattle.rb_laws_events.proofs.SameHeard.{Every}
-use Rattle.rb_laws_events.proofs.SentChanges.{none-of-tail, past, sent-earlier, sent-here, sent-later}
-use Rattle.rb_laws_events.proofs.WorldStands.{IsDown, IsUp, SitesStand, ahead_in, sent_by}
-use Rattle.rb_laws_events.proofs.WorldTicks.{AllLand, on_way}
+use Rattle.rb_laws_events.proofs.{Invariant.{ComesInWindow, ComesLater, InTime, NodeStands, entry_of, has_sent, is_good_at, is_past, last_tick, next_stage, sending_of}, MomentSteps.{NextIsStage, good-back, good-state, next-is-stage}, NodeClosing.OthersKeepUp, ReceiverHears.comes-after, RoundNodes.{item-at, slot_numbered}, SameHeard.Every, SentChanges.{none-of-tail, past, sent-earlier, sent-here, sent-later}, WorldStands.{IsDown, IsUp, SitesStand, ahead_in, sent_by}, WorldTicks.{AllLand, on_way}}
 
 -- each node has passed the windows before its own moment
 pub record HavePassed (sc : Scenario) (hands : List HandIn) (now : ℕ) (at : Side → ℕ → ℕ) : Type 0 where

@@ -1,40 +1,12 @@
 -- For the law that events are rounds: what a node has told is of moments before that in which it
 -- stands, and no node is more than a stage ahead of one that runs.
-use Rattle.std.proofs.Common.{◌≡◌, ℕ, suc, ◌+◌, ◌-◌, ◌*◌, ◌%◌, ◌<◌, ◌≤◌, ◌==◌, ◌⊎◌, Bool, true, false, List, refl, ap, sym, ◌∙◌, subst, arith, inl, inr, Option, Some, None, slice_get, if◌then◌else◌}
-use Rattle.std.proofs.lemmas.Bool.{cases_lt, lt-ltb, le-ltb}
-use Rattle.std.proofs.lemmas.Bool.Decides.{nat_tests}
-use Rattle.std.proofs.lemmas.Option.{same_Some}
-use Rattle.rb_base.specs.Nodes.{Side}
-use Rattle.rb_base.specs.Sizes.{Sizes, sync_slot_of}
-use Rattle.rb_base.specs.declared.values.Place.{Place}
+use Rattle.std.proofs.{Common.{◌≡◌, ℕ, suc, ◌+◌, ◌-◌, ◌*◌, ◌%◌, ◌<◌, ◌≤◌, ◌==◌, ◌⊎◌, Bool, true, false, List, refl, ap, sym, ◌∙◌, subst, arith, inl, inr, Option, Some, None, slice_get, if◌then◌else◌}, lemmas.Bool.{cases_lt, lt-ltb, le-ltb}, lemmas.Bool.Decides.nat_tests, lemmas.Option.same_Some}
+use Rattle.rb_base.specs.{Nodes.Side, Sizes.{Sizes, sync_slot_of}, declared.values.Place.Place}
 use Rattle.rb_base.proofs.Plain.{option_map-back}
-use Rattle.rb_rules.specs.declared.message.Message.{Message}
-use Rattle.rb_rules.specs.declared.record.Epoch.{Epoch}
-use Rattle.rb_rules.specs.Book.{Begun, Each, Row, of_kind}
-use Rattle.rb_rules.specs.Clock.{time_of}
-use Rattle.rb_rules.specs.Core.{Act, epoch_at}
-use Rattle.rb_rules.specs.Goodness.{Scenario, is_good, clock_of}
-use Rattle.rb_rules.specs.Hearing.{begun_of, epoch_of}
-use Rattle.rb_rules.specs.NodeState.{NodeState}
-use Rattle.rb_rules.specs.Ports.{HandIn, PortState}
-use Rattle.rb_rules.specs.Rounds.{Moment, go_through, moment, sent_in, window_in, windows_in}
-use Rattle.rb_rules.specs.WorldStep.{Site, Timed, after_act, at_node, with_message}
-use Rattle.rb_rules.proofs.Drift.{times_rise_to}
-use Rattle.rb_rules.proofs.RoundStates.{HasTicks}
+use Rattle.rb_rules.specs.{declared.message.Message.Message, declared.record.Epoch.Epoch, Book.{Begun, Each, Row, of_kind}, Clock.time_of, Core.{Act, epoch_at}, Goodness.{Scenario, is_good, clock_of}, Hearing.{begun_of, epoch_of}, NodeState.NodeState, Ports.{HandIn, PortState}, Rounds.{Moment, go_through, moment, sent_in, window_in, windows_in}, WorldStep.{Site, Timed, after_act, at_node, with_message}}
+use Rattle.rb_rules.proofs.{Drift.times_rise_to, RoundStates.HasTicks}
 use Rattle.rb_laws_events.specs.Closing.{stages_in}
-use Rattle.rb_laws_events.proofs.CloseOrder.{IsWindowLater, window-later}
-use Rattle.rb_laws_events.proofs.Invariant.{InTime, is_good_at, last_tick, next_stage, word_at}
-use Rattle.rb_laws_events.proofs.MomentBooks.{number-of, place_at}
-use Rattle.rb_laws_events.proofs.MomentSteps.{NextIsStage, good-state, next-is-stage}
-use Rattle.rb_laws_events.proofs.NodeClosing.{ClosesWindow}
-use Rattle.rb_laws_events.proofs.NodeEvents.{StaysOpen, begun_after}
-use Rattle.rb_laws_events.proofs.NodeTicks.{Like, like-in, state_in}
-use Rattle.rb_laws_events.proofs.RoundNodes.{slot_numbered}
-use Rattle.rb_laws_events.proofs.Telling.{place-is, reached-tells, row-place, tail-stage}
-use Rattle.rb_laws_events.proofs.Timing.{AreInTime, HavePassed}
-use Rattle.rb_laws_events.proofs.WorldEvents.{AfterTick, state-frame}
-use Rattle.rb_laws_events.proofs.WorldStands.{IsUp, SitesStand, is_node, node-is, sent_by}
-use Rattle.rb_laws_events.proofs.WorldTicks.{after_tick, get-after, moved, reached, reached-same}
+use Rattle.rb_laws_events.proofs.{CloseOrder.{IsWindowLater, window-later}, Invariant.{InTime, is_good_at, last_tick, next_stage, word_at}, MomentBooks.{number-of, place_at}, MomentSteps.{NextIsStage, good-state, next-is-stage}, NodeClosing.ClosesWindow, NodeEvents.{StaysOpen, begun_after}, NodeTicks.{Like, like-in, state_in}, RoundNodes.slot_numbered, Telling.{place-is, reached-tells, row-place, tail-stage}, Timing.{AreInTime, HavePassed}, WorldEvents.{AfterTick, state-frame}, WorldStands.{IsUp, SitesStand, is_node, node-is, sent_by}, WorldTicks.{after_tick, get-after, moved, reached, reached-same}}
 
 -- Numbers.
 

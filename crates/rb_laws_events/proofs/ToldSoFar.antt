@@ -1,45 +1,12 @@
 -- For the law that events are rounds: each node has told of all windows that it has closed and, but
 -- for a first tick that pends, of the start of its frame.
-use Rattle.std.proofs.Common.{◌≡◌, ℕ, ◌+◌, ◌*◌, ◌<◌, ◌≤◌, ◌==◌, ◌%◌, ◌⊎◌, Bool, true, false, List, [], ◌∷◌, ◌++◌, length, refl, ap, sym, ◌∙◌, subst, arith, inl, inr, Option, Some, None, slice_get}
-use Rattle.std.proofs.lemmas.Bool.{cases_lt, eq-eqb, eqb-true}
-use Rattle.std.proofs.lemmas.Bool.Decides.{nat_tests}
-use Rattle.rb_base.specs.Nodes.{Side}
-use Rattle.rb_base.specs.Sizes.{Sizes}
+use Rattle.std.proofs.{Common.{◌≡◌, ℕ, ◌+◌, ◌*◌, ◌<◌, ◌≤◌, ◌==◌, ◌%◌, ◌⊎◌, Bool, true, false, List, [], ◌∷◌, ◌++◌, length, refl, ap, sym, ◌∙◌, subst, arith, inl, inr, Option, Some, None, slice_get}, lemmas.Bool.{cases_lt, eq-eqb, eqb-true}, lemmas.Bool.Decides.nat_tests, lemmas.Option.{same_Some, slice_get_within}}
+use Rattle.rb_base.specs.{Nodes.Side, Sizes.Sizes}
 use Rattle.rb_base.proofs.Plain.{option_map-back}
-use Rattle.rb_rules.specs.declared.message.Message.{Message}
-use Rattle.rb_rules.specs.declared.plan.Plan.{Plan}
-use Rattle.rb_rules.specs.declared.record.Epoch.{Epoch}
-use Rattle.rb_rules.specs.Book.{Begun, Each, Row, each_of, of_kind}
-use Rattle.rb_rules.specs.Conviction.{turn}
-use Rattle.rb_rules.specs.Core.{Act, Core, epoch_at, is_tick, state_at}
-use Rattle.rb_rules.specs.Goodness.{Scenario, is_good}
-use Rattle.rb_rules.specs.Hearing.{Coming, Span, begun_of, epoch_of}
-use Rattle.rb_rules.specs.NodeState.{NodeState}
-use Rattle.rb_rules.specs.Ports.{HandIn, PortState}
-use Rattle.rb_rules.specs.Rounds.{Moment, go_through, moment, sent_in, window_in, windows_in}
-use Rattle.rb_rules.specs.SyncStage.{new_epoch_of}
-use Rattle.rb_rules.specs.WorldStep.{Site, Timed, after_act, after_arrival, at_node, await, enter, first_world, fresh_site, proceed, says_in, span_from, stop, with_message}
-use Rattle.rb_rules.specs.Slots.{count_of}
-use Rattle.std.proofs.lemmas.Option.{same_Some, slice_get_within}
-use Rattle.rb_rules.proofs.WindowNumbers.{get-made}
-use Rattle.rb_laws_events.proofs.FirstWorld.{at_begin}
-use Rattle.rb_laws_events.proofs.HandedIn.{AreEarly}
-use Rattle.rb_laws_events.proofs.HandedMoments.{Alike, handed-alike}
-use Rattle.rb_laws_events.proofs.WorldNodes.{first-counts}
-use Rattle.rb_rules.proofs.QuietTicks.{IsNext, IsQuiet, quiet-from}
+use Rattle.rb_rules.specs.{declared.message.Message.Message, declared.plan.Plan.Plan, declared.record.Epoch.Epoch, Book.{Begun, Each, Row, each_of, of_kind}, Conviction.turn, Core.{Act, Core, epoch_at, is_tick, state_at}, Goodness.{Scenario, is_good}, Hearing.{Coming, Span, begun_of, epoch_of}, NodeState.NodeState, Ports.{HandIn, PortState}, Rounds.{Moment, go_through, moment, sent_in, window_in, windows_in}, SyncStage.new_epoch_of, WorldStep.{Site, Timed, after_act, after_arrival, at_node, await, enter, first_world, fresh_site, proceed, says_in, span_from, stop, with_message}, Slots.count_of}
+use Rattle.rb_rules.proofs.{WindowNumbers.get-made, QuietTicks.{IsNext, IsQuiet, quiet-from}}
+use Rattle.rb_laws_events.proofs.{FirstWorld.at_begin, HandedIn.AreEarly, HandedMoments.{Alike, handed-alike}, WorldNodes.first-counts, Invariant.{NodeStands, next_stage, word_at}, MomentBooks.{place_at, stage-is-of}, MomentSteps.{NextIsStage, next-is-stage}, NodeClosing.ClosesWindow, NodeEvents.{StaysOpen, begun_after}, NodeTicks.{Like, like-in, state_in}, Telling.{place-is, reached-tells, row-place, tail-stage}, TickWindows.{first-same, first_of}, ToldInOrder.one-changes, WorldEvents.{AfterTick, state-frame}, WorldStands.{IsUp, SitesStand, get-at, is_node, sent_by}, WorldTicks.{moved, reached, reached-same}}
 use Rattle.rb_laws_events.specs.Closing.{stages_in}
-use Rattle.rb_laws_events.proofs.Invariant.{NodeStands, next_stage, word_at}
-use Rattle.rb_laws_events.proofs.MomentBooks.{place_at, stage-is-of}
-use Rattle.rb_laws_events.proofs.MomentSteps.{NextIsStage, next-is-stage}
-use Rattle.rb_laws_events.proofs.NodeClosing.{ClosesWindow}
-use Rattle.rb_laws_events.proofs.NodeEvents.{StaysOpen, begun_after}
-use Rattle.rb_laws_events.proofs.NodeTicks.{Like, like-in, state_in}
-use Rattle.rb_laws_events.proofs.Telling.{place-is, reached-tells, row-place, tail-stage}
-use Rattle.rb_laws_events.proofs.TickWindows.{first-same, first_of}
-use Rattle.rb_laws_events.proofs.ToldInOrder.{one-changes}
-use Rattle.rb_laws_events.proofs.WorldEvents.{AfterTick, state-frame}
-use Rattle.rb_laws_events.proofs.WorldStands.{IsUp, SitesStand, get-at, is_node, sent_by}
-use Rattle.rb_laws_events.proofs.WorldTicks.{moved, reached, reached-same}
 
 -- the pending tick of a node in moment p is the frame's first
 pub record PendsFirst (sc : Scenario) (hands : List HandIn) (me : Side) (i p : ℕ) (s : Site) : Type 0 where

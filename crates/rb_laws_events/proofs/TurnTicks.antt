@@ -1,21 +1,11 @@
 -- For the law that events are rounds if the premise on faults is broken in a sync slot: a tick of a
 -- node that has closed the last stage of its frame, also the one with which the next frame begins;
 -- and which of its ticks comes next.
-use Rattle.std.proofs.Common.{◌≡◌, ℕ, zero, suc, ◌+◌, ◌-◌, ◌^◌, ◌<◌, ◌≤◌, ◌==◌, ◌||◌, ◌⊎◌, Bool, true, false, refl, ap, sym, ◌∙◌, subst, arith, inl, inr, Option, Some, None, is_some}
-use Rattle.std.proofs.lemmas.Bool.{cases_lt}
-use Rattle.std.proofs.lemmas.Bool.Decides.{nat_tests}
-use Rattle.rb_base.specs.Nodes.{Side}
-use Rattle.rb_base.specs.Sizes.{Sizes}
+use Rattle.std.proofs.{Common.{◌≡◌, ℕ, zero, suc, ◌+◌, ◌-◌, ◌^◌, ◌<◌, ◌≤◌, ◌==◌, ◌||◌, ◌⊎◌, Bool, true, false, refl, ap, sym, ◌∙◌, subst, arith, inl, inr, Option, Some, None, is_some}, lemmas.Bool.cases_lt, lemmas.Bool.Decides.nat_tests}
+use Rattle.rb_base.specs.{Nodes.Side, Sizes.Sizes}
 use Rattle.rb_base.proofs.Plain.{eq_self, more-differs}
-use Rattle.rb_rules.specs.declared.plan.Plan.{Plan}
-use Rattle.rb_rules.specs.Conviction.{turn}
-use Rattle.rb_rules.specs.Core.{Act, Core, act_at, act_on, busy_among, is_busy, is_last, is_spent, is_tick, next_tick, said_at, state_at, state_kept, tick}
-use Rattle.rb_rules.specs.NodeState.{NodeState}
-use Rattle.rb_rules.specs.NodeSteps.{turn_if_known}
-use Rattle.rb_rules.specs.Plan.{tail_start_of}
-use Rattle.rb_rules.specs.SyncStage.{new_epoch_of}
-use Rattle.rb_laws_events.proofs.NodeActs.{HasRoom}
-use Rattle.rb_laws_events.proofs.TailTicks.{GoesOn, HasTurned, IsAfter, IsInTail, tail-act, turned-act, turned-epoch}
+use Rattle.rb_rules.specs.{declared.plan.Plan.Plan, Conviction.turn, Core.{Act, Core, act_at, act_on, busy_among, is_busy, is_last, is_spent, is_tick, next_tick, said_at, state_at, state_kept, tick}, NodeState.NodeState, NodeSteps.turn_if_known, Plan.tail_start_of, SyncStage.new_epoch_of}
+use Rattle.rb_laws_events.proofs.{NodeActs.HasRoom, TailTicks.{GoesOn, HasTurned, IsAfter, IsInTail, tail-act, turned-act, turned-epoch}}
 
 -- The state at a tick.
 

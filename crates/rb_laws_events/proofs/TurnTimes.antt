@@ -1,36 +1,13 @@
 -- For the law that events are rounds: over the turn of a run that has not ended, what good nodes
 -- send in the next frame comes after all windows of this one, and no good node closes its first
 -- window before all good nodes have begun the frame.
-use Rattle.std.proofs.Common.{◌≡◌, ℕ, zero, suc, ◌+◌, ◌*◌, ◌-◌, ◌≤◌, ◌<◌, true, List, refl, ap, sym, ◌∙◌, subst, arith, Option, Some, None, slice_get, option_map, option_to_list, unwrap_or}
-use Rattle.std.proofs.lemmas.Option.{same_Some}
-use Rattle.rb_base.specs.Nodes.{Side, other}
-use Rattle.rb_base.specs.declared.values.Place.{Place}
-use Rattle.rb_rules.specs.Book.{of_kind}
-use Rattle.rb_rules.specs.Clock.{Timeline, time_of}
-use Rattle.rb_rules.specs.Goodness.{Scenario, clock_of}
-use Rattle.rb_rules.specs.Hearing.{Sending, coming_of}
-use Rattle.rb_rules.specs.Lawful.{IsLawful}
-use Rattle.rb_rules.specs.Links.{delay_of, name_of}
-use Rattle.rb_rules.specs.Moments.{IsRunning}
-use Rattle.rb_rules.specs.NodeState.{NodeState}
-use Rattle.rb_rules.specs.Plan.{f0_of, shortest_of, tail_start_of}
-use Rattle.rb_rules.specs.Ports.{HandIn}
-use Rattle.rb_rules.specs.Rounds.{Moment, moment}
+use Rattle.std.proofs.{Common.{◌≡◌, ℕ, zero, suc, ◌+◌, ◌*◌, ◌-◌, ◌≤◌, ◌<◌, true, List, refl, ap, sym, ◌∙◌, subst, arith, Option, Some, None, slice_get, option_map, option_to_list, unwrap_or}, lemmas.Option.same_Some}
+use Rattle.rb_base.specs.{Nodes.{Side, other}, declared.values.Place.Place}
+use Rattle.rb_rules.specs.{Book.of_kind, Clock.{Timeline, time_of}, Goodness.{Scenario, clock_of}, Hearing.{Sending, coming_of}, Lawful.IsLawful, Links.{delay_of, name_of}, Moments.IsRunning, NodeState.NodeState, Plan.{f0_of, shortest_of, tail_start_of}, Ports.HandIn, Rounds.{Moment, moment}}
 use Rattle.rb_rules.proofs.Middles.{IsBetween}
-use Rattle.rb_laws_synchrony.proofs.PlanNumbers.{drift_of}
-use Rattle.rb_laws_synchrony.proofs.StageCalls.{clock_now}
-use Rattle.rb_laws_synchrony.proofs.Synchronous.{KnowNext, KnowsEpoch}
-use Rattle.rb_laws_synchrony.proofs.Times.{Steady, lawful_fits, plan_fits}
+use Rattle.rb_laws_synchrony.proofs.{PlanNumbers.drift_of, StageCalls.clock_now, Synchronous.{KnowNext, KnowsEpoch}, Times.{Steady, lawful_fits, plan_fits}}
 use Rattle.rb_laws_events.specs.Closing.{stages_in}
-use Rattle.rb_laws_events.proofs.CloseOrder.{IsFrameLater, IsWindowLater, frame-later, window-later}
-use Rattle.rb_laws_events.proofs.FrameTimes.{KnewEpoch, good-node, knew-epoch}
-use Rattle.rb_laws_events.proofs.Invariant.{entry_of, is_good_at, last_tick, sending_of, word_at}
-use Rattle.rb_laws_events.proofs.NodeSends.{sending_at, sent-exactly}
-use Rattle.rb_laws_events.proofs.NodeTicks.{tail-last}
-use Rattle.rb_laws_events.proofs.ReceiverHears.{way-least}
-use Rattle.rb_laws_events.proofs.SameHeard.{Every}
-use Rattle.rb_laws_events.proofs.SentChanges.{sending-of-is}
-use Rattle.rb_laws_events.proofs.StageOrder.{last_of, last-same}
+use Rattle.rb_laws_events.proofs.{CloseOrder.{IsFrameLater, IsWindowLater, frame-later, window-later}, FrameTimes.{KnewEpoch, good-node, knew-epoch}, Invariant.{entry_of, is_good_at, last_tick, sending_of, word_at}, NodeSends.{sending_at, sent-exactly}, NodeTicks.tail-last, ReceiverHears.way-least, SameHeard.Every, SentChanges.sending-of-is, StageOrder.{last_of, last-same}}
 
 -- moment `t` is the tail of a frame, and its good nodes know when they begin the next one
 pub record Turns (sc : Scenario) (hands : List HandIn) (t : ℕ) : Type 0 where

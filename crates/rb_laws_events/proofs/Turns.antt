@@ -2,14 +2,9 @@
 -- of the rounds.
 use Rattle.std.proofs.Common.{◌≡◌, ℕ, ◌+◌, List, [], ◌∷◌, ◌++◌, length, append_assoc, refl, ap, sym, ◌∙◌, subst, arith, inl, inr, Some, slice_get}
 use Rattle.rb_base.proofs.Plain.{slice_get-back}
-use Rattle.rb_rules.specs.Book.{Record}
-use Rattle.rb_rules.specs.Goodness.{Scenario}
-use Rattle.rb_rules.specs.Rounds.{records_of}
-use Rattle.rb_rules.specs.WorldStep.{Choice, Due, EventsAreRounds, IsPrefix, World, choose, due_of, go_on, take, take_if_due, world_after}
-use Rattle.rb_rules.specs.WorldStep.Choice.{Take, GoOn}
+use Rattle.rb_rules.specs.{Book.Record, Goodness.Scenario, Rounds.records_of, WorldStep.{Choice, Due, EventsAreRounds, IsPrefix, World, choose, due_of, go_on, take, take_if_due, world_after}, WorldStep.Choice.{Take, GoOn}}
 use Rattle.rb_laws_events.specs.Laws.{IsNextTurn, OneTurnARecord}
-use Rattle.rb_laws_events.proofs.EveryWorld.{after-more}
-use Rattle.rb_laws_events.proofs.WorldBooks.{IsTurn, go-on-turn, take-turn}
+use Rattle.rb_laws_events.proofs.{EveryWorld.after-more, WorldBooks.{IsTurn, go-on-turn, take-turn}}
 
 -- the record after a first part of the rounds' records
 next-of : (xs ys : List Record) (r : Record) → IsPrefix (xs ++ r ∷ []) ys → slice_get ys (length xs) ≡ Some r

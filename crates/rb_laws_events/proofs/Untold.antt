@@ -1,19 +1,10 @@
 -- For the law that events are rounds: if a milestone is not complete, some good node has not told
 -- of it; and if nobody has closed a stage, it is not complete.
-use Rattle.std.proofs.Common.{◌≡◌, ℕ, zero, suc, ◌+◌, ◌*◌, ◌-◌, ◌<◌, ◌==◌, ◌&&◌, ◌||◌, ◌⊎◌, not, Bool, true, false, List, [], ◌∷◌, ◌++◌, refl, ap, sym, ◌∙◌, subst, arith, inl, inr, Option, Some, None, is_some, slice_get}
+use Rattle.std.proofs.{Common.{◌≡◌, ℕ, zero, suc, ◌+◌, ◌*◌, ◌-◌, ◌<◌, ◌==◌, ◌&&◌, ◌||◌, ◌⊎◌, not, Bool, true, false, List, [], ◌∷◌, ◌++◌, refl, ap, sym, ◌∙◌, subst, arith, inl, inr, Option, Some, None, is_some, slice_get}, lemmas.Bool.{and_parts, cases_lt, eqb-true, true≢false}, lemmas.Bool.Decides.nat_tests}
 use Rattle.std.specs.List.{list_all}
-use Rattle.std.proofs.lemmas.Bool.{and_parts, cases_lt, eqb-true, true≢false}
-use Rattle.std.proofs.lemmas.Bool.Decides.{nat_tests}
-use Rattle.rb_base.specs.Nodes.{Side, has}
-use Rattle.rb_base.specs.Nodes.Side.{Biu, Rmu}
-use Rattle.rb_base.specs.Sizes.{IsShape, Sizes}
-use Rattle.rb_base.specs.declared.values.Place.{Place}
-use Rattle.rb_base.proofs.Plain.{option_map-back}
-use Rattle.rb_base.proofs.Sets.{has-set_of, has_none, is_set_of}
-use Rattle.rb_rules.specs.Book.{Each, Row, in_order, map_each, of_kind}
-use Rattle.rb_rules.specs.Goodness.{Scenario, good_at, is_good}
-use Rattle.rb_rules.specs.Rounds.{windows_in}
-use Rattle.rb_rules.specs.WorldStep.{Site, all_have_told, nobody_good, row_for, same_place}
+use Rattle.rb_base.specs.{Nodes.{Side, has}, Nodes.Side.{Biu, Rmu}, Sizes.{IsShape, Sizes}, declared.values.Place.Place}
+use Rattle.rb_base.proofs.{Plain.option_map-back, Sets.{has-set_of, has_none, is_set_of}}
+use Rattle.rb_rules.specs.{Book.{Each, Row, in_order, map_each, of_kind}, Goodness.{Scenario, good_at, is_good}, Rounds.windows_in, WorldStep.{Site, all_have_told, nobody_good, row_for, same_place}}
 use Rattle.rb_rules.proofs.WindowNumbers.{get-each}
 use Rattle.rb_laws_agreement.proofs.Goodnesses.{good_below_16}
 use Rattle.rb_laws_events.proofs.ToldInOrder.{number_at}

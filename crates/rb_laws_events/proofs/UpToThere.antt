@@ -1,27 +1,12 @@
 -- For the law that events are rounds: all nodes are in time in each moment up to where the book
 -- waits.
-use Rattle.std.proofs.Common.{◌≡◌, ℕ, suc, ◌+◌, ◌*◌, ◌-◌, ◌<◌, ◌≤◌, ◌==◌, ◌⊎◌, nat_lt, Bool, true, false, List, refl, ap, sym, ◌∙◌, subst, arith, inl, inr}
-use Rattle.std.proofs.lemmas.Bool.{cases_lt, eqb-true, le-ltb}
+use Rattle.std.proofs.{Common.{◌≡◌, ℕ, suc, ◌+◌, ◌*◌, ◌-◌, ◌<◌, ◌≤◌, ◌==◌, ◌⊎◌, nat_lt, Bool, true, false, List, refl, ap, sym, ◌∙◌, subst, arith, inl, inr}, lemmas.Bool.{cases_lt, eqb-true, le-ltb}}
 use Rattle.rb_base.specs.Sizes.{sync_slot_of}
-use Rattle.rb_rules.specs.Goodness.{Scenario}
-use Rattle.rb_rules.specs.Lawful.{IsLawful}
-use Rattle.rb_rules.specs.Moments.{IsRunning}
-use Rattle.rb_rules.specs.Ports.{HandIn}
-use Rattle.rb_rules.specs.Rounds.{Moment, begin_frame, moment, step, windows_in}
+use Rattle.rb_rules.specs.{Goodness.Scenario, Lawful.IsLawful, Moments.IsRunning, Ports.HandIn, Rounds.{Moment, begin_frame, moment, step, windows_in}}
 use Rattle.rb_rules.proofs.Books.{begun-open, stepped}
-use Rattle.rb_laws_agreement.proofs.Places.{running_earlier}
-use Rattle.rb_laws_agreement.proofs.FrameBegins.{reached}
+use Rattle.rb_laws_agreement.proofs.{Places.running_earlier, FrameBegins.reached}
 use Rattle.rb_laws_events.specs.Closing.{stages_in}
-use Rattle.rb_laws_events.proofs.BreachWindows.{in-reached}
-use Rattle.rb_laws_events.proofs.BreakNodes.{BreaksAt}
-use Rattle.rb_laws_events.proofs.CloseOrder.{IsWindowLater, window-later}
-use Rattle.rb_laws_events.proofs.FrameTimes.{BegunWell, begun-well, well-on}
-use Rattle.rb_laws_events.proofs.Invariant.{InTime, next_stage}
-use Rattle.rb_laws_events.proofs.MomentBooks.{number-of}
-use Rattle.rb_laws_events.proofs.MomentSteps.{NextIsStage, next-inner, next-is-stage, next-outer}
-use Rattle.rb_laws_events.proofs.NodeClosing.{NextInTime}
-use Rattle.rb_laws_events.proofs.SettlingFrames.{RunsIn, runs-in}
-use Rattle.rb_laws_events.proofs.RunTimes.{AllLater, Running, exact-later, first-running, in-exact, in-running}
+use Rattle.rb_laws_events.proofs.{BreachWindows.in-reached, BreakNodes.BreaksAt, CloseOrder.{IsWindowLater, window-later}, FrameTimes.{BegunWell, begun-well, well-on}, Invariant.{InTime, next_stage}, MomentBooks.number-of, MomentSteps.{NextIsStage, next-inner, next-is-stage, next-outer}, NodeClosing.NextInTime, SettlingFrames.{RunsIn, runs-in}, RunTimes.{AllLater, Running, exact-later, first-running, in-exact, in-running}}
 
 -- the run goes on from the tail to the next frame
 

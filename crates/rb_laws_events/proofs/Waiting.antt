@@ -1,32 +1,14 @@
 -- For the law that events are rounds: after each event what comes by an event next still waits for
 -- a node. So the node of the event that completes a milestone stands at that milestone, and no
 -- other is far ahead.
-use Rattle.std.proofs.Common.{◌≡◌, ℕ, suc, ◌+◌, ◌*◌, ◌<◌, ◌≤◌, ◌==◌, ◌&&◌, ◌||◌, not, Bool, true, false, List, [], ◌∷◌, ◌++◌, length, refl, ap, sym, ◌∙◌, arith, Option, Some, None, is_some, slice_get, option_map, if◌then◌else◌, lit≤}
+use Rattle.std.proofs.{Common.{◌≡◌, ℕ, suc, ◌+◌, ◌*◌, ◌<◌, ◌≤◌, ◌==◌, ◌&&◌, ◌||◌, not, Bool, true, false, List, [], ◌∷◌, ◌++◌, length, refl, ap, sym, ◌∙◌, arith, Option, Some, None, is_some, slice_get, option_map, if◌then◌else◌, lit≤}, lemmas.Bool.and_parts, lemmas.Bool.Decides.nat_tests, lemmas.Option.same_Some}
 use Rattle.std.specs.List.{list_all}
-use Rattle.std.proofs.lemmas.Bool.{and_parts}
-use Rattle.std.proofs.lemmas.Bool.Decides.{nat_tests}
-use Rattle.std.proofs.lemmas.Option.{same_Some}
-use Rattle.rb_base.specs.Nodes.{Side}
-use Rattle.rb_base.specs.Nodes.Side.{Biu, Rmu}
-use Rattle.rb_base.specs.declared.values.Place.{Place}
-use Rattle.rb_base.proofs.Plain.{option_map-back}
-use Rattle.rb_base.proofs.Sets.{has_none, is_set_of, same_set_of}
-use Rattle.rb_rules.specs.declared.message.Message.{Message}
-use Rattle.rb_rules.specs.Book.{Begun, Each, Milestone, Row, map_each, of_kind}
-use Rattle.rb_rules.specs.Book.Milestone.{Stage, End}
-use Rattle.rb_rules.specs.Goodness.{Scenario, good_at, is_good}
-use Rattle.rb_rules.specs.Ports.{HandIn}
-use Rattle.rb_rules.specs.Rounds.{windows_in}
-use Rattle.rb_rules.specs.Slots.{count_of}
-use Rattle.rb_rules.specs.WorldStep.{Site, World, all_have_told, at_node, begun_for, comes_so, is_complete, nobody_good, row_for, same_place, with_message}
-use Rattle.rb_rules.specs.WorldStep.Way.{ByAnEvent}
+use Rattle.rb_base.specs.{Nodes.Side, Nodes.Side.{Biu, Rmu}, declared.values.Place.Place}
+use Rattle.rb_base.proofs.{Plain.option_map-back, Sets.{has_none, is_set_of, same_set_of}}
+use Rattle.rb_rules.specs.{declared.message.Message.Message, Book.{Begun, Each, Milestone, Row, map_each, of_kind}, Book.Milestone.{Stage, End}, Goodness.{Scenario, good_at, is_good}, Ports.HandIn, Rounds.windows_in, Slots.count_of, WorldStep.{Site, World, all_have_told, at_node, begun_for, comes_so, is_complete, nobody_good, row_for, same_place, with_message}, WorldStep.Way.ByAnEvent}
 use Rattle.rb_rules.proofs.WindowNumbers.{get-each}
 use Rattle.rb_laws_agreement.proofs.Goodnesses.{good_counts}
-use Rattle.rb_laws_events.proofs.RoundNodes.{item-at}
-use Rattle.rb_laws_events.proofs.Settling.{each-at}
-use Rattle.rb_laws_events.proofs.ToldInOrder.{AllTold, number_at}
-use Rattle.rb_laws_events.proofs.WorldStands.{is_node, node-is, node-itself}
-use Rattle.rb_laws_events.proofs.WorldTicks.{after_tick, get-after, reached}
+use Rattle.rb_laws_events.proofs.{RoundNodes.item-at, Settling.each-at, ToldInOrder.{AllTold, number_at}, WorldStands.{is_node, node-is, node-itself}, WorldTicks.{after_tick, get-after, reached}}
 
 -- What waits.
 

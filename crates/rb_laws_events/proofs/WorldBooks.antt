@@ -1,23 +1,8 @@
 -- The book of the world only grows, by at most one record a call, and that record is the turn.
-use Rattle.std.proofs.Common.{◌≡◌, ℕ, zero, suc, ◌+◌, ◌==◌, ◌&&◌, ◌⊎◌, inl, inr, nat_lt, Bool, true, false, List, [], ◌∷◌, ◌++◌, length, refl, subst, sym, ◌∙◌, ap, arith, Option, Some, None, slice_get, if◌then◌else◌}
-use Rattle.std.proofs.lemmas.List.{append-nil}
-use Rattle.std.proofs.lemmas.Option.{slice_get_past}
-use Rattle.rb_base.specs.Nodes.{Side}
-use Rattle.rb_base.specs.Nodes.Side.{Biu}
-use Rattle.rb_base.specs.Sizes.{Sizes, sync_slot_of}
-use Rattle.rb_base.specs.declared.values.Place.{Place}
+use Rattle.std.proofs.{Common.{◌≡◌, ℕ, zero, suc, ◌+◌, ◌==◌, ◌&&◌, ◌⊎◌, inl, inr, nat_lt, Bool, true, false, List, [], ◌∷◌, ◌++◌, length, refl, subst, sym, ◌∙◌, ap, arith, Option, Some, None, slice_get, if◌then◌else◌}, lemmas.List.append-nil, lemmas.Option.slice_get_past}
+use Rattle.rb_base.specs.{Nodes.Side, Nodes.Side.Biu, Sizes.{Sizes, sync_slot_of}, declared.values.Place.Place}
 use Rattle.rb_base.proofs.Plain.{slice_get-back}
-use Rattle.rb_rules.specs.declared.cause.Cause.{Cause}
-use Rattle.rb_rules.specs.Book.{Each, Record, Row, Begun, Milestone, Book, judged_of, after_verdict, with_stage, frame_records, with_frame, with_end}
-use Rattle.rb_rules.specs.Book.Milestone.{Begin, Stage, End}
-use Rattle.rb_rules.specs.Book.Record.{Slot, Ended, Breach}
-use Rattle.rb_rules.specs.Goodness.{Scenario, is_good}
-use Rattle.rb_rules.specs.Judging.{JudgedStage, verdict_of}
-use Rattle.rb_rules.specs.Ports.{HandIn, PortState, with_state}
-use Rattle.rb_rules.specs.WorldStep.{Site, World, Pending, Due, Way, with_pending, with_act, happens, is_complete, book_with, comes_so, settle_next, record_since, settle, take_if_due, take, go_on, hand, frame_in, Choice, choose}
-use Rattle.rb_rules.specs.WorldStep.Choice.{Take, GoOn, Hand}
-use Rattle.rb_rules.specs.WorldStep.Pending.{Tick, Arrival}
-use Rattle.rb_rules.specs.WorldStep.Way.{ByAnEvent, ByItself}
+use Rattle.rb_rules.specs.{declared.cause.Cause.Cause, Book.{Each, Record, Row, Begun, Milestone, Book, judged_of, after_verdict, with_stage, frame_records, with_frame, with_end}, Book.Milestone.{Begin, Stage, End}, Book.Record.{Slot, Ended, Breach}, Goodness.{Scenario, is_good}, Judging.{JudgedStage, verdict_of}, Ports.{HandIn, PortState, with_state}, WorldStep.{Site, World, Pending, Due, Way, with_pending, with_act, happens, is_complete, book_with, comes_so, settle_next, record_since, settle, take_if_due, take, go_on, hand, frame_in, Choice, choose}, WorldStep.Choice.{Take, GoOn, Hand}, WorldStep.Pending.{Tick, Arrival}, WorldStep.Way.{ByAnEvent, ByItself}}
 use Rattle.rb_rules.proofs.Books.{GoesOn, on-refl, on-trans, stage-on, frame-on, end-on}
 
 -- ys is xs, or xs and one record more

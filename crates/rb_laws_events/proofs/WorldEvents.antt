@@ -1,38 +1,12 @@
 -- For the law that events are rounds: a due event keeps all nodes of the world in the rounds: each
 -- stands in a moment, and has passed the windows before.
-use Rattle.std.proofs.Common.{◌≡◌, ℕ, ◌+◌, ◌^◌, ◌<◌, ◌≤◌, ◌⊎◌, Bool, true, false, List, refl, ap, sym, ◌∙◌, subst, arith, inl, inr, Option, Some, None, slice_get}
-use Rattle.std.proofs.lemmas.Bool.{cases_lt}
-use Rattle.std.proofs.lemmas.Option.{same_Some}
+use Rattle.std.proofs.{Common.{◌≡◌, ℕ, ◌+◌, ◌^◌, ◌<◌, ◌≤◌, ◌⊎◌, Bool, true, false, List, refl, ap, sym, ◌∙◌, subst, arith, inl, inr, Option, Some, None, slice_get}, lemmas.Bool.cases_lt, lemmas.Option.same_Some}
 use Rattle.rb_base.specs.Nodes.{Side}
-use Rattle.rb_rules.specs.Book.{Each, of_kind}
-use Rattle.rb_rules.specs.Clock.{time_of}
-use Rattle.rb_rules.specs.Core.{Act, Core, if_at}
-use Rattle.rb_rules.specs.Goodness.{Scenario, clock_of}
-use Rattle.rb_rules.specs.Hearing.{Sending, window_numbered}
-use Rattle.rb_rules.specs.Lawful.{IsLawful}
-use Rattle.rb_rules.specs.NodeState.{NodeState}
-use Rattle.rb_rules.specs.Ports.{HandIn, PortState}
-use Rattle.rb_rules.specs.Rounds.{Moment, moment, windows_in}
-use Rattle.rb_rules.specs.Slots.{count_of}
-use Rattle.rb_rules.specs.WorldStep.{Timed, Site, after_act, at_node, pass_and_tick, with_message}
+use Rattle.rb_rules.specs.{Book.{Each, of_kind}, Clock.time_of, Core.{Act, Core, if_at}, Goodness.{Scenario, clock_of}, Hearing.{Sending, window_numbered}, Lawful.IsLawful, NodeState.NodeState, Ports.{HandIn, PortState}, Rounds.{Moment, moment, windows_in}, Slots.count_of, WorldStep.{Timed, Site, after_act, at_node, pass_and_tick, with_message}}
 use Rattle.rb_rules.proofs.RoundStates.{close-stays, keeping-stays}
 use Rattle.rb_laws_agreement.proofs.Goodnesses.{good_counts}
 use Rattle.rb_laws_events.specs.Closing.{stages_in}
-use Rattle.rb_laws_events.proofs.Invariant.{InTime, NodeStands, is_good_at, last_tick, next_stage, sending_of, word_at}
-use Rattle.rb_laws_events.proofs.MomentSteps.{NextIsStage, next-is-stage}
-use Rattle.rb_laws_events.proofs.NodeActs.{HasRoom, HasWord, IsInWindow}
-use Rattle.rb_laws_events.proofs.NodeClosing.{ClosesWindow, NextInTime, OthersKeepUp, closes-window}
-use Rattle.rb_laws_events.proofs.NodeEvents.{StaysOpen, stands-on, stays-open}
-use Rattle.rb_laws_events.proofs.NodeSends.{sending_at, sent-in}
-use Rattle.rb_laws_events.proofs.NodeTicks.{by_said, gone, kept_in, state_in}
-use Rattle.rb_laws_events.proofs.RoundNodes.{AllStand, Stands, moments-stand, slot_numbered}
-use Rattle.rb_laws_events.proofs.SameHeard.{Every}
-use Rattle.rb_laws_events.proofs.SentChanges.{Steps, none-of-tail, past, sending-of-is}
-use Rattle.rb_laws_events.proofs.StageOrder.{last_of}
-use Rattle.rb_laws_events.proofs.TickWindows.{IsTickIn}
-use Rattle.rb_laws_events.proofs.Timing.{AreInTime, HavePassed, all-land, keep-up}
-use Rattle.rb_laws_events.proofs.WorldStands.{AllPend, IsUp, SitesStand, is_node, node-is, sent_by}
-use Rattle.rb_laws_events.proofs.WorldTicks.{AllLand, TicksNow, moved, tick-keeps-world}
+use Rattle.rb_laws_events.proofs.{Invariant.{InTime, NodeStands, is_good_at, last_tick, next_stage, sending_of, word_at}, MomentSteps.{NextIsStage, next-is-stage}, NodeActs.{HasRoom, HasWord, IsInWindow}, NodeClosing.{ClosesWindow, NextInTime, OthersKeepUp, closes-window}, NodeEvents.{StaysOpen, stands-on, stays-open}, NodeSends.{sending_at, sent-in}, NodeTicks.{by_said, gone, kept_in, state_in}, RoundNodes.{AllStand, Stands, moments-stand, slot_numbered}, SameHeard.Every, SentChanges.{Steps, none-of-tail, past, sending-of-is}, StageOrder.last_of, TickWindows.IsTickIn, Timing.{AreInTime, HavePassed, all-land, keep-up}, WorldStands.{AllPend, IsUp, SitesStand, is_node, node-is, sent_by}, WorldTicks.{AllLand, TicksNow, moved, tick-keeps-world}}
 
 -- Time passes.
 

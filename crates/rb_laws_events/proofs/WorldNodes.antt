@@ -1,33 +1,13 @@
 -- For the law that events are rounds: in every world there are as many nodes as the bus has, and
 -- what comes to a node comes from nodes that there are.
-use Rattle.std.proofs.Common.{◌≡◌, ℕ, zero, suc, ◌+◌, ◌<◌, ◌==◌, ◌&&◌, Bool, true, false, List, [], ◌∷◌, ◌++◌, length, remove, refl, sym, ◌∙◌, subst, arith, Option, Some, None, get_or, slice_get, fold}
-use Rattle.std.specs.Prelude.{flat_map}
-use Rattle.std.specs.List.{range_with_len}
-use Rattle.std.proofs.lemmas.List.FromFn.{length-map-range_with_len}
-use Rattle.std.proofs.lemmas.Option.{same_Some, slice_get_within}
-use Rattle.rb_base.specs.Nodes.{Side, other}
-use Rattle.rb_base.specs.Nodes.Side.{Biu, Rmu}
-use Rattle.rb_base.specs.Sizes.{Sizes}
+use Rattle.std.proofs.{Common.{◌≡◌, ℕ, zero, suc, ◌+◌, ◌<◌, ◌==◌, ◌&&◌, Bool, true, false, List, [], ◌∷◌, ◌++◌, length, remove, refl, sym, ◌∙◌, subst, arith, Option, Some, None, get_or, slice_get, fold}, lemmas.List.FromFn.length-map-range_with_len, lemmas.Option.{same_Some, slice_get_within}}
+use Rattle.std.specs.{Prelude.flat_map, List.range_with_len}
+use Rattle.rb_base.specs.{Nodes.{Side, other}, Nodes.Side.{Biu, Rmu}, Sizes.Sizes}
 use Rattle.rb_base.proofs.Plain.{option_map-back}
-use Rattle.rb_rules.specs.declared.closing.Closed.{Closed}
-use Rattle.rb_rules.specs.declared.message.Message.{Message}
-use Rattle.rb_rules.specs.declared.record.Epoch.{Epoch}
-use Rattle.rb_rules.specs.Book.{Each, of_kind, each_of, map_each, Record}
-use Rattle.rb_rules.specs.Core.{Act}
-use Rattle.rb_rules.specs.Goodness.{Scenario, is_good}
-use Rattle.rb_rules.specs.Hearing.{Coming, Sending, Span, said_by, coming_of}
-use Rattle.rb_rules.specs.NodeState.{NodeState}
-use Rattle.rb_rules.specs.Ports.{PortState}
-use Rattle.rb_rules.specs.Slots.{count_of, same_side}
-use Rattle.rb_rules.specs.WorldStep.{Site, World, says_in, await, stop, enter, proceed, span_from, with_close, with_epoch, after_act, after_arrival, sent_to, with_message, at_node, with_act, pass_and_tick, Pending, with_pending, Due, happens, is_complete, book_with, Way, comes_so, settle_next, record_since, settle, take_if_due, due_of, take, go_on, fresh_site, first_world, Choice, choose, world_after}
-use Rattle.rb_rules.specs.WorldStep.Choice.{Take, GoOn, Hand}
-use Rattle.rb_rules.specs.WorldStep.Pending.{Tick, Arrival}
-use Rattle.rb_rules.specs.WorldStep.Way.{ByAnEvent, ByItself}
+use Rattle.rb_rules.specs.{declared.closing.Closed.Closed, declared.message.Message.Message, declared.record.Epoch.Epoch, Book.{Each, of_kind, each_of, map_each, Record}, Core.Act, Goodness.{Scenario, is_good}, Hearing.{Coming, Sending, Span, said_by, coming_of}, NodeState.NodeState, Ports.PortState, Slots.{count_of, same_side}, WorldStep.{Site, World, says_in, await, stop, enter, proceed, span_from, with_close, with_epoch, after_act, after_arrival, sent_to, with_message, at_node, with_act, pass_and_tick, Pending, with_pending, Due, happens, is_complete, book_with, Way, comes_so, settle_next, record_since, settle, take_if_due, due_of, take, go_on, fresh_site, first_world, Choice, choose, world_after}, WorldStep.Choice.{Take, GoOn, Hand}, WorldStep.Pending.{Tick, Arrival}, WorldStep.Way.{ByAnEvent, ByItself}}
 use Rattle.rb_rules.proofs.WindowNumbers.{get-each, length-each, get-made}
 use Rattle.rb_laws_agreement.proofs.SaidWindows.{IsSaid, all-said}
-use Rattle.rb_laws_events.proofs.DueEvents.{IsDue, due-is}
-use Rattle.rb_laws_events.proofs.SameHeard.{Every, all-every}
-use Rattle.rb_laws_events.proofs.WorldBooks.{hand-leaves}
+use Rattle.rb_laws_events.proofs.{DueEvents.{IsDue, due-is}, SameHeard.{Every, all-every}, WorldBooks.hand-leaves}
 
 -- what comes to a node of kind `me` is from nodes of the bus
 abbrev pub Known : Sizes → Side → List Coming → Type 0

@@ -1,27 +1,12 @@
 -- For the law that events are rounds: all nodes of a world, each in its own moment of the rounds.
 -- One arrival, and one tick of a node that goes on or stops, keep it.
-use Rattle.std.proofs.Common.{◌≡◌, ℕ, ◌≤◌, ◌==◌, ◌&&◌, Bool, true, false, List, [], length, refl, ap, sym, ◌∙◌, subst, Option, Some, None, slice_get, option_and_then, option_map}
-use Rattle.std.proofs.lemmas.Bool.{and_parts, eqb-true}
-use Rattle.std.proofs.lemmas.Option.{same_Some}
-use Rattle.std.proofs.Math.Path.{fun_ext}
+use Rattle.std.proofs.{Common.{◌≡◌, ℕ, ◌≤◌, ◌==◌, ◌&&◌, Bool, true, false, List, [], length, refl, ap, sym, ◌∙◌, subst, Option, Some, None, slice_get, option_and_then, option_map}, lemmas.Bool.{and_parts, eqb-true}, lemmas.Option.same_Some, Math.Path.fun_ext}
 use Rattle.rb_base.specs.Nodes.{Side, other}
 use Rattle.rb_base.proofs.Plain.{eq_self, option_map-back}
-use Rattle.rb_rules.specs.Book.{Each, of_kind}
-use Rattle.rb_rules.specs.Goodness.{Scenario, clock_of}
-use Rattle.rb_rules.specs.Hearing.{Coming}
-use Rattle.rb_rules.specs.NodeState.{NodeState}
-use Rattle.rb_rules.specs.Ports.{HandIn}
-use Rattle.rb_rules.specs.Rounds.{moment}
-use Rattle.rb_rules.specs.Slots.{count_of, same_side}
-use Rattle.rb_rules.specs.WorldStep.{Timed, Site, after_arrival, at_node, times_of}
-use Rattle.rb_rules.proofs.Slots.{same_side-is, same_side_other, same_side_self}
-use Rattle.rb_rules.proofs.Stamps.{Moves}
-use Rattle.rb_rules.proofs.WindowNumbers.{get-each, length-each}
+use Rattle.rb_rules.specs.{Book.{Each, of_kind}, Goodness.{Scenario, clock_of}, Hearing.Coming, NodeState.NodeState, Ports.HandIn, Rounds.moment, Slots.{count_of, same_side}, WorldStep.{Timed, Site, after_arrival, at_node, times_of}}
+use Rattle.rb_rules.proofs.{Slots.{same_side-is, same_side_other, same_side_self}, Stamps.Moves, WindowNumbers.{get-each, length-each}}
 use Rattle.rb_laws_events.specs.OwnMoments.{StandsWhereNotGood}
-use Rattle.rb_laws_events.proofs.Invariant.{NodeStands, has_sent, is_good_at, sending_of}
-use Rattle.rb_laws_events.proofs.NodeEvents.{stands-arrival, stands-on}
-use Rattle.rb_laws_events.proofs.Receiving.{ArrivesNow}
-use Rattle.rb_laws_events.proofs.SameHeard.{Every}
+use Rattle.rb_laws_events.proofs.{Invariant.{NodeStands, has_sent, is_good_at, sending_of}, NodeEvents.{stands-arrival, stands-on}, Receiving.ArrivesNow, SameHeard.Every}
 
 -- the pending tick of node `j` of the sites
 abbrev pub ahead_in : List Site → ℕ → Option Timed

@@ -1,30 +1,11 @@
 -- For the law that events are rounds: a tick of one node keeps all nodes of the world: that node
 -- goes on or stops, and what it says is on its way to the nodes of the other kind.
-use Rattle.std.proofs.Common.{◌≡◌, ℕ, ◌<◌, ◌≤◌, ◌==◌, ◌&&◌, ◌⊎◌, Bool, true, false, List, [], ◌∷◌, ◌++◌, length, refl, ap, sym, ◌∙◌, subst, inl, inr, Option, Some, None, slice_get, option_and_then, option_map, option_to_list}
-use Rattle.std.proofs.lemmas.Bool.{eqb-true, true≢false}
-use Rattle.std.proofs.lemmas.Option.{same_Some}
-use Rattle.rb_base.specs.Nodes.{Side, other}
-use Rattle.rb_base.specs.Nodes.Side.{Biu, Rmu}
+use Rattle.std.proofs.{Common.{◌≡◌, ℕ, ◌<◌, ◌≤◌, ◌==◌, ◌&&◌, ◌⊎◌, Bool, true, false, List, [], ◌∷◌, ◌++◌, length, refl, ap, sym, ◌∙◌, subst, inl, inr, Option, Some, None, slice_get, option_and_then, option_map, option_to_list}, lemmas.Bool.{eqb-true, true≢false}, lemmas.Option.same_Some}
+use Rattle.rb_base.specs.{Nodes.{Side, other}, Nodes.Side.{Biu, Rmu}}
 use Rattle.rb_base.proofs.Plain.{option_map-back, option_map-twice}
-use Rattle.rb_rules.specs.declared.message.Message.{Message}
-use Rattle.rb_rules.specs.Book.{Each, of_kind}
-use Rattle.rb_rules.specs.Clock.{time_of}
-use Rattle.rb_rules.specs.Core.{if_at}
-use Rattle.rb_rules.specs.Goodness.{Scenario, clock_of}
-use Rattle.rb_rules.specs.Hearing.{Coming, Sending, coming_of}
-use Rattle.rb_rules.specs.Lawful.{IsLawful}
-use Rattle.rb_rules.specs.NodeState.{NodeState}
-use Rattle.rb_rules.specs.Ports.{HandIn}
-use Rattle.rb_rules.specs.Rounds.{moment}
-use Rattle.rb_rules.specs.Slots.{count_of, same_side}
-use Rattle.rb_rules.specs.WorldStep.{Timed, Site, at_node, sent_to, with_message}
-use Rattle.rb_rules.proofs.Slots.{one_or_other, other_twice, same_side_self}
-use Rattle.rb_rules.proofs.WindowNumbers.{get-each, length-each}
-use Rattle.rb_laws_events.proofs.Invariant.{NodeStands, entry_of, has_sent, is_good_at, sending_of}
-use Rattle.rb_laws_events.proofs.NodeEvents.{stands-on}
-use Rattle.rb_laws_events.proofs.ReceiverHears.{Lands, SendsFor, comes-after, stands-more, stands-same}
-use Rattle.rb_laws_events.proofs.SentChanges.{SaysNothing, SaysNow, Steps, sent-changes}
-use Rattle.rb_laws_events.proofs.WorldStands.{AllPend, IsDown, IsUp, SitesStand, ahead_in, get-at, is_node, node-is, node-itself, not-other, same-sent, sent_by}
+use Rattle.rb_rules.specs.{declared.message.Message.Message, Book.{Each, of_kind}, Clock.time_of, Core.if_at, Goodness.{Scenario, clock_of}, Hearing.{Coming, Sending, coming_of}, Lawful.IsLawful, NodeState.NodeState, Ports.HandIn, Rounds.moment, Slots.{count_of, same_side}, WorldStep.{Timed, Site, at_node, sent_to, with_message}}
+use Rattle.rb_rules.proofs.{Slots.{one_or_other, other_twice, same_side_self}, WindowNumbers.{get-each, length-each}}
+use Rattle.rb_laws_events.proofs.{Invariant.{NodeStands, entry_of, has_sent, is_good_at, sending_of}, NodeEvents.stands-on, ReceiverHears.{Lands, SendsFor, comes-after, stands-more, stands-same}, SentChanges.{SaysNothing, SaysNow, Steps, sent-changes}, WorldStands.{AllPend, IsDown, IsUp, SitesStand, ahead_in, get-at, is_node, node-is, node-itself, not-other, same-sent, sent_by}}
 
 -- the moments in which the nodes stand, with a new one for one node
 abbrev pub moved : Side → ℕ → ℕ → (Side → ℕ → ℕ) → Side → ℕ → ℕ

@@ -1,9 +1,6 @@
 -- What is given without an event.
 use Rattle.std.specs.Prelude.{◌≡◌, true, false, Some, [], ◌∷◌, ◌++◌}
-use Rattle.rb_rules.specs.Book.{Record}
-use Rattle.rb_rules.specs.Goodness.{Scenario}
-use Rattle.rb_rules.specs.Lawful.{IsLawful}
-use Rattle.rb_rules.specs.WorldStep.{World, go_on, needs_no_event}
+use Rattle.rb_rules.specs.{Book.Record, Goodness.Scenario, Lawful.IsLawful, WorldStep.{World, go_on, needs_no_event}}
 
 -- if the next record needs no event, the call that asks for it gives one: no run stops there
 abbrev pub WhatNeedsNoEventIsGiven : Type 0

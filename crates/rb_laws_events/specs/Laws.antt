@@ -1,18 +1,7 @@
 -- What is proved of rounds and of runs event by event.
 use Rattle.std.specs.Prelude.{ℕ, ◌≡◌, ◌+◌, ◌*◌, ◌^◌, ◌<◌, ◌≤◌, ◌⊎◌, true, false, Some, None, List, [], ◌∷◌, ◌++◌, length, slice_get}
-use Rattle.rb_base.specs.Nodes.{Side}
-use Rattle.rb_base.specs.Sizes.{Sizes}
-use Rattle.rb_rules.specs.declared.plan.Plan.{Plan}
-use Rattle.rb_rules.specs.Book.{Record, of_kind}
-use Rattle.rb_rules.specs.Core.{Core, next_tick, ticks}
-use Rattle.rb_rules.specs.Behavior.{Span}
-use Rattle.rb_rules.specs.Entries.{IsListed}
-use Rattle.rb_rules.specs.Goodness.{Scenario}
-use Rattle.rb_rules.specs.Lawful.{IsLawful}
-use Rattle.rb_rules.specs.Ports.{HandIn}
-use Rattle.rb_rules.specs.Rounds.{moment, steps_of, records_of}
-use Rattle.rb_rules.specs.WorldStep.{Site, World, Choice, Due, EventsAreRounds, IsPrefix, choose, due_of, first_world, go_on, needs_no_event, says_in, take, world_after}
-use Rattle.rb_rules.specs.WorldStep.Choice.{Take, GoOn, Hand}
+use Rattle.rb_base.specs.{Nodes.Side, Sizes.Sizes}
+use Rattle.rb_rules.specs.{declared.plan.Plan.Plan, Book.{Record, of_kind}, Core.{Core, next_tick, ticks}, Behavior.Span, Entries.IsListed, Goodness.Scenario, Lawful.IsLawful, Ports.HandIn, Rounds.{moment, steps_of, records_of}, WorldStep.{Site, World, Choice, Due, EventsAreRounds, IsPrefix, choose, due_of, first_world, go_on, needs_no_event, says_in, take, world_after}, WorldStep.Choice.{Take, GoOn, Hand}}
 
 -- the records of a scenario are those of the moment after all steps: that the run stops at its end
 -- changes nothing

@@ -1,23 +1,8 @@
 -- The cores and the ports of a run event by event hold what the rounds hold, each at a moment of
 -- its own.
 use Rattle.std.specs.Prelude.{ℕ, ◌≡◌, ◌+◌, ◌⊎◌, true, false, Some, List, slice_get, is_some}
-use Rattle.rb_base.specs.Nodes.{Side}
-use Rattle.rb_base.specs.Nodes.Side.{Biu}
-use Rattle.rb_base.specs.Sizes.{sync_slot_of}
-use Rattle.rb_base.specs.declared.values.Place.{Place}
-use Rattle.rb_rules.specs.declared.plan.Window.{Window}
-use Rattle.rb_rules.specs.Book.{of_kind}
-use Rattle.rb_rules.specs.Book.Milestone.{Stage}
-use Rattle.rb_rules.specs.Core.{Core, state_at, window_here}
-use Rattle.rb_rules.specs.ExactStage.{keep_sent}
-use Rattle.rb_rules.specs.Goodness.{Scenario, is_good}
-use Rattle.rb_rules.specs.Hearing.{port_at}
-use Rattle.rb_rules.specs.Lawful.{IsLawful}
-use Rattle.rb_rules.specs.Moments.{before_stage, IsRunning}
-use Rattle.rb_rules.specs.NodeState.{NodeState}
-use Rattle.rb_rules.specs.Ports.{HandIn}
-use Rattle.rb_rules.specs.Rounds.{Moment, window_in, word_for_window}
-use Rattle.rb_rules.specs.WorldStep.{Choice, Site, Timed, World, world_after}
+use Rattle.rb_base.specs.{Nodes.Side, Nodes.Side.Biu, Sizes.sync_slot_of, declared.values.Place.Place}
+use Rattle.rb_rules.specs.{declared.plan.Window.Window, Book.of_kind, Book.Milestone.Stage, Core.{Core, state_at, window_here}, ExactStage.keep_sent, Goodness.{Scenario, is_good}, Hearing.port_at, Lawful.IsLawful, Moments.{before_stage, IsRunning}, NodeState.NodeState, Ports.HandIn, Rounds.{Moment, window_in, word_for_window}, WorldStep.{Choice, Site, Timed, World, world_after}}
 
 -- The moment of a core.
 

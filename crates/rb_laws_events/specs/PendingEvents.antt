@@ -1,15 +1,7 @@
 -- How much may be pending at a node.
 use Rattle.std.specs.Prelude.{ℕ, ◌≡◌, ◌+◌, ◌*◌, ◌≤◌, true, Some, List, length, slice_get}
 use Rattle.rb_base.specs.Nodes.{Side, other}
-use Rattle.rb_rules.specs.declared.message.Message.{Message}
-use Rattle.rb_rules.specs.Book.{of_kind}
-use Rattle.rb_rules.specs.Core.{Act}
-use Rattle.rb_rules.specs.Entries.{IsListed}
-use Rattle.rb_rules.specs.Goodness.{Scenario}
-use Rattle.rb_rules.specs.Lawful.{IsLawful}
-use Rattle.rb_rules.specs.Slots.{count_of}
-use Rattle.rb_rules.specs.WorldStep.{Choice, Site, World, after_act, due_of, pass_and_tick, times_of, world_after}
-use Rattle.rb_rules.specs.WorldStep.Pending.{Tick}
+use Rattle.rb_rules.specs.{declared.message.Message.Message, Book.of_kind, Core.Act, Entries.IsListed, Goodness.Scenario, Lawful.IsLawful, Slots.count_of, WorldStep.{Choice, Site, World, after_act, due_of, pass_and_tick, times_of, world_after}, WorldStep.Pending.Tick}
 
 -- what comes to a node of this kind, at most: from each node of the other kind a message for the
 -- window in which the node is and one for the next, and two more until the run has ended, if it

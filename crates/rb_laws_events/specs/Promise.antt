@@ -1,13 +1,9 @@
 -- What is promised of the nodes of a run event by event, and of its rounds beside the headline.
 use Rattle.std.specs.Prelude.{List}
-use Rattle.rb_rules.specs.Goodness.{Scenario}
-use Rattle.rb_rules.specs.Lawful.{IsLawful}
-use Rattle.rb_rules.specs.Ports.{HandIn}
-use Rattle.rb_rules.specs.WorldStep.{Choice, World, world_after}
+use Rattle.rb_rules.specs.{Goodness.Scenario, Lawful.IsLawful, Ports.HandIn, WorldStep.{Choice, World, world_after}}
 use Rattle.rb_laws_agreement.specs.Laws.{ConvictWhomAllAccuse, GiveUnheardNodesNoVector, GoodPortsAgree, GoodPortsFollowTheBus}
 use Rattle.rb_laws_synchrony.specs.Laws.{EachWindowIsTimely}
-use Rattle.rb_laws_events.specs.OwnMoments.{FollowsTheRounds, HoldsTheRounds, IsBeforeTheBreak}
-use Rattle.rb_laws_events.specs.RunningNodes.{NodesConvictWhomAllAccused, RunningNodesAgree, RunningNodesAreTheBus, RunningPortsAgree, RunningPortsFollowTheBus}
+use Rattle.rb_laws_events.specs.{OwnMoments.{FollowsTheRounds, HoldsTheRounds, IsBeforeTheBreak}, RunningNodes.{NodesConvictWhomAllAccused, RunningNodesAgree, RunningNodesAreTheBus, RunningPortsAgree, RunningPortsFollowTheBus}}
 
 -- what the rounds with these hand-ins keep beside the headline
 pub record RoundsKeepThePromise (sc : Scenario) (hands : List HandIn) : Type 0 where

@@ -1,23 +1,9 @@
 -- What running nodes of one world have in common: when they begin a slot, their schedule, whom they
 -- hold convicted, their votes and ports; and that they hold what the abstract bus holds.
 use Rattle.std.specs.Prelude.{ℕ, suc, ◌≡◌, ◌+◌, ◌*◌, ◌<◌, ◌≤◌, ◌⊎◌, true, false, List}
-use Rattle.rb_base.specs.Nodes.{Side, has}
-use Rattle.rb_base.specs.Nodes.Side.{Biu}
-use Rattle.rb_base.specs.Sizes.{sync_slot_of}
-use Rattle.rb_rules.specs.declared.plan.Window.{Window}
-use Rattle.rb_rules.specs.Goodness.{Scenario, is_good}
-use Rattle.rb_rules.specs.Headline.{stated_skew}
-use Rattle.rb_rules.specs.Hearing.{port_at}
-use Rattle.rb_rules.specs.Lawful.{IsLawful}
-use Rattle.rb_rules.specs.Moments.{BeginsFrame, IsComplete, IsReached, IsRunning, time_in_frame}
-use Rattle.rb_rules.specs.NodeState.{NodeState}
-use Rattle.rb_rules.specs.NodeSteps.{convicted_of}
-use Rattle.rb_rules.specs.Slots.{count_of}
-use Rattle.rb_rules.specs.StandsFor.{AgreesBefore, FrameTakes, HoldsVote, SparesAllGood, StandsFor, steps_to, votes_on}
-use Rattle.rb_rules.specs.WorldStep.{Choice, World, world_after}
-use Rattle.rb_laws_agreement.specs.Histories.{AreAlike, port_begun, port_through}
-use Rattle.rb_laws_agreement.specs.Laws.{IsAccusedByAll}
-use Rattle.rb_laws_agreement.specs.Values.{vote_on}
+use Rattle.rb_base.specs.{Nodes.{Side, has}, Nodes.Side.Biu, Sizes.sync_slot_of}
+use Rattle.rb_rules.specs.{declared.plan.Window.Window, Goodness.{Scenario, is_good}, Headline.stated_skew, Hearing.port_at, Lawful.IsLawful, Moments.{BeginsFrame, IsComplete, IsReached, IsRunning, time_in_frame}, NodeState.NodeState, NodeSteps.convicted_of, Slots.count_of, StandsFor.{AgreesBefore, FrameTakes, HoldsVote, SparesAllGood, StandsFor, steps_to, votes_on}, WorldStep.{Choice, World, world_after}}
+use Rattle.rb_laws_agreement.specs.{Histories.{AreAlike, port_begun, port_through}, Laws.IsAccusedByAll, Values.vote_on}
 use Rattle.rb_laws_events.specs.OwnMoments.{IsBeforeTheBreak, RunningNode, moment_of, open_window, ready_state}
 
 -- One running node.

@@ -1,24 +1,13 @@
 -- What good ports deliver is the same, so groups come to the same there.
-use Rattle.std.proofs.Common.{◌≡◌, ℕ, zero, suc, ◌==◌, Bool, true, false, inl, inr, Option, Some, None, List, [], ◌++◌, if◌then◌else◌, refl, sym, ◌∙◌, ap, arith}
-use Rattle.std.proofs.lemmas.Bool.{cases_lt, eqb-true}
-use Rattle.rb_base.specs.Nodes.Side.{Biu}
-use Rattle.rb_base.specs.declared.values.Delivery.{Delivery}
-use Rattle.rb_base.specs.declared.values.Heard.{Heard}
-use Rattle.rb_rules.specs.Book.Record.{Slot}
-use Rattle.rb_rules.specs.Goodness.{Scenario, is_good}
-use Rattle.rb_rules.specs.Lawful.{IsLawful}
-use Rattle.rb_rules.specs.Ports.{HandIn}
-use Rattle.rb_rules.specs.Rounds.{moment, steps_of}
-use Rattle.rb_rules.specs.Slots.{role_of}
+use Rattle.std.proofs.{Common.{◌≡◌, ℕ, zero, suc, ◌==◌, Bool, true, false, inl, inr, Option, Some, None, List, [], ◌++◌, if◌then◌else◌, refl, sym, ◌∙◌, ap, arith}, lemmas.Bool.{cases_lt, eqb-true}}
+use Rattle.rb_base.specs.{Nodes.Side.Biu, declared.values.Delivery.Delivery, declared.values.Heard.Heard}
+use Rattle.rb_rules.specs.{Book.Record.Slot, Goodness.{Scenario, is_good}, Lawful.IsLawful, Ports.HandIn, Rounds.{moment, steps_of}, Slots.role_of}
 use Rattle.rb_rules.proofs.Books.{records-are}
 use Rattle.rb_laws_agreement.specs.Values.{lines_in}
-use Rattle.rb_laws_agreement.proofs.Deliveries.{owner_sending}
-use Rattle.rb_laws_agreement.proofs.Goodnesses.{good_earlier}
-use Rattle.rb_group.specs.Groups.{group_value}
-use Rattle.rb_group.specs.Portions.{deliveries_in, port_deliveries, told_of}
+use Rattle.rb_laws_agreement.proofs.{Deliveries.owner_sending, Goodnesses.good_earlier}
+use Rattle.rb_group.specs.{Groups.group_value, Portions.{deliveries_in, port_deliveries, told_of}}
 use Rattle.rb_laws_groups.specs.Laws.{GroupsAgree, IsGoodPort, last_data_slot}
-use Rattle.rb_laws_groups.proofs.Added.{first-told, step-tells, told-more, told_in}
-use Rattle.rb_laws_groups.proofs.Served.{IsServed, no-owner, one-delivery, served}
+use Rattle.rb_laws_groups.proofs.{Added.{first-told, step-tells, told-more, told_in}, Served.{IsServed, no-owner, one-delivery, served}}
 
 -- the lines of a slot tell the same of two good ports
 lines-alike : (sc : Scenario) (frame slot : ℕ) (owner : Option ℕ) (value : Heard) (i j : ℕ) → is_good sc Biu i frame slot ≡ true → is_good sc Biu j frame slot ≡ true

@@ -1,32 +1,14 @@
 -- What a port has delivered of each BIU in a frame whose data slots are served.
-use Rattle.std.proofs.Common.{◌≡◌, ℕ, zero, suc, ◌+◌, ◌-◌, ◌*◌, ◌<◌, ◌≤◌, ◌==◌, nat_lt, true, false, inl, inr, Option, Some, None, slice_get, List, [], ◌∷◌, refl, sym, ◌∙◌, ap, subst, arith}
+use Rattle.std.proofs.{Common.{◌≡◌, ℕ, zero, suc, ◌+◌, ◌-◌, ◌*◌, ◌<◌, ◌≤◌, ◌==◌, nat_lt, true, false, inl, inr, Option, Some, None, slice_get, List, [], ◌∷◌, refl, sym, ◌∙◌, ap, subst, arith}, lemmas.Bool.{cases_lt, cases_order}, Math.Nat.{add-sub_of_le, mul-le-mul_right}}
 use Rattle.std.specs.List.{range_with_len}
-use Rattle.std.proofs.lemmas.Bool.{cases_lt, cases_order}
-use Rattle.std.proofs.Math.Nat.{add-sub_of_le, mul-le-mul_right}
-use Rattle.rb_base.specs.Nodes.Side.{Biu}
-use Rattle.rb_base.specs.Sizes.{sync_slot_of}
+use Rattle.rb_base.specs.{Nodes.Side.Biu, Sizes.sync_slot_of}
 use Rattle.rb_base.proofs.Plain.{eq_self, range-more}
-use Rattle.rb_rules.specs.declared.role.Role.{Role}
-use Rattle.rb_rules.specs.declared.role.Role.TheVariants.{Schedule, Data, DiagBiu, DiagRmu, Sync}
-use Rattle.rb_rules.specs.Book.{of_kind}
-use Rattle.rb_rules.specs.Goodness.{Scenario}
-use Rattle.rb_rules.specs.Lawful.{IsLawful}
-use Rattle.rb_rules.specs.Moments.{before_slot, IsComplete, IsRunning}
-use Rattle.rb_rules.specs.NodeState.{NodeState}
-use Rattle.rb_rules.specs.NodeSteps.{owner_at, owner_for}
-use Rattle.rb_rules.specs.Ports.{HandIn}
-use Rattle.rb_rules.specs.Rounds.{Moment, moment, records_of, step, steps_of, windows_in}
-use Rattle.rb_rules.specs.Slots.{role_of}
+use Rattle.rb_rules.specs.{declared.role.Role.Role, declared.role.Role.TheVariants.{Schedule, Data, DiagBiu, DiagRmu, Sync}, Book.of_kind, Goodness.Scenario, Lawful.IsLawful, Moments.{before_slot, IsComplete, IsRunning}, NodeState.NodeState, NodeSteps.{owner_at, owner_for}, Ports.HandIn, Rounds.{Moment, moment, records_of, step, steps_of, windows_in}, Slots.role_of}
 use Rattle.rb_rules.proofs.Books.{records-are, stepped}
-use Rattle.rb_laws_agreement.proofs.Agreement.{IsAgreed, agreement, ended-end, running_before}
-use Rattle.rb_laws_agreement.proofs.Goodnesses.{good_earlier}
-use Rattle.rb_laws_agreement.proofs.Places.{running_earlier}
-use Rattle.rb_laws_agreement.proofs.SlotLaws.{one-schedule}
-use Rattle.rb_group.specs.Groups.{first_of}
-use Rattle.rb_group.specs.Portions.{port_deliveries}
+use Rattle.rb_laws_agreement.proofs.{Agreement.{IsAgreed, agreement, ended-end, running_before}, Goodnesses.good_earlier, Places.running_earlier, SlotLaws.one-schedule}
+use Rattle.rb_group.specs.{Groups.first_of, Portions.port_deliveries}
 use Rattle.rb_laws_groups.specs.Laws.{AreServed, FramesHaveASchedule, IsGoodPort, IsSchedule, first_among, first_slot, last_data_slot}
-use Rattle.rb_laws_groups.proofs.Added.{first-told, told_in}
-use Rattle.rb_laws_groups.proofs.Owned.{HasState, IsDeliveredOf, SlotAdds, delivered-more, first_among-append, first_of-append, has-state, or_else, quiet-steps, slot-adds}
+use Rattle.rb_laws_groups.proofs.{Added.{first-told, told_in}, Owned.{HasState, IsDeliveredOf, SlotAdds, delivered-more, first_among-append, first_of-append, has-state, or_else, quiet-steps, slot-adds}}
 
 -- The data slots are complete.
 

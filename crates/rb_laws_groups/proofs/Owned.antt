@@ -1,37 +1,14 @@
 -- What a port delivers of each BIU: nothing of one that owns no data slot, something of one that
 -- does, and of a good one its word.
-use Rattle.std.proofs.Common.{◌≡◌, ℕ, zero, suc, ◌+◌, ◌*◌, ◌<◌, ◌≤◌, ◌==◌, ◌⊎◌, Bool, true, false, inl, inr, Option, Some, None, is_some, slice_get, List, [], ◌∷◌, ◌++◌, if◌then◌else◌, refl, sym, ◌∙◌, ap, subst, arith}
-use Rattle.std.proofs.lemmas.Bool.{eqb-true}
-use Rattle.std.proofs.lemmas.List.{append-nil}
-use Rattle.rb_base.specs.Nodes.Side.{Biu}
-use Rattle.rb_base.specs.Sizes.{sync_slot_of}
-use Rattle.rb_base.specs.declared.values.Delivery.{Delivery}
-use Rattle.rb_base.specs.declared.values.Heard.{Heard}
-use Rattle.rb_base.specs.declared.values.Heard.TheVariants.{Word, Fault}
+use Rattle.std.proofs.{Common.{◌≡◌, ℕ, zero, suc, ◌+◌, ◌*◌, ◌<◌, ◌≤◌, ◌==◌, ◌⊎◌, Bool, true, false, inl, inr, Option, Some, None, is_some, slice_get, List, [], ◌∷◌, ◌++◌, if◌then◌else◌, refl, sym, ◌∙◌, ap, subst, arith}, lemmas.Bool.eqb-true, lemmas.List.append-nil}
+use Rattle.rb_base.specs.{Nodes.Side.Biu, Sizes.sync_slot_of, declared.values.Delivery.Delivery, declared.values.Heard.Heard, declared.values.Heard.TheVariants.{Word, Fault}}
 use Rattle.rb_base.proofs.Plain.{eq_self}
-use Rattle.rb_rules.specs.Book.{of_kind}
-use Rattle.rb_rules.specs.Goodness.{Scenario, is_good}
-use Rattle.rb_rules.specs.Headline.{DeliversOneValue, HasRecord, lines_of}
-use Rattle.rb_rules.specs.Lawful.{IsLawful}
-use Rattle.rb_rules.specs.Moments.{before_slot, after_slot, IsComplete, IsGoodBefore, offered_in}
-use Rattle.rb_rules.specs.NodeState.{NodeState}
-use Rattle.rb_rules.specs.NodeSteps.{owner_at}
-use Rattle.rb_rules.specs.Ports.{HandIn}
-use Rattle.rb_rules.specs.Rounds.{Moment, moment, windows_in}
-use Rattle.rb_rules.specs.Slots.{role_of}
+use Rattle.rb_rules.specs.{Book.of_kind, Goodness.{Scenario, is_good}, Headline.{DeliversOneValue, HasRecord, lines_of}, Lawful.IsLawful, Moments.{before_slot, after_slot, IsComplete, IsGoodBefore, offered_in}, NodeState.NodeState, NodeSteps.owner_at, Ports.HandIn, Rounds.{Moment, moment, windows_in}, Slots.role_of}
 use Rattle.rb_laws_agreement.specs.Values.{lines_in}
-use Rattle.rb_laws_agreement.proofs.Deliveries.{owner_sending}
-use Rattle.rb_laws_agreement.proofs.Invariant.{is_good_now}
-use Rattle.rb_laws_agreement.proofs.Promises.{deliver-alike, deliver-word}
-use Rattle.rb_laws_agreement.proofs.Settings.{good_state}
-use Rattle.rb_laws_agreement.proofs.SlotRuns.{IsSlot, slot_runs, good_in_stage}
-use Rattle.rb_laws_agreement.proofs.Tests.{Present, true_or_false}
-use Rattle.rb_group.specs.Groups.{first_of}
-use Rattle.rb_group.specs.Portions.{deliveries_in, port_deliveries}
+use Rattle.rb_laws_agreement.proofs.{Deliveries.owner_sending, Invariant.is_good_now, Promises.{deliver-alike, deliver-word}, Settings.good_state, SlotRuns.{IsSlot, slot_runs, good_in_stage}, Tests.{Present, true_or_false}}
+use Rattle.rb_group.specs.{Groups.first_of, Portions.{deliveries_in, port_deliveries}}
 use Rattle.rb_laws_groups.specs.Laws.{first_among, is_number}
-use Rattle.rb_laws_groups.proofs.Added.{step-tells, told-more, told_in}
-use Rattle.rb_laws_groups.proofs.Alike.{no-lines}
-use Rattle.rb_laws_groups.proofs.Served.{IsServed, no-owner, one-delivery, served}
+use Rattle.rb_laws_groups.proofs.{Added.{step-tells, told-more, told_in}, Alike.no-lines, Served.{IsServed, no-owner, one-delivery, served}}
 
 -- A frame of which nothing is told.
 

@@ -1,36 +1,14 @@
 -- The lines of every record of a run are right.
-use Rattle.std.proofs.Common.{◌≡◌, ℕ, zero, suc, ◌+◌, ◌-◌, ◌*◌, ◌<◌, Bool, true, false, ◌⊎◌, inl, inr, cond, All, Option, Some, None, List, [], ◌∷◌, ◌++◌, filter, map, length, slice_get, refl, sym, ◌∙◌, ap, subst, arith}
+use Rattle.std.proofs.{Common.{◌≡◌, ℕ, zero, suc, ◌+◌, ◌-◌, ◌*◌, ◌<◌, Bool, true, false, ◌⊎◌, inl, inr, cond, All, Option, Some, None, List, [], ◌∷◌, ◌++◌, filter, map, length, slice_get, refl, sym, ◌∙◌, ap, subst, arith}, lemmas.List.Elements.{All-nil, All-cons, All-append}}
 use Rattle.std.specs.List.{last_or}
-use Rattle.std.proofs.lemmas.List.Elements.{All-nil, All-cons, All-append}
-use Rattle.rb_base.specs.Counting.{numbers}
-use Rattle.rb_base.specs.Nodes.Side.{Biu}
-use Rattle.rb_base.specs.Sizes.{sync_slot_of}
-use Rattle.rb_base.specs.declared.values.Heard.{Heard}
+use Rattle.rb_base.specs.{Counting.numbers, Nodes.Side.Biu, Sizes.sync_slot_of, declared.values.Heard.Heard}
 use Rattle.rb_base.proofs.Plain.{last_or-append}
-use Rattle.rb_rules.specs.declared.record.SlotLine.{SlotLine}
-use Rattle.rb_rules.specs.Book.{Record, of_kind}
-use Rattle.rb_rules.specs.Book.Record.{Frame, Slot, Ended, Breach}
-use Rattle.rb_rules.specs.Goodness.{Scenario, is_good}
-use Rattle.rb_rules.specs.Headline.{DeliversOneValue, HasRecord, lines_of}
-use Rattle.rb_rules.specs.Lawful.{IsLawful}
-use Rattle.rb_rules.specs.Moments.{after_slot, before_slot, IsComplete, IsGoodBefore}
-use Rattle.rb_rules.specs.NodeState.{NodeState}
-use Rattle.rb_rules.specs.NodeSteps.{owner_at}
-use Rattle.rb_rules.specs.Ports.{HandIn}
-use Rattle.rb_rules.specs.Rounds.{moment, steps_of, windows_in}
-use Rattle.rb_rules.specs.Slots.{role_of}
+use Rattle.rb_rules.specs.{declared.record.SlotLine.SlotLine, Book.{Record, of_kind}, Book.Record.{Frame, Slot, Ended, Breach}, Goodness.{Scenario, is_good}, Headline.{DeliversOneValue, HasRecord, lines_of}, Lawful.IsLawful, Moments.{after_slot, before_slot, IsComplete, IsGoodBefore}, NodeState.NodeState, NodeSteps.owner_at, Ports.HandIn, Rounds.{moment, steps_of, windows_in}, Slots.role_of}
 use Rattle.rb_rules.proofs.Books.{records-are}
 use Rattle.rb_laws_agreement.specs.Values.{lines_in}
-use Rattle.rb_laws_agreement.proofs.Deliveries.{owner_sending}
-use Rattle.rb_laws_agreement.proofs.Goodnesses.{good_counts}
-use Rattle.rb_laws_agreement.proofs.Places.{IsPlaced, complete_before, placed}
-use Rattle.rb_laws_agreement.proofs.Promises.{deliveries_are_right}
-use Rattle.rb_laws_agreement.proofs.Settings.{item_at}
-use Rattle.rb_laws_agreement.proofs.TablesHold.{held-delivered}
-use Rattle.rb_laws_agreement.proofs.Tests.{Present}
+use Rattle.rb_laws_agreement.proofs.{Deliveries.owner_sending, Goodnesses.good_counts, Places.{IsPlaced, complete_before, placed}, Promises.deliveries_are_right, Settings.item_at, TablesHold.held-delivered, Tests.Present}
 use Rattle.rb_laws_groups.specs.Lines.{AreOfSender, IsRight, RecordsAreRight}
-use Rattle.rb_laws_groups.proofs.Added.{AddsNoSlot, IsPlain, first-adds, step-adds}
-use Rattle.rb_laws_groups.proofs.Served.{IsServed, served}
+use Rattle.rb_laws_groups.proofs.{Added.{AddsNoSlot, IsPlain, first-adds, step-adds}, Served.{IsServed, served}}
 
 -- Lists.
 

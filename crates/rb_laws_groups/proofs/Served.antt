@@ -1,32 +1,12 @@
 -- The slots of which a run gives a record: each is complete, and its lines are one value at all
 -- good BIUs.
-use Rattle.std.proofs.Common.{◌≡◌, ℕ, zero, suc, ◌+◌, ◌-◌, ◌*◌, ◌<◌, ◌≤◌, ◌==◌, nat_lt, Bool, true, false, ◌⊎◌, inl, inr, cond, None, List, [], ◌∷◌, ◌++◌, filter, map, if◌then◌else◌, refl, sym, ◌∙◌, ap, arith}
+use Rattle.std.proofs.{Common.{◌≡◌, ℕ, zero, suc, ◌+◌, ◌-◌, ◌*◌, ◌<◌, ◌≤◌, ◌==◌, nat_lt, Bool, true, false, ◌⊎◌, inl, inr, cond, None, List, [], ◌∷◌, ◌++◌, filter, map, if◌then◌else◌, refl, sym, ◌∙◌, ap, arith}, lemmas.Bool.{cases_lt, le-ltb, lt-ltb}, lemmas.Bool.Decides.nat_tests}
 use Rattle.std.specs.List.{range_with_len}
-use Rattle.std.proofs.lemmas.Bool.{cases_lt, le-ltb, lt-ltb}
-use Rattle.std.proofs.lemmas.Bool.Decides.{nat_tests}
-use Rattle.rb_base.specs.Nodes.Side.{Biu, Rmu}
-use Rattle.rb_base.specs.Sizes.{Sizes, sync_slot_of}
-use Rattle.rb_base.specs.declared.values.Delivery.{Delivery}
-use Rattle.rb_base.specs.declared.values.Heard.{Heard}
+use Rattle.rb_base.specs.{Nodes.Side.{Biu, Rmu}, Sizes.{Sizes, sync_slot_of}, declared.values.Delivery.Delivery, declared.values.Heard.Heard}
 use Rattle.rb_base.proofs.Plain.{eq_self}
-use Rattle.rb_rules.specs.declared.record.SlotLine.{SlotLine}
-use Rattle.rb_rules.specs.declared.role.Role.{Role}
-use Rattle.rb_rules.specs.declared.role.Role.TheVariants.{Schedule, Data, DiagBiu, DiagRmu, Sync}
-use Rattle.rb_rules.specs.Book.Record.{Slot}
-use Rattle.rb_rules.specs.Goodness.{Scenario, is_good}
-use Rattle.rb_rules.specs.Headline.{lines_of}
-use Rattle.rb_rules.specs.Lawful.{IsLawful}
-use Rattle.rb_rules.specs.Moments.{IsComplete, IsRunning}
-use Rattle.rb_rules.specs.Ports.{HandIn}
-use Rattle.rb_rules.specs.Rounds.{Moment, moment, windows_in}
-use Rattle.rb_rules.specs.Slots.{Sender, role_of, first_diagnosis_of}
+use Rattle.rb_rules.specs.{declared.record.SlotLine.SlotLine, declared.role.Role.Role, declared.role.Role.TheVariants.{Schedule, Data, DiagBiu, DiagRmu, Sync}, Book.Record.Slot, Goodness.{Scenario, is_good}, Headline.lines_of, Lawful.IsLawful, Moments.{IsComplete, IsRunning}, Ports.HandIn, Rounds.{Moment, moment, windows_in}, Slots.{Sender, role_of, first_diagnosis_of}}
 use Rattle.rb_laws_agreement.specs.Values.{lines_in}
-use Rattle.rb_laws_agreement.proofs.Agreement.{IsAgreed, agreement, running_before}
-use Rattle.rb_laws_agreement.proofs.Deliveries.{owner_sending}
-use Rattle.rb_laws_agreement.proofs.Goodnesses.{good_counts}
-use Rattle.rb_laws_agreement.proofs.Invariant.{sender_of}
-use Rattle.rb_laws_agreement.proofs.SlotRuns.{IsSlot, slot_runs}
-use Rattle.rb_laws_agreement.proofs.SlotValues.{slot-lines, value_of_slot}
+use Rattle.rb_laws_agreement.proofs.{Agreement.{IsAgreed, agreement, running_before}, Deliveries.owner_sending, Goodnesses.good_counts, Invariant.sender_of, SlotRuns.{IsSlot, slot_runs}, SlotValues.{slot-lines, value_of_slot}}
 use Rattle.rb_group.specs.Portions.{deliveries_in}
 use Rattle.rb_laws_groups.proofs.Added.{AddsSlot}
 

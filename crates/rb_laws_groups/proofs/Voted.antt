@@ -1,31 +1,14 @@
 -- What the voters find for a group, by what is delivered of its members.
-use Rattle.std.proofs.Common.{◌≡◌, ℕ, ◌+◌, ◌<◌, ◌≤◌, ◌&&◌, not, Bool, true, false, cond, Option, Some, None, is_some, List, [], ◌∷◌, length, filter, map, get_or, if◌then◌else◌, refl, sym, ◌∙◌, ap, subst, arith}
+use Rattle.std.proofs.{Common.{◌≡◌, ℕ, ◌+◌, ◌<◌, ◌≤◌, ◌&&◌, not, Bool, true, false, cond, Option, Some, None, is_some, List, [], ◌∷◌, length, filter, map, get_or, if◌then◌else◌, refl, sym, ◌∙◌, ap, subst, arith}, lemmas.Bool.{and_from, eqb-true}, lemmas.List.length-map, lemmas.List.Elements.All-from_get_or}
 use Rattle.std.specs.List.{cons_option}
-use Rattle.std.proofs.lemmas.Bool.{and_from, eqb-true}
-use Rattle.std.proofs.lemmas.List.{length-map}
-use Rattle.std.proofs.lemmas.List.Elements.{All-from_get_or}
-use Rattle.rb_base.specs.Counting.{count_if, numbers}
-use Rattle.rb_base.specs.Nodes.{has}
-use Rattle.rb_base.specs.Nodes.Side.{Biu}
-use Rattle.rb_base.specs.declared.values.Delivery.{Delivery}
-use Rattle.rb_base.specs.declared.values.Heard.{Heard}
-use Rattle.rb_base.specs.declared.values.Heard.TheVariants.{Word, Fault}
-use Rattle.rb_base.proofs.Counts.{count_if-le, count_if-le_length}
-use Rattle.rb_base.proofs.Plain.{and_first, and_second}
-use Rattle.rb_rules.specs.ExactStage.{present}
-use Rattle.rb_rules.specs.Goodness.{Scenario, is_good}
-use Rattle.rb_rules.specs.Middle.{middle_of}
-use Rattle.rb_rules.specs.Moments.{offered_in}
-use Rattle.rb_rules.specs.Ports.{HandIn, word_in, word_or_0}
-use Rattle.rb_rules.specs.Rounds.{records_of}
-use Rattle.rb_rules.proofs.Middles.{IsBetween, has_middle, middle_between, middle_is}
-use Rattle.rb_rules.proofs.Votes.{vote_is}
+use Rattle.rb_base.specs.{Counting.{count_if, numbers}, Nodes.has, Nodes.Side.Biu, declared.values.Delivery.Delivery, declared.values.Heard.Heard, declared.values.Heard.TheVariants.{Word, Fault}}
+use Rattle.rb_base.proofs.{Counts.{count_if-le, count_if-le_length}, Plain.{and_first, and_second}}
+use Rattle.rb_rules.specs.{ExactStage.present, Goodness.{Scenario, is_good}, Middle.middle_of, Moments.offered_in, Ports.{HandIn, word_in, word_or_0}, Rounds.records_of}
+use Rattle.rb_rules.proofs.{Middles.{IsBetween, has_middle, middle_between, middle_is}, Votes.vote_is}
 use Rattle.rb_laws_agreement.proofs.Tests.{Present, present_if}
-use Rattle.rb_group.specs.Groups.{first_of, heard_of, value_of, values_of, words_in}
-use Rattle.rb_group.specs.Portions.{port_deliveries}
+use Rattle.rb_group.specs.{Groups.{first_of, heard_of, value_of, values_of, words_in}, Portions.port_deliveries}
 use Rattle.rb_laws_groups.specs.Laws.{MidStaysBetween, MostFindsTheWord, Outnumber, first_slot, has_slot, is_good_owner, is_number, offer_in, offer_of, offers}
-use Rattle.rb_laws_groups.proofs.Frames.{delivered-of}
-use Rattle.rb_laws_groups.proofs.Owned.{IsDeliveredOf}
+use Rattle.rb_laws_groups.proofs.{Frames.delivered-of, Owned.IsDeliveredOf}
 
 -- One member.
 

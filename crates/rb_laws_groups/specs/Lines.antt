@@ -1,15 +1,7 @@
 -- What the lines of a slot's record say, and the law that the records of every run say it.
 use Rattle.std.specs.Prelude.{⊤, ℕ, ◌≡◌, ◌⊎◌, ◌^◌, ◌%◌, true, All, List, [], get_or}
-use Rattle.rb_base.specs.Nodes.Side.{Biu}
-use Rattle.rb_base.specs.declared.values.Heard.{Heard}
-use Rattle.rb_base.specs.declared.values.Heard.TheVariants.{Word}
-use Rattle.rb_rules.specs.declared.record.SlotLine.{SlotLine}
-use Rattle.rb_rules.specs.Book.{Record}
-use Rattle.rb_rules.specs.Goodness.{Scenario, is_good}
-use Rattle.rb_rules.specs.Headline.{lines_of}
-use Rattle.rb_rules.specs.Lawful.{IsLawful}
-use Rattle.rb_rules.specs.Ports.{HandIn}
-use Rattle.rb_rules.specs.Rounds.{records_of}
+use Rattle.rb_base.specs.{Nodes.Side.Biu, declared.values.Heard.Heard, declared.values.Heard.TheVariants.Word}
+use Rattle.rb_rules.specs.{declared.record.SlotLine.SlotLine, Book.Record, Goodness.{Scenario, is_good}, Headline.lines_of, Lawful.IsLawful, Ports.HandIn, Rounds.records_of}
 use Rattle.rb_laws_agreement.specs.Held.{state_held}
 
 -- the lines are of one sender: each BIU that is good in the slot has one line, and all lines have

@@ -1,12 +1,8 @@
 -- The letters that a sender of letters has taken, at a good port.
-use Rattle.std.proofs.Common.{◌≡◌, ℕ, ◌<◌, All, true, List, [], ◌∷◌, length, sym, ap, ◌∙◌, subst}
-use Rattle.std.proofs.lemmas.List.Elements.{All-cons, All-head, All-nil, All-tail}
+use Rattle.std.proofs.{Common.{◌≡◌, ℕ, ◌<◌, All, true, List, [], ◌∷◌, length, sym, ap, ◌∙◌, subst}, lemmas.List.Elements.{All-cons, All-head, All-nil, All-tail}}
 use Rattle.rb_long.specs.Spelling.{is_length}
-use Rattle.rb_laws_letters.specs.Laws.{LettersArrive, ReceivesFrom, ReceivesTheLetters, SendsItsLetters}
-use Rattle.rb_laws_letters.specs.Offers.{offered_by}
-use Rattle.rb_laws_letters.specs.Sent.{IsFirstPart, IsLetter, Sent, after_calls, nothing_sent, without_zeros, words_of}
-use Rattle.rb_laws_letters.proofs.Received.{senders-received}
-use Rattle.rb_laws_letters.proofs.Senders.{senders-send}
+use Rattle.rb_laws_letters.specs.{Laws.{LettersArrive, ReceivesFrom, ReceivesTheLetters, SendsItsLetters}, Offers.offered_by, Sent.{IsFirstPart, IsLetter, Sent, after_calls, nothing_sent, without_zeros, words_of}}
+use Rattle.rb_laws_letters.proofs.{Received.senders-received, Senders.senders-send}
 
 are-letters : (letters : List (List ℕ)) → All (λ l. is_length (length l) ≡ true) letters → All (λ l. All (λ b. b < 256) l) letters → All IsLetter letters
 are-letters [] long small = All-nil IsLetter

@@ -1,17 +1,9 @@
 -- What a reader makes of the words of letters.
-use Rattle.std.proofs.Common.{◌≡◌, ℕ, zero, suc, ◌+◌, ◌-◌, ◌*◌, ◌/◌, ◌%◌, ◌^◌, ◌<◌, ◌≤◌, ◌==◌, nat_le, nat_lt, not, All, Bool, true, false, cond, Option, Some, None, List, [], ◌∷◌, ◌++◌, drop, take, length, map, get_or, append_assoc, refl, sym, ap, ◌∙◌, subst, arith}
-use Rattle.std.specs.List.{list_all, range_with_len}
-use Rattle.std.specs.Option.{option_to_list}
-use Rattle.std.proofs.lemmas.Bool.{and_from, and_right, le-leb, le-ltb, lt-ltb}
-use Rattle.std.proofs.lemmas.Bool.Decides.{nat_tests}
-use Rattle.std.proofs.lemmas.List.{append-nil, length-append, map-append}
-use Rattle.std.proofs.lemmas.List.Elements.{All-head, All-tail}
-use Rattle.rb_base.specs.declared.values.Heard.{Heard}
-use Rattle.rb_base.specs.declared.values.Heard.TheVariants.{Word}
-use Rattle.rb_long.specs.Reading.{OpenLetter, Read, given_with, is_zero, keeps, open_after, with_bytes, with_last, with_part, with_value, with_word}
-use Rattle.rb_long.specs.Spelling.{bytes_in, first_word, is_first, is_length, is_part, part_at, part_word, parts_in, parts_of, spelling_of}
-use Rattle.rb_laws_letters.specs.Laws.{IsRead, LettersAreRead, WordsGiveTheirLetters}
-use Rattle.rb_laws_letters.specs.Sent.{IsLetter, heard_words, without_zeros, words_of}
+use Rattle.std.proofs.{Common.{◌≡◌, ℕ, zero, suc, ◌+◌, ◌-◌, ◌*◌, ◌/◌, ◌%◌, ◌^◌, ◌<◌, ◌≤◌, ◌==◌, nat_le, nat_lt, not, All, Bool, true, false, cond, Option, Some, None, List, [], ◌∷◌, ◌++◌, drop, take, length, map, get_or, append_assoc, refl, sym, ap, ◌∙◌, subst, arith}, lemmas.Bool.{and_from, and_right, le-leb, le-ltb, lt-ltb}, lemmas.Bool.Decides.nat_tests, lemmas.List.{append-nil, length-append, map-append}, lemmas.List.Elements.{All-head, All-tail}}
+use Rattle.std.specs.{List.{list_all, range_with_len}, Option.option_to_list}
+use Rattle.rb_base.specs.{declared.values.Heard.Heard, declared.values.Heard.TheVariants.Word}
+use Rattle.rb_long.specs.{Reading.{OpenLetter, Read, given_with, is_zero, keeps, open_after, with_bytes, with_last, with_part, with_value, with_word}, Spelling.{bytes_in, first_word, is_first, is_length, is_part, part_at, part_word, parts_in, parts_of, spelling_of}}
+use Rattle.rb_laws_letters.specs.{Laws.{IsRead, LettersAreRead, WordsGiveTheirLetters}, Sent.{IsLetter, heard_words, without_zeros, words_of}}
 
 -- Words one after another.
 

@@ -1,35 +1,14 @@
 -- What the ports of good BIUs receive of a sender.
-use Rattle.std.proofs.Common.{◌≡◌, ℕ, zero, suc, ◌+◌, ◌<◌, ◌≤◌, ◌==◌, ◌&&◌, ◌⊎◌, All, Bool, true, false, cond, Option, Some, None, List, [], ◌∷◌, ◌++◌, filter, length, map, if◌then◌else◌, inl, inr, refl, sym, ap, ◌∙◌, subst, arith}
+use Rattle.std.proofs.{Common.{◌≡◌, ℕ, zero, suc, ◌+◌, ◌<◌, ◌≤◌, ◌==◌, ◌&&◌, ◌⊎◌, All, Bool, true, false, cond, Option, Some, None, List, [], ◌∷◌, ◌++◌, filter, length, map, if◌then◌else◌, inl, inr, refl, sym, ap, ◌∙◌, subst, arith}, lemmas.Bool.{cases_lt, eq-eqb, eqb-true}, lemmas.List.append-nil, lemmas.List.Elements.{All-cons, All-head, All-nil, All-tail}, lemmas.Option.slice_get-get_or}
 use Rattle.std.specs.List.{range_with_len}
-use Rattle.std.proofs.lemmas.Bool.{cases_lt, eq-eqb, eqb-true}
-use Rattle.std.proofs.lemmas.List.{append-nil}
-use Rattle.std.proofs.lemmas.List.Elements.{All-cons, All-head, All-nil, All-tail}
-use Rattle.std.proofs.lemmas.Option.{slice_get-get_or}
-use Rattle.rb_base.specs.Nodes.Side.{Biu}
-use Rattle.rb_base.specs.Sizes.{sync_slot_of}
-use Rattle.rb_base.specs.declared.values.Heard.{Heard}
-use Rattle.rb_base.specs.declared.values.Heard.TheVariants.{Word}
+use Rattle.rb_base.specs.{Nodes.Side.Biu, Sizes.sync_slot_of, declared.values.Heard.Heard, declared.values.Heard.TheVariants.Word}
 use Rattle.rb_base.proofs.Plain.{less-differs, more-differs}
-use Rattle.rb_rules.specs.declared.record.SlotLine.{SlotLine}
-use Rattle.rb_rules.specs.Book.{Record, of_kind}
-use Rattle.rb_rules.specs.Book.Record.{Frame, Slot, Ended, Breach}
-use Rattle.rb_rules.specs.Goodness.{Scenario, is_good}
-use Rattle.rb_rules.specs.Headline.{DeliversOneValue, HasRecord, Headline, lines_of}
-use Rattle.rb_rules.specs.Lawful.{IsLawful}
-use Rattle.rb_rules.specs.Moments.{IsGoodBefore, before_slot, offered_in}
-use Rattle.rb_rules.specs.NodeState.{NodeState, first_state}
-use Rattle.rb_rules.specs.NodeSteps.{owner_at}
-use Rattle.rb_rules.specs.Ports.{HandIn}
-use Rattle.rb_laws_agreement.proofs.Places.{complete_before, placed}
+use Rattle.rb_rules.specs.{declared.record.SlotLine.SlotLine, Book.{Record, of_kind}, Book.Record.{Frame, Slot, Ended, Breach}, Goodness.{Scenario, is_good}, Headline.{DeliversOneValue, HasRecord, Headline, lines_of}, Lawful.IsLawful, Moments.{IsGoodBefore, before_slot, offered_in}, NodeState.{NodeState, first_state}, NodeSteps.owner_at, Ports.HandIn}
+use Rattle.rb_laws_agreement.proofs.{Places.{complete_before, placed}, Goodnesses.good_counts}
 use Rattle.rb_laws_promise.proofs.Promise.{promise}
-use Rattle.rb_long.specs.Delivered.{deliveries_in, is_from, lines_in, values_of}
-use Rattle.rb_long.specs.Reading.{given_with, open_after}
-use Rattle.rb_laws_agreement.proofs.Goodnesses.{good_counts}
-use Rattle.rb_laws_letters.specs.Laws.{AreFirst, GoodPortsReceiveAlike, GoodSendersAreReceived}
-use Rattle.rb_laws_letters.specs.Offers.{IsGoodThrough, is_good_in, is_owner, offered_by, offers, state_before}
-use Rattle.rb_laws_letters.specs.Sent.{IsFirstPart, heard_words, without_zeros}
-use Rattle.rb_laws_letters.proofs.Readings.{heard-append, words-give}
-use Rattle.rb_laws_letters.proofs.Recorded.{IsOfSlot, IsRecorded, all-recorded}
+use Rattle.rb_long.specs.{Delivered.{deliveries_in, is_from, lines_in, values_of}, Reading.{given_with, open_after}}
+use Rattle.rb_laws_letters.specs.{Laws.{AreFirst, GoodPortsReceiveAlike, GoodSendersAreReceived}, Offers.{IsGoodThrough, is_good_in, is_owner, offered_by, offers, state_before}, Sent.{IsFirstPart, heard_words, without_zeros}}
+use Rattle.rb_laws_letters.proofs.{Readings.{heard-append, words-give}, Recorded.{IsOfSlot, IsRecorded, all-recorded}}
 
 -- One slot's lines.
 

@@ -1,28 +1,11 @@
 -- Each record of a slot is that of a complete slot: its lines are the last that are given with it.
-use Rattle.std.proofs.Common.{◌≡◌, ℕ, zero, suc, ◌+◌, ◌-◌, ◌*◌, ◌%◌, ◌<◌, ◌==◌, ◌&&◌, ◌⊎◌, nat_lt, All, Bool, true, false, Option, Some, None, List, [], ◌∷◌, ◌++◌, slice_get, if◌then◌else◌, inl, inr, refl, sym, ap, ◌∙◌, subst, arith}
+use Rattle.std.proofs.{Common.{◌≡◌, ℕ, zero, suc, ◌+◌, ◌-◌, ◌*◌, ◌%◌, ◌<◌, ◌==◌, ◌&&◌, ◌⊎◌, nat_lt, All, Bool, true, false, Option, Some, None, List, [], ◌∷◌, ◌++◌, slice_get, if◌then◌else◌, inl, inr, refl, sym, ap, ◌∙◌, subst, arith}, lemmas.Bool.cases_lt, lemmas.Bool.Decides.nat_tests, lemmas.List.append-nil, lemmas.List.Elements.{All-append, All-cons, All-nil}}
 use Rattle.std.specs.Prelude.{⊤}
-use Rattle.std.proofs.lemmas.Bool.{cases_lt}
-use Rattle.std.proofs.lemmas.Bool.Decides.{nat_tests}
-use Rattle.std.proofs.lemmas.List.{append-nil}
-use Rattle.std.proofs.lemmas.List.Elements.{All-append, All-cons, All-nil}
-use Rattle.rb_base.specs.Sizes.{Sizes, sync_slot_of}
-use Rattle.rb_base.specs.declared.values.Place.{Place}
-use Rattle.rb_rules.specs.declared.cause.Cause.{Cause}
-use Rattle.rb_rules.specs.declared.plan.Window.{Window}
-use Rattle.rb_rules.specs.declared.record.SlotLine.{SlotLine}
-use Rattle.rb_rules.specs.Book.{Begun, Book, Each, Record, Row, after_verdict, frame_records, judged_of, with_end, with_frame, with_stage}
-use Rattle.rb_rules.specs.Book.Milestone.{End, Stage}
-use Rattle.rb_rules.specs.Book.Record.{Frame, Slot, Ended, Breach}
-use Rattle.rb_rules.specs.Goodness.{Scenario}
-use Rattle.rb_rules.specs.Judging.{JudgedStage, verdict_of}
-use Rattle.rb_rules.specs.Moments.{IsComplete, after_slot}
-use Rattle.rb_rules.specs.Ports.{HandIn}
-use Rattle.rb_rules.specs.Rounds.{Moment, after_window, begin_frame, book_after, moment, records_of, step, steps_of, windows_in}
-use Rattle.rb_rules.specs.Windows.{windows_of_frame}
+use Rattle.rb_base.specs.{Sizes.{Sizes, sync_slot_of}, declared.values.Place.Place}
+use Rattle.rb_rules.specs.{declared.cause.Cause.Cause, declared.plan.Window.Window, declared.record.SlotLine.SlotLine, Book.{Begun, Book, Each, Record, Row, after_verdict, frame_records, judged_of, with_end, with_frame, with_stage}, Book.Milestone.{End, Stage}, Book.Record.{Frame, Slot, Ended, Breach}, Goodness.Scenario, Judging.{JudgedStage, verdict_of}, Moments.{IsComplete, after_slot}, Ports.HandIn, Rounds.{Moment, after_window, begin_frame, book_after, moment, records_of, step, steps_of, windows_in}, Windows.windows_of_frame}
 use Rattle.rb_rules.proofs.Books.{records-are, stepped}
 use Rattle.rb_laws_events.specs.Closing.{stages_in}
-use Rattle.rb_laws_events.proofs.MomentBooks.{no-window, number-of, stage-window}
-use Rattle.rb_laws_events.proofs.RoundNodes.{slot_numbered}
+use Rattle.rb_laws_events.proofs.{MomentBooks.{no-window, number-of, stage-window}, RoundNodes.slot_numbered}
 
 -- What a step adds.
 

@@ -1,17 +1,8 @@
 -- What a sender gives of the letters that it has taken.
-use Rattle.std.proofs.Common.{◌≡◌, ℕ, zero, suc, ◌+◌, ◌<◌, ◌≤◌, ◌==◌, nat_le, nat_lt, not, All, Bool, true, false, cond, Option, Some, None, List, [], ◌∷◌, ◌++◌, length, map, append_assoc, if◌then◌else◌, refl, sym, ap, ◌∙◌, subst, arith}
+use Rattle.std.proofs.{Common.{◌≡◌, ℕ, zero, suc, ◌+◌, ◌<◌, ◌≤◌, ◌==◌, nat_le, nat_lt, not, All, Bool, true, false, cond, Option, Some, None, List, [], ◌∷◌, ◌++◌, length, map, append_assoc, if◌then◌else◌, refl, sym, ap, ◌∙◌, subst, arith}, lemmas.Bool.lt-leb, lemmas.Bool.Decides.nat_tests, lemmas.List.append-nil, lemmas.List.Elements.{All-append, All-cons, All-head, All-nil, All-tail}}
 use Rattle.std.specs.List.{flat_map, range_with_len}
-use Rattle.std.proofs.lemmas.Bool.{lt-leb}
-use Rattle.std.proofs.lemmas.Bool.Decides.{nat_tests}
-use Rattle.std.proofs.lemmas.List.{append-nil}
-use Rattle.std.proofs.lemmas.List.Elements.{All-append, All-cons, All-head, All-nil, All-tail}
-use Rattle.rb_long.specs.Spelling.{first_word, is_length, part_at, parts_in, parts_of, spelling_of}
-use Rattle.rb_long.specs.Waiting.{next_word_of, refusal_of, with_letter, without_word}
-use Rattle.rb_long.specs.declared.refusal.LongRefusal.{LongRefusal}
-use Rattle.rb_long.specs.declared.refusal.LongRefusal.TheVariants.{Length, Full}
-use Rattle.rb_laws_letters.specs.Laws.{SendersSendTheirLetters, SendsItsLetters}
-use Rattle.rb_laws_letters.specs.Sent.{Call, Sent, after_call, after_calls, nothing_sent, with_push, without_zeros, words_of}
-use Rattle.rb_laws_letters.specs.Sent.Call.{Push, Next}
+use Rattle.rb_long.specs.{Spelling.{first_word, is_length, part_at, parts_in, parts_of, spelling_of}, Waiting.{next_word_of, refusal_of, with_letter, without_word}, declared.refusal.LongRefusal.LongRefusal, declared.refusal.LongRefusal.TheVariants.{Length, Full}}
+use Rattle.rb_laws_letters.specs.{Laws.{SendersSendTheirLetters, SendsItsLetters}, Sent.{Call, Sent, after_call, after_calls, nothing_sent, with_push, without_zeros, words_of}, Sent.Call.{Push, Next}}
 
 -- Lists.
 

@@ -1,15 +1,8 @@
 -- What is proved of letters: what a reader makes of words, and what ports receive.
 use Rattle.std.specs.Prelude.{ℕ, ◌≡◌, ◌<◌, All, true, None, List, [], ◌∷◌, length}
-use Rattle.rb_rules.specs.Book.{Record}
-use Rattle.rb_rules.specs.Goodness.{Scenario}
-use Rattle.rb_rules.specs.Lawful.{IsLawful}
-use Rattle.rb_rules.specs.Ports.{HandIn}
-use Rattle.rb_rules.specs.Rounds.{records_of}
-use Rattle.rb_long.specs.Delivered.{deliveries_in, letters_of, open_at, values_of}
-use Rattle.rb_long.specs.Reading.{given_with, open_after}
-use Rattle.rb_long.specs.Spelling.{is_length, spelling_of}
-use Rattle.rb_laws_letters.specs.Offers.{IsGoodThrough, offered_by}
-use Rattle.rb_laws_letters.specs.Sent.{Call, IsFirstPart, IsLetter, Sent, after_calls, heard_words, nothing_sent, without_zeros, words_of}
+use Rattle.rb_rules.specs.{Book.Record, Goodness.Scenario, Lawful.IsLawful, Ports.HandIn, Rounds.records_of}
+use Rattle.rb_long.specs.{Delivered.{deliveries_in, letters_of, open_at, values_of}, Reading.{given_with, open_after}, Spelling.{is_length, spelling_of}}
+use Rattle.rb_laws_letters.specs.{Offers.{IsGoodThrough, offered_by}, Sent.{Call, IsFirstPart, IsLetter, Sent, after_calls, heard_words, nothing_sent, without_zeros, words_of}}
 
 -- Words.
 

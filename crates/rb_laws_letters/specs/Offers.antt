@@ -1,14 +1,7 @@
 -- Who is good in the slots of records, and what a BIU offers in them.
-use Rattle.std.specs.Prelude.{ℕ, ◌≡◌, ◌==◌, All, Bool, true, false, if◌then◌else◌, Option, Some, None, List, [], ◌∷◌, get_or}
-use Rattle.std.specs.List.{flat_map}
+use Rattle.std.specs.{Prelude.{ℕ, ◌≡◌, ◌==◌, All, Bool, true, false, if◌then◌else◌, Option, Some, None, List, [], ◌∷◌, get_or}, List.flat_map}
 use Rattle.rb_base.specs.Nodes.Side.{Biu}
-use Rattle.rb_rules.specs.Book.{Record, of_kind}
-use Rattle.rb_rules.specs.Book.Record.{Frame, Slot, Ended, Breach}
-use Rattle.rb_rules.specs.Goodness.{Scenario, is_good}
-use Rattle.rb_rules.specs.Moments.{before_slot, offered_in}
-use Rattle.rb_rules.specs.NodeState.{NodeState, first_state}
-use Rattle.rb_rules.specs.NodeSteps.{owner_at}
-use Rattle.rb_rules.specs.Ports.{HandIn}
+use Rattle.rb_rules.specs.{Book.{Record, of_kind}, Book.Record.{Frame, Slot, Ended, Breach}, Goodness.{Scenario, is_good}, Moments.{before_slot, offered_in}, NodeState.{NodeState, first_state}, NodeSteps.owner_at, Ports.HandIn}
 
 -- BIU i is good in the slot that a record tells
 abbrev pub is_good_in : Scenario → ℕ → Record → Bool

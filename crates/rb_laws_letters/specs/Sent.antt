@@ -1,11 +1,7 @@
 -- The words of letters, and what a sender has made of its letters.
-use Rattle.std.specs.Prelude.{ℕ, ◌≡◌, ◌<◌, ◌==◌, not, All, true, Option, Some, None, List, [], ◌∷◌, ◌++◌, filter, length, map}
-use Rattle.std.specs.List.{flat_map}
-use Rattle.rb_base.specs.declared.values.Heard.{Heard}
-use Rattle.rb_base.specs.declared.values.Heard.TheVariants.{Word}
-use Rattle.rb_long.specs.Spelling.{is_length, spelling_of}
-use Rattle.rb_long.specs.Waiting.{next_word_of, refusal_of, with_letter, without_word}
-use Rattle.rb_long.specs.declared.refusal.LongRefusal.{LongRefusal}
+use Rattle.std.specs.{Prelude.{ℕ, ◌≡◌, ◌<◌, ◌==◌, not, All, true, Option, Some, None, List, [], ◌∷◌, ◌++◌, filter, length, map}, List.flat_map}
+use Rattle.rb_base.specs.{declared.values.Heard.Heard, declared.values.Heard.TheVariants.Word}
+use Rattle.rb_long.specs.{Spelling.{is_length, spelling_of}, Waiting.{next_word_of, refusal_of, with_letter, without_word}, declared.refusal.LongRefusal.LongRefusal}
 
 -- Letters and words.
 

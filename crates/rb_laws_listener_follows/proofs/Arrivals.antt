@@ -1,12 +1,8 @@
 -- What there is of one RMU among all that came with the stamps of a window.
-use Rattle.std.proofs.Common.{◌≡◌, ℕ, zero, suc, ◌+◌, ◌<◌, ◌==◌, nat_lt, Bool, true, false, List, [], ◌∷◌, ◌++◌, Some, slice_get, inl, inr, refl, sym, ◌∙◌, ap, subst, arith}
-use Rattle.std.proofs.lemmas.Bool.{cases_lt, eqb-true, false_from_ne_true, lt-ltb}
-use Rattle.std.proofs.lemmas.Option.{same_Some}
+use Rattle.std.proofs.{Common.{◌≡◌, ℕ, zero, suc, ◌+◌, ◌<◌, ◌==◌, nat_lt, Bool, true, false, List, [], ◌∷◌, ◌++◌, Some, slice_get, inl, inr, refl, sym, ◌∙◌, ap, subst, arith}, lemmas.Bool.{cases_lt, eqb-true, false_from_ne_true, lt-ltb}, lemmas.Option.same_Some}
 use Rattle.rb_base.specs.Sizes.{Sizes}
 use Rattle.rb_base.proofs.Plain.{eq_self}
-use Rattle.rb_rules.specs.Core.{of_source}
-use Rattle.rb_rules.specs.Hearing.{Coming}
-use Rattle.rb_rules.specs.Sense.{Arrival}
+use Rattle.rb_rules.specs.{Core.of_source, Hearing.Coming, Sense.Arrival}
 use Rattle.rb_rules.proofs.Slots.{source-append}
 use Rattle.rb_laws_listener_follows.proofs.FollowerRuns.{arrivals, collected}
 

@@ -1,20 +1,12 @@
 -- Before its first frame a listener closes nothing.
-use Rattle.std.proofs.Common.{◌≡◌, ℕ, zero, suc, ◌+◌, ◌-◌, ◌<◌, ◌≤◌, List, [], ◌∷◌, None, inl, inr, refl, sym, ◌∙◌, ap, subst, arith}
+use Rattle.std.proofs.{Common.{◌≡◌, ℕ, zero, suc, ◌+◌, ◌-◌, ◌<◌, ◌≤◌, List, [], ◌∷◌, None, inl, inr, refl, sym, ◌∙◌, ap, subst, arith}, lemmas.Bool.cases_lt}
 use Rattle.std.specs.Option.{option_or}
-use Rattle.std.proofs.lemmas.Bool.{cases_lt}
 use Rattle.rb_base.specs.Nodes.Side.{Biu}
-use Rattle.rb_rules.specs.Core.{Core, arrive}
-use Rattle.rb_rules.specs.Goodness.{Scenario}
-use Rattle.rb_rules.specs.Hearing.{Coming}
-use Rattle.rb_listen.specs.Following.{follow}
-use Rattle.rb_listen.specs.Listening.{Listening, followed, hear, heed}
-use Rattle.rb_listen.specs.Listening as now
-use Rattle.rb_listen.specs.declared.lesson.First.{First}
-use Rattle.rb_listen.specs.declared.search.Search.{Search}
-use Rattle.rb_laws_listener_learns.specs.Ears.{Ear, hears, listening_at}
-use Rattle.rb_laws_listener_learns.specs.Receivers.{closing_at, closing_in, if_window, seen_by}
-use Rattle.rb_laws_listener_learns.specs.Waiting.{WaitsFor}
+use Rattle.rb_rules.specs.{Core.{Core, arrive}, Goodness.Scenario, Hearing.Coming}
+use Rattle.rb_listen.specs.{Following.follow, Listening.{Listening, followed, hear, heed}, declared.lesson.First.First, declared.search.Search.Search}
+use Rattle.rb_laws_listener_learns.specs.{Ears.{Ear, hears, listening_at}, Receivers.{closing_at, closing_in, if_window, seen_by}, Waiting.WaitsFor}
 use Rattle.rb_laws_listener_follows.proofs.SeenWindows.{NoneSeen}
+use Rattle.rb_listen.specs.Listening as now
 
 -- the listener follows
 pub record Follows (l : Listening) : Type 0 where

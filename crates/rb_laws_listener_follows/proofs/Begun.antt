@@ -1,30 +1,10 @@
 -- If a frame is complete, each node that is good at the start of the next one has turned from what
 -- it was at the frame's end.
 use Rattle.std.proofs.Common.{◌≡◌, ℕ, suc, ◌+◌, ◌-◌, ◌*◌, true, List, None, Some, sym, ◌∙◌, ap, subst, arith}
-use Rattle.rb_base.specs.Nodes.{Side}
-use Rattle.rb_base.specs.Sizes.{Sizes, sync_slot_of}
-use Rattle.rb_rules.specs.declared.plan.Plan.{Plan}
-use Rattle.rb_rules.specs.Conviction.{turn}
-use Rattle.rb_rules.specs.Goodness.{Scenario, is_good}
-use Rattle.rb_rules.specs.Lawful.{IsLawful}
-use Rattle.rb_rules.specs.Moments.{IsComplete, IsGoodAfter, IsGoodBefore, IsRunning, after_slot}
-use Rattle.rb_rules.specs.NodeState.{NodeState}
-use Rattle.rb_rules.specs.NodeSteps.{turn_if_known}
-use Rattle.rb_rules.specs.Ports.{HandIn}
-use Rattle.rb_rules.specs.Rounds.{moment, next_frame, windows_in}
-use Rattle.rb_rules.specs.SyncStage.{new_epoch_of}
-use Rattle.rb_laws_agreement.proofs.Agreement.{IsAgreed, agreement}
-use Rattle.rb_laws_agreement.proofs.FrameAgrees.{TurnedFrom, turned_from}
-use Rattle.rb_laws_agreement.proofs.FrameBegins.{IsTurn, frame_turns, turn-index}
-use Rattle.rb_laws_agreement.proofs.FrameTimes.{turned-epoch}
-use Rattle.rb_laws_agreement.proofs.Goodnesses.{slot_last}
-use Rattle.rb_laws_agreement.proofs.Invariant.{IsGoodNode}
-use Rattle.rb_laws_agreement.proofs.NextMoments.{CameFrom, came_from}
-use Rattle.rb_laws_agreement.proofs.NodeWindows.{tail_windows}
-use Rattle.rb_laws_agreement.proofs.Places.{IsPlaced, good_before_slot, placed, running_earlier}
-use Rattle.rb_laws_agreement.proofs.SyncWindows.{tail_keeps_epoch}
-use Rattle.rb_laws_synchrony.proofs.Synchronous.{KnowsEpoch}
-use Rattle.rb_laws_synchrony.proofs.Synchrony.{IsSynchronous, synchrony}
+use Rattle.rb_base.specs.{Nodes.Side, Sizes.{Sizes, sync_slot_of}}
+use Rattle.rb_rules.specs.{declared.plan.Plan.Plan, Conviction.turn, Goodness.{Scenario, is_good}, Lawful.IsLawful, Moments.{IsComplete, IsGoodAfter, IsGoodBefore, IsRunning, after_slot}, NodeState.NodeState, NodeSteps.turn_if_known, Ports.HandIn, Rounds.{moment, next_frame, windows_in}, SyncStage.new_epoch_of}
+use Rattle.rb_laws_agreement.proofs.{Agreement.{IsAgreed, agreement}, FrameAgrees.{TurnedFrom, turned_from}, FrameBegins.{IsTurn, frame_turns, turn-index}, FrameTimes.turned-epoch, Goodnesses.slot_last, Invariant.IsGoodNode, NextMoments.{CameFrom, came_from}, NodeWindows.tail_windows, Places.{IsPlaced, good_before_slot, placed, running_earlier}, SyncWindows.tail_keeps_epoch}
+use Rattle.rb_laws_synchrony.proofs.{Synchronous.KnowsEpoch, Synchrony.{IsSynchronous, synchrony}}
 
 -- the node knew its next epoch after the sync slot, and has turned with it
 pub record HasBegun (sc : Scenario) (hands : List HandIn) (frame : ℕ) (me : Side) (i : ℕ) (now : NodeState) : Type 0 where

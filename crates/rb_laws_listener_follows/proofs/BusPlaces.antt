@@ -1,12 +1,7 @@
 -- After n steps the abstract bus is before the slot of that number.
-use Rattle.std.proofs.Common.{◌≡◌, ℕ, zero, suc, ◌+◌, ◌*◌, ◌<◌, ◌≤◌, nat_lt, Bool, true, false, refl, sym, ◌∙◌, ap, arith, inl, inr}
-use Rattle.std.proofs.lemmas.Bool.{cases_lt, cases_order, lt-ltb, ltb-true}
-use Rattle.std.proofs.Math.Nat.{mul-le-mul_right}
-use Rattle.rb_base.specs.Sizes.{sync_slot_of}
-use Rattle.rb_base.specs.declared.values.Heard.{Heard}
-use Rattle.rb_rules.specs.AbstractBus.{AbstractBus, FrameStep, IsRun, IsStep, SlotStep}
-use Rattle.rb_rules.specs.Goodness.{Scenario}
-use Rattle.rb_rules.specs.StandsFor.{steps_to}
+use Rattle.std.proofs.{Common.{◌≡◌, ℕ, zero, suc, ◌+◌, ◌*◌, ◌<◌, ◌≤◌, nat_lt, Bool, true, false, refl, sym, ◌∙◌, ap, arith, inl, inr}, lemmas.Bool.{cases_lt, cases_order, lt-ltb, ltb-true}, Math.Nat.mul-le-mul_right}
+use Rattle.rb_base.specs.{Sizes.sync_slot_of, declared.values.Heard.Heard}
+use Rattle.rb_rules.specs.{AbstractBus.{AbstractBus, FrameStep, IsRun, IsStep, SlotStep}, Goodness.Scenario, StandsFor.steps_to}
 
 -- the place of the bus after n steps
 record IsAfter (sc : Scenario) (n : ℕ) (bus : AbstractBus) : Type 0 where

@@ -1,44 +1,15 @@
 -- When the calls came that a listener takes in stage 2 of the sync slot: the last call of the frame
 -- by that RMU with that stamp.
-use Rattle.std.proofs.Common.{◌≡◌, ℕ, zero, suc, ◌+◌, ◌%◌, ◌<◌, ◌≤◌, ◌==◌, ◌&&◌, not, nat_lt, Bool, true, false, Option, Some, None, if◌then◌else◌, List, [], ◌∷◌, ◌++◌, slice_get, refl, sym, ◌∙◌, ap, subst, arith}
-use Rattle.std.proofs.lemmas.Bool.{and_from, eq-eqb, eqb-true}
-use Rattle.std.proofs.lemmas.Option.{same_Some}
-use Rattle.rb_base.specs.Nodes.{has}
-use Rattle.rb_base.specs.Nodes.Side.{Biu, Rmu}
-use Rattle.rb_base.specs.Sizes.{Sizes, sync_slot_of}
+use Rattle.std.proofs.{Common.{◌≡◌, ℕ, zero, suc, ◌+◌, ◌%◌, ◌<◌, ◌≤◌, ◌==◌, ◌&&◌, not, nat_lt, Bool, true, false, Option, Some, None, if◌then◌else◌, List, [], ◌∷◌, ◌++◌, slice_get, refl, sym, ◌∙◌, ap, subst, arith}, lemmas.Bool.{and_from, eq-eqb, eqb-true}, lemmas.Option.same_Some}
+use Rattle.rb_base.specs.{Nodes.has, Nodes.Side.{Biu, Rmu}, Sizes.{Sizes, sync_slot_of}}
 use Rattle.rb_base.proofs.Plain.{and_first, and_second}
-use Rattle.rb_rules.specs.declared.message.Message.{Message}
-use Rattle.rb_rules.specs.declared.sense.Expect.{Expect}
-use Rattle.rb_rules.specs.declared.sense.Sense.{Sense}
-use Rattle.rb_rules.specs.declared.sense.Sense.TheVariants.{One, Bad}
-use Rattle.rb_rules.specs.Clock.{IsStamp}
-use Rattle.rb_rules.specs.Core.{of_source}
-use Rattle.rb_rules.specs.Goodness.{Scenario, is_good}
-use Rattle.rb_rules.specs.Hearing.{Coming}
-use Rattle.rb_rules.specs.NodeState.{NodeState}
-use Rattle.rb_rules.specs.NodeSteps.{expect_of}
-use Rattle.rb_rules.specs.Plan.{f0_of}
-use Rattle.rb_rules.specs.Ports.{HandIn}
-use Rattle.rb_rules.specs.Rounds.{moment}
-use Rattle.rb_rules.specs.Sense.{Arrival, sense_of, sense_of_one, stamp_in, suits, tag_suits}
-use Rattle.rb_rules.specs.Spelling.{message_in}
-use Rattle.rb_rules.specs.Standing.{Standing, taken_of}
-use Rattle.rb_rules.specs.SyncStage.{expects_call, see_time}
+use Rattle.rb_rules.specs.{declared.message.Message.Message, declared.sense.Expect.Expect, declared.sense.Sense.Sense, declared.sense.Sense.TheVariants.{One, Bad}, Clock.IsStamp, Core.of_source, Goodness.{Scenario, is_good}, Hearing.Coming, NodeState.NodeState, NodeSteps.expect_of, Plan.f0_of, Ports.HandIn, Rounds.moment, Sense.{Arrival, sense_of, sense_of_one, stamp_in, suits, tag_suits}, Spelling.message_in, Standing.{Standing, taken_of}, SyncStage.{expects_call, see_time}}
 use Rattle.rb_rules.proofs.Slots.{source-append}
-use Rattle.rb_laws_agreement.proofs.Goodnesses.{slot_last}
-use Rattle.rb_laws_agreement.proofs.Invariant.{IsGoodNode, Shared}
+use Rattle.rb_laws_agreement.proofs.{Goodnesses.slot_last, Invariant.{IsGoodNode, Shared}}
 use Rattle.rb_listen.specs.Passes.{is_call, is_sync}
-use Rattle.rb_laws_listener_learns.specs.Ears.{Ear, IsHeard, SendsIn, coming_to}
-use Rattle.rb_laws_listener_learns.specs.Receivers.{call_time, is_call_of, stamp_seen}
-use Rattle.rb_laws_listener_learns.proofs.CallTimes.{LastIs, finds-call, last-is, tag-sync}
-use Rattle.rb_laws_listener_learns.proofs.Moments.{same-sent}
-use Rattle.rb_laws_listener_follows.proofs.Arrivals.{of-more, of-other}
-use Rattle.rb_laws_listener_follows.proofs.FirstCalls.{sense_span}
-use Rattle.rb_laws_listener_follows.proofs.FollowerRuns.{arrivals, collected}
-use Rattle.rb_laws_listener_follows.proofs.HeardExact.{IsOwn, sends_then}
-use Rattle.rb_laws_listener_follows.proofs.HeardSync.{only_calls}
-use Rattle.rb_laws_listener_follows.proofs.SecondCalls.{TakesCall, taken_second}
-use Rattle.rb_laws_listener_follows.proofs.SecondSteps.{HasTimes, StandsSecond}
+use Rattle.rb_laws_listener_learns.specs.{Ears.{Ear, IsHeard, SendsIn, coming_to}, Receivers.{call_time, is_call_of, stamp_seen}}
+use Rattle.rb_laws_listener_learns.proofs.{CallTimes.{LastIs, finds-call, last-is, tag-sync}, Moments.same-sent}
+use Rattle.rb_laws_listener_follows.proofs.{Arrivals.{of-more, of-other}, FirstCalls.sense_span, FollowerRuns.{arrivals, collected}, HeardExact.{IsOwn, sends_then}, HeardSync.only_calls, SecondCalls.{TakesCall, taken_second}, SecondSteps.{HasTimes, StandsSecond}}
 
 -- ---- what is kept came
 

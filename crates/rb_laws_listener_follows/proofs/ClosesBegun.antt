@@ -1,27 +1,13 @@
 -- A listener closes the first window of its first frame as the bus does.
 use Rattle.std.proofs.Common.{◌≡◌, ℕ, suc, ◌+◌, ◌-◌, ◌<◌, List, sym, ◌∙◌, ap, subst, arith}
-use Rattle.rb_base.specs.Nodes.Side.{Biu}
-use Rattle.rb_base.specs.Sizes.{sync_slot_of}
-use Rattle.rb_rules.specs.Core.{state_at}
-use Rattle.rb_rules.specs.Goodness.{Scenario}
-use Rattle.rb_rules.specs.Lawful.{IsLawful}
-use Rattle.rb_rules.specs.Moments.{IsComplete, before_stage}
-use Rattle.rb_rules.specs.NodeState.{NodeState}
-use Rattle.rb_rules.specs.Ports.{HandIn}
-use Rattle.rb_rules.specs.Rounds.{moment}
-use Rattle.rb_rules.specs.StandsFor.{StandsFor, steps_to}
+use Rattle.rb_base.specs.{Nodes.Side.Biu, Sizes.sync_slot_of}
+use Rattle.rb_rules.specs.{Core.state_at, Goodness.Scenario, Lawful.IsLawful, Moments.{IsComplete, before_stage}, NodeState.NodeState, Ports.HandIn, Rounds.moment, StandsFor.{StandsFor, steps_to}}
 use Rattle.rb_laws_events.proofs.TurnTicks.{no-next}
 use Rattle.rb_listen.specs.declared.lesson.First.{First}
 use Rattle.rb_laws_listener_near.proofs.WindowSteps.{IsWatched}
 use Rattle.rb_laws_listener_learns.specs.Ears.{Ear}
-use Rattle.rb_laws_listener_follows.specs.Following.{ClosesAsTheBus, ClosesAt}
-use Rattle.rb_laws_listener_follows.specs.InTime.{moment_before}
-use Rattle.rb_laws_listener_follows.proofs.ClosesExact.{closes_exact}
-use Rattle.rb_laws_listener_follows.proofs.FirstBegins.{FirstBegins, first_state}
-use Rattle.rb_laws_listener_follows.proofs.FirstStands.{FirstStands}
-use Rattle.rb_laws_listener_follows.proofs.FirstWindow.{outcome_first, sense_first}
-use Rattle.rb_laws_listener_follows.proofs.SeenPremise.{place_closed, seen_following}
-use Rattle.rb_laws_listener_follows.proofs.Tellings.{tells_close}
+use Rattle.rb_laws_listener_follows.specs.{Following.{ClosesAsTheBus, ClosesAt}, InTime.moment_before}
+use Rattle.rb_laws_listener_follows.proofs.{ClosesExact.closes_exact, FirstBegins.{FirstBegins, first_state}, FirstStands.FirstStands, FirstWindow.{outcome_first, sense_first}, SeenPremise.{place_closed, seen_following}, Tellings.tells_close}
 
 pub closes_begun : (sc : Scenario) (hands : List HandIn) → IsLawful sc → (stands : StandsFor sc hands) (ear : Ear) (learned : ℕ) (first : First) (b : FirstBegins sc hands ear learned first)
     → FirstStands sc hands ear learned first b → (first_state sc first).frame ≡ suc learned → IsComplete sc hands (suc learned) 0

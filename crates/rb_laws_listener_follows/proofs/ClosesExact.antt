@@ -1,41 +1,11 @@
 -- A listener that keeps up with the good BIUs closes a window below the sync slot as the bus does.
-use Rattle.std.proofs.Common.{◌≡◌, ℕ, zero, suc, ◌+◌, ◌-◌, ◌<◌, ◌≤◌, ◌==◌, Bool, true, false, List, Option, Some, None, nat_lt, inl, inr, get_or, slice_get, if◌then◌else◌, refl, sym, ◌∙◌, ap, subst, arith}
-use Rattle.std.proofs.lemmas.Bool.{cases_lt, lt-ltb}
-use Rattle.std.proofs.lemmas.Bool.Decides.{nat_tests}
-use Rattle.rb_base.specs.Nodes.Side.{Biu, Rmu}
-use Rattle.rb_base.specs.Sizes.{Sizes, sync_slot_of}
-use Rattle.rb_base.specs.declared.values.Delivery.{Delivery}
-use Rattle.rb_base.specs.declared.values.Heard.{Heard}
-use Rattle.rb_base.specs.declared.values.Heard.TheVariants.{Fault}
-use Rattle.rb_base.specs.declared.values.Place.{Place}
-use Rattle.rb_base.specs.declared.values.See.{See}
+use Rattle.std.proofs.{Common.{◌≡◌, ℕ, zero, suc, ◌+◌, ◌-◌, ◌<◌, ◌≤◌, ◌==◌, Bool, true, false, List, Option, Some, None, nat_lt, inl, inr, get_or, slice_get, if◌then◌else◌, refl, sym, ◌∙◌, ap, subst, arith}, lemmas.Bool.{cases_lt, lt-ltb}, lemmas.Bool.Decides.nat_tests}
+use Rattle.rb_base.specs.{Nodes.Side.{Biu, Rmu}, Sizes.{Sizes, sync_slot_of}, declared.values.Delivery.Delivery, declared.values.Heard.Heard, declared.values.Heard.TheVariants.Fault, declared.values.Place.Place, declared.values.See.See}
 use Rattle.rb_base.proofs.Plain.{less-differs}
-use Rattle.rb_rules.specs.declared.role.Role.{Role}
-use Rattle.rb_rules.specs.declared.role.Role.TheVariants.{Data, DiagBiu, DiagRmu, Schedule, Sync}
-use Rattle.rb_rules.specs.declared.sense.Sense.{Sense}
-use Rattle.rb_rules.specs.AbstractBus.{AbstractBus, sender_on}
-use Rattle.rb_rules.specs.Book.{of_kind}
-use Rattle.rb_rules.specs.ExactStage.{Outcome, close_exact, delivery_of, outcome_of, votes_in}
-use Rattle.rb_rules.specs.Goodness.{Scenario, is_good}
-use Rattle.rb_rules.specs.Judging.{JudgedStage}
-use Rattle.rb_rules.specs.Lawful.{IsLawful}
-use Rattle.rb_rules.specs.Moments.{IsComplete, IsGoodAfter, IsGoodBefore, after_slot, before_slot, before_stage, offered_in}
-use Rattle.rb_rules.specs.NodeState.{NodeState, sender_at}
-use Rattle.rb_rules.specs.Ports.{HandIn}
-use Rattle.rb_rules.specs.Rounds.{Moment}
-use Rattle.rb_rules.specs.Slots.{Sender, first_diagnosis_of, has_third_stage, role_of, same_side, sender_in}
-use Rattle.rb_rules.specs.Slots.Sender.{EachTrusted, Node, Nobody}
-use Rattle.rb_rules.specs.StandsFor.{AgreesBefore, SlotAgrees, StandsFor, steps_to, value_on}
-use Rattle.rb_rules.specs.SyncStage.{close_sync}
+use Rattle.rb_rules.specs.{declared.role.Role.Role, declared.role.Role.TheVariants.{Data, DiagBiu, DiagRmu, Schedule, Sync}, declared.sense.Sense.Sense, AbstractBus.{AbstractBus, sender_on}, Book.of_kind, ExactStage.{Outcome, close_exact, delivery_of, outcome_of, votes_in}, Goodness.{Scenario, is_good}, Judging.JudgedStage, Lawful.IsLawful, Moments.{IsComplete, IsGoodAfter, IsGoodBefore, after_slot, before_slot, before_stage, offered_in}, NodeState.{NodeState, sender_at}, Ports.HandIn, Rounds.Moment, Slots.{Sender, first_diagnosis_of, has_third_stage, role_of, same_side, sender_in}, Slots.Sender.{EachTrusted, Node, Nobody}, StandsFor.{AgreesBefore, SlotAgrees, StandsFor, steps_to, value_on}, SyncStage.close_sync}
 use Rattle.rb_rules.proofs.RoundStates.{state-after}
-use Rattle.rb_laws_agreement.proofs.Invariant.{Holds, IsGoodNode, Shared}
-use Rattle.rb_laws_agreement.proofs.NextMoments.{CameFrom, came_from, next}
-use Rattle.rb_laws_agreement.proofs.SecondStages.{GoodOne, some_good, vote-held}
-use Rattle.rb_laws_agreement.proofs.Settings.{Setting, after, good_here}
-use Rattle.rb_laws_agreement.proofs.SlotRuns.{IsSlot, next-frame, slot_runs}
-use Rattle.rb_laws_agreement.proofs.ThirdStages.{votes_kept}
-use Rattle.rb_laws_listener_near.proofs.Tracking.{Held, held, listener_vote}
-use Rattle.rb_laws_listener_near.proofs.WindowSteps.{IsWatched, closed_by, closes_parts, votes_as}
+use Rattle.rb_laws_agreement.proofs.{Invariant.{Holds, IsGoodNode, Shared}, NextMoments.{CameFrom, came_from, next}, SecondStages.{GoodOne, some_good, vote-held}, Settings.{Setting, after, good_here}, SlotRuns.{IsSlot, next-frame, slot_runs}, ThirdStages.votes_kept}
+use Rattle.rb_laws_listener_near.proofs.{Tracking.{Held, held, listener_vote}, WindowSteps.{IsWatched, closed_by, closes_parts, votes_as}}
 use Rattle.rb_laws_listener_follows.specs.Following.{ClosesAsTheBus, delivery_by}
 use Rattle.rb_laws_listener_follows.proofs.BusPlaces.{slot_there}
 

@@ -1,37 +1,15 @@
 -- From where a listener stands in a frame it closes each later window of the frame as the bus does.
-use Rattle.std.proofs.Common.{◌≡◌, ℕ, zero, suc, ◌+◌, ◌-◌, ◌*◌, ◌/◌, ◌%◌, ◌<◌, ◌≤◌, List, Some, inl, inr, unwrap_or, slice_get, sym, ◌∙◌, ap, subst, arith}
-use Rattle.std.proofs.lemmas.Bool.{cases_lt}
-use Rattle.std.proofs.lemmas.Option.{slice_get_within}
-use Rattle.std.proofs.Math.Nat.{mul-le-mul_right}
-use Rattle.rb_base.specs.Nodes.Side.{Biu}
-use Rattle.rb_base.specs.Sizes.{sync_slot_of}
-use Rattle.rb_rules.specs.declared.plan.Window.{Window}
-use Rattle.rb_rules.specs.declared.sense.Sense.{Sense}
-use Rattle.rb_rules.specs.Goodness.{Scenario}
-use Rattle.rb_rules.specs.Hearing.{tail_at, window_numbered}
-use Rattle.rb_rules.specs.Lawful.{IsLawful}
-use Rattle.rb_rules.specs.Moments.{IsComplete, IsRunning}
-use Rattle.rb_rules.specs.NodeState.{NodeState}
-use Rattle.rb_rules.specs.Plan.{f0_of, tail_start_of}
-use Rattle.rb_rules.specs.Ports.{HandIn}
-use Rattle.rb_rules.specs.Rounds.{moment, windows_in}
-use Rattle.rb_rules.specs.StandsFor.{StandsFor, steps_to}
-use Rattle.rb_rules.specs.Windows.{exact_window, sync_windows, window_of, windows_of_frame}
+use Rattle.std.proofs.{Common.{◌≡◌, ℕ, zero, suc, ◌+◌, ◌-◌, ◌*◌, ◌/◌, ◌%◌, ◌<◌, ◌≤◌, List, Some, inl, inr, unwrap_or, slice_get, sym, ◌∙◌, ap, subst, arith}, lemmas.Bool.cases_lt, lemmas.Option.slice_get_within, Math.Nat.mul-le-mul_right}
+use Rattle.rb_base.specs.{Nodes.Side.Biu, Sizes.sync_slot_of}
+use Rattle.rb_rules.specs.{declared.plan.Window.Window, declared.sense.Sense.Sense, Goodness.Scenario, Hearing.{tail_at, window_numbered}, Lawful.IsLawful, Moments.{IsComplete, IsRunning}, NodeState.NodeState, Plan.{f0_of, tail_start_of}, Ports.HandIn, Rounds.{moment, windows_in}, StandsFor.{StandsFor, steps_to}, Windows.{exact_window, sync_windows, window_of, windows_of_frame}}
 use Rattle.rb_rules.proofs.WindowNumbers.{exact-numbered, sync-numbered}
 use Rattle.rb_laws_agreement.proofs.Places.{running_earlier}
 use Rattle.rb_laws_events.specs.Closing.{stages_in}
 use Rattle.rb_laws_events.proofs.TickWindows.{get-window, how-many}
-use Rattle.rb_laws_listener_learns.specs.Ears.{Ear}
-use Rattle.rb_laws_listener_learns.specs.Receivers.{IsCalm}
+use Rattle.rb_laws_listener_learns.specs.{Ears.Ear, Receivers.IsCalm}
 use Rattle.rb_laws_listener_learns.proofs.FrameStages.{first_of_frame}
 use Rattle.rb_laws_listener_follows.specs.Following.{ClosesAt}
-use Rattle.rb_laws_listener_follows.proofs.ClosesExact.{IsShared}
-use Rattle.rb_laws_listener_follows.proofs.ClosesSync.{closes_first, closes_second, closes_third, sync_shared}
-use Rattle.rb_laws_listener_follows.proofs.ClosesThere.{closes_there}
-use Rattle.rb_laws_listener_follows.proofs.ExactPasses.{IsHeldTo, StandsAt}
-use Rattle.rb_laws_listener_follows.proofs.LatePasses.{StandsAtThird, next_epoch_of, to_third}
-use Rattle.rb_laws_listener_follows.proofs.NextFrames.{to_window}
-use Rattle.rb_laws_listener_follows.proofs.SyncPasses.{PassesAtSecond, StandsAtSecond, through_second, to_second}
+use Rattle.rb_laws_listener_follows.proofs.{ClosesExact.IsShared, ClosesSync.{closes_first, closes_second, closes_third, sync_shared}, ClosesThere.closes_there, ExactPasses.{IsHeldTo, StandsAt}, LatePasses.{StandsAtThird, next_epoch_of, to_third}, NextFrames.to_window, SyncPasses.{PassesAtSecond, StandsAtSecond, through_second, to_second}}
 
 -- ---- windows by their number
 

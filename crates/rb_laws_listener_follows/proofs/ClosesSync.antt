@@ -1,49 +1,18 @@
 -- A listener closes the windows of the sync slot of a frame that it follows as the bus does.
-use Rattle.std.proofs.Common.{◌≡◌, ℕ, zero, suc, ◌+◌, ◌-◌, ◌*◌, ◌≤◌, true, List, Some, None, slice_get, refl, sym, ◌∙◌, ap, subst, arith}
-use Rattle.std.proofs.lemmas.Option.{same_Some}
-use Rattle.rb_base.specs.Nodes.{has}
-use Rattle.rb_base.specs.Nodes.Side.{Biu, Rmu}
-use Rattle.rb_base.specs.Sizes.{sync_slot_of}
+use Rattle.std.proofs.{Common.{◌≡◌, ℕ, zero, suc, ◌+◌, ◌-◌, ◌*◌, ◌≤◌, true, List, Some, None, slice_get, refl, sym, ◌∙◌, ap, subst, arith}, lemmas.Option.same_Some}
+use Rattle.rb_base.specs.{Nodes.has, Nodes.Side.{Biu, Rmu}, Sizes.sync_slot_of}
 use Rattle.rb_base.proofs.Plain.{and_second}
-use Rattle.rb_rules.specs.declared.sense.Sense.{Sense}
-use Rattle.rb_rules.specs.AbstractBus.{AbstractBus, sender_on}
-use Rattle.rb_rules.specs.Book.{of_kind}
-use Rattle.rb_rules.specs.Core.{state_at}
-use Rattle.rb_rules.specs.Goodness.{Scenario, is_good}
-use Rattle.rb_rules.specs.Lawful.{IsLawful}
-use Rattle.rb_rules.specs.Moments.{IsComplete, IsGoodBefore}
-use Rattle.rb_rules.specs.NodeState.{NodeState}
-use Rattle.rb_rules.specs.Plan.{f0_of, tail_start_of}
-use Rattle.rb_rules.specs.Ports.{HandIn}
-use Rattle.rb_rules.specs.Rounds.{Moment, moment, windows_in}
-use Rattle.rb_rules.specs.StandsFor.{AgreesBefore, StandsFor, steps_to, value_on}
-use Rattle.rb_rules.specs.SyncStage.{close_sync, sync_outcome_of}
+use Rattle.rb_rules.specs.{declared.sense.Sense.Sense, AbstractBus.{AbstractBus, sender_on}, Book.of_kind, Core.state_at, Goodness.{Scenario, is_good}, Lawful.IsLawful, Moments.{IsComplete, IsGoodBefore}, NodeState.NodeState, Plan.{f0_of, tail_start_of}, Ports.HandIn, Rounds.{Moment, moment, windows_in}, StandsFor.{AgreesBefore, StandsFor, steps_to, value_on}, SyncStage.{close_sync, sync_outcome_of}}
 use Rattle.rb_rules.proofs.Slots.{sync_role}
-use Rattle.rb_laws_agreement.proofs.ExactAgrees.{has_ticks}
-use Rattle.rb_laws_agreement.proofs.Goodnesses.{slot_last}
-use Rattle.rb_laws_agreement.proofs.Invariant.{Holds, Shared, is_good_now}
-use Rattle.rb_laws_agreement.proofs.Numbers.{one_of_many}
-use Rattle.rb_laws_agreement.proofs.Premises.{is_sound}
-use Rattle.rb_laws_agreement.proofs.Settings.{good_state}
-use Rattle.rb_laws_agreement.proofs.Tests.{Passing, Present}
-use Rattle.rb_laws_synchrony.proofs.SyncSteps.{IsPassedStage}
-use Rattle.rb_laws_synchrony.proofs.Times.{lawful_fits, plan_fits}
+use Rattle.rb_laws_agreement.proofs.{ExactAgrees.has_ticks, Goodnesses.slot_last, Invariant.{Holds, Shared, is_good_now}, Numbers.one_of_many, Premises.is_sound, Settings.good_state, Tests.{Passing, Present}}
+use Rattle.rb_laws_synchrony.proofs.{SyncSteps.IsPassedStage, Times.{lawful_fits, plan_fits}}
 use Rattle.rb_laws_events.proofs.TurnTicks.{no-next, not-yet}
 use Rattle.rb_listen.specs.Following.{follow}
 use Rattle.rb_laws_listener_near.proofs.Tracking.{Held}
 use Rattle.rb_laws_listener_learns.specs.Ears.{Ear}
 use Rattle.rb_laws_listener_learns.proofs.SyncStages.{StageIs, stage_is}
 use Rattle.rb_laws_listener_follows.specs.Following.{ClosesAsTheBus, ClosesAt, delivery_by}
-use Rattle.rb_laws_listener_follows.proofs.ClosesExact.{IsShared}
-use Rattle.rb_laws_listener_follows.proofs.ExactPasses.{IsHeldTo, StandsAt}
-use Rattle.rb_laws_listener_follows.proofs.FirstCalls.{IsSpan, first_span, sense_span, span_closing, span_window}
-use Rattle.rb_laws_listener_follows.proofs.FollowerRuns.{ClosesWindow, IsWindow, Stands, closes_window, closing, state_before}
-use Rattle.rb_laws_listener_follows.proofs.LatePasses.{StandsAtThird, next_epoch_of, third_span}
-use Rattle.rb_laws_listener_follows.proofs.SecondSteps.{second_span}
-use Rattle.rb_laws_listener_follows.proofs.SeenPremise.{place_synced}
-use Rattle.rb_laws_listener_follows.proofs.SyncPasses.{IsInSync, PassesAtSecond, StandsAtSecond, in_sync, second_shared, sync_moment, to_second}
-use Rattle.rb_laws_listener_follows.proofs.SyncRuns.{held_in_sync, held_like}
-use Rattle.rb_laws_listener_follows.proofs.Tellings.{tells_close}
+use Rattle.rb_laws_listener_follows.proofs.{ClosesExact.IsShared, ExactPasses.{IsHeldTo, StandsAt}, FirstCalls.{IsSpan, first_span, sense_span, span_closing, span_window}, FollowerRuns.{ClosesWindow, IsWindow, Stands, closes_window, closing, state_before}, LatePasses.{StandsAtThird, next_epoch_of, third_span}, SecondSteps.second_span, SeenPremise.place_synced, SyncPasses.{IsInSync, PassesAtSecond, StandsAtSecond, in_sync, second_shared, sync_moment, to_second}, SyncRuns.{held_in_sync, held_like}, Tellings.tells_close}
 
 -- What all good nodes hold in the sync slot is the bus's.
 

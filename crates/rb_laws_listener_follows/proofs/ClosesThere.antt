@@ -1,31 +1,17 @@
 -- If a listener stands before a window of a frame that it follows, it closes the window as the bus
 -- does.
 use Rattle.std.proofs.Common.{◌≡◌, ℕ, suc, ◌+◌, ◌-◌, ◌*◌, ◌/◌, ◌%◌, ◌<◌, ◌≤◌, List, sym, ◌∙◌, ap, subst, arith}
-use Rattle.rb_base.specs.Nodes.Side.{Biu}
-use Rattle.rb_base.specs.Sizes.{sync_slot_of}
-use Rattle.rb_rules.specs.declared.sense.Sense.{Sense}
-use Rattle.rb_rules.specs.Core.{state_at}
-use Rattle.rb_rules.specs.Goodness.{Scenario}
-use Rattle.rb_rules.specs.Lawful.{IsLawful}
-use Rattle.rb_rules.specs.Moments.{IsComplete, IsRunning, before_stage}
-use Rattle.rb_rules.specs.Ports.{HandIn}
-use Rattle.rb_rules.specs.Rounds.{moment, windows_in}
-use Rattle.rb_rules.specs.StandsFor.{StandsFor, steps_to}
+use Rattle.rb_base.specs.{Nodes.Side.Biu, Sizes.sync_slot_of}
+use Rattle.rb_rules.specs.{declared.sense.Sense.Sense, Core.state_at, Goodness.Scenario, Lawful.IsLawful, Moments.{IsComplete, IsRunning, before_stage}, Ports.HandIn, Rounds.{moment, windows_in}, StandsFor.{StandsFor, steps_to}}
 use Rattle.rb_laws_agreement.proofs.Places.{running_earlier}
 use Rattle.rb_laws_synchrony.proofs.Times.{lawful_fits, plan_fits}
 use Rattle.rb_laws_events.proofs.TurnTicks.{no-next}
-use Rattle.rb_listen.specs.Listening as now
-use Rattle.rb_laws_listener_near.proofs.Tracking.{held}
-use Rattle.rb_laws_listener_near.proofs.WindowSteps.{IsWatched}
+use Rattle.rb_laws_listener_near.proofs.{Tracking.held, WindowSteps.IsWatched}
 use Rattle.rb_laws_listener_learns.specs.Ears.{Ear, listening_at}
 use Rattle.rb_laws_listener_learns.proofs.FrameStages.{first_of_frame}
 use Rattle.rb_laws_listener_follows.specs.Following.{ClosesAsTheBus, ClosesAt}
-use Rattle.rb_laws_listener_follows.proofs.ClosesExact.{closes_exact}
-use Rattle.rb_laws_listener_follows.proofs.ClosesSync.{before-some}
-use Rattle.rb_laws_listener_follows.proofs.ExactPasses.{IsHeldTo, PassesExact, StandsAt, passes_exact}
-use Rattle.rb_laws_listener_follows.proofs.ExactSteps.{outcome_at, sense_at, watched}
-use Rattle.rb_laws_listener_follows.proofs.SeenPremise.{place_closed, seen_following}
-use Rattle.rb_laws_listener_follows.proofs.Tellings.{tells_close}
+use Rattle.rb_laws_listener_follows.proofs.{ClosesExact.closes_exact, ClosesSync.before-some, ExactPasses.{IsHeldTo, PassesExact, StandsAt, passes_exact}, ExactSteps.{outcome_at, sense_at, watched}, SeenPremise.{place_closed, seen_following}, Tellings.tells_close}
+use Rattle.rb_listen.specs.Listening as now
 
 pub closes_there : (sc : Scenario) (hands : List HandIn) (stands : StandsFor sc hands) (ear : Ear) (learned : ℕ) (records : List Sense) (f last w epoch low : ℕ) → IsHeldTo sc hands ear learned records f last
     → StandsAt sc hands ear (suc f) w epoch low → w < 3 * sync_slot_of sc.sizes → IsComplete sc hands (suc f) (w / 3) → suc (w + first_of_frame sc (suc f)) ≤ last

@@ -1,41 +1,15 @@
 -- A listener delivers in a slot of a frame with the last tick of the slot's stage 2, and with no
 -- other tick.
-use Rattle.std.proofs.Common.{◌≡◌, ◌⊎◌, ℕ, zero, suc, ◌+◌, ◌-◌, ◌*◌, ◌/◌, ◌%◌, ◌<◌, ◌≤◌, ◌==◌, Bool, true, false, [], Option, Some, None, if◌then◌else◌, unwrap_or, inl, inr, refl, sym, ◌∙◌, ap, subst, arith}
+use Rattle.std.proofs.{Common.{◌≡◌, ◌⊎◌, ℕ, zero, suc, ◌+◌, ◌-◌, ◌*◌, ◌/◌, ◌%◌, ◌<◌, ◌≤◌, ◌==◌, Bool, true, false, [], Option, Some, None, if◌then◌else◌, unwrap_or, inl, inr, refl, sym, ◌∙◌, ap, subst, arith}, lemmas.Bool.{cases_lt, eqb-true}, lemmas.Bool.Decides.nat_tests, lemmas.Option.none-some}
 use Rattle.std.specs.Option.{option_and_then}
-use Rattle.std.proofs.lemmas.Bool.{cases_lt, eqb-true}
-use Rattle.std.proofs.lemmas.Bool.Decides.{nat_tests}
-use Rattle.std.proofs.lemmas.Option.{none-some}
-use Rattle.rb_base.specs.Nodes.Side.{Biu}
-use Rattle.rb_base.specs.Sizes.{Sizes, sync_slot_of}
-use Rattle.rb_base.specs.declared.values.Delivery.{Delivery}
-use Rattle.rb_base.specs.declared.values.Heard.{Heard}
-use Rattle.rb_rules.specs.declared.closing.Closed.{Closed}
-use Rattle.rb_rules.specs.declared.plan.Plan.{Plan}
-use Rattle.rb_rules.specs.declared.plan.Window.{Window}
-use Rattle.rb_rules.specs.declared.record.Epoch.{Epoch}
-use Rattle.rb_rules.specs.declared.role.Role.{Role}
-use Rattle.rb_rules.specs.declared.role.Role.TheVariants.{Data, DiagBiu, DiagRmu, Schedule, Sync}
-use Rattle.rb_rules.specs.declared.sense.Sense.{Sense}
-use Rattle.rb_rules.specs.Core.{Act, Core, act_on, epoch_at, is_last, of_source, state_at, window_here}
-use Rattle.rb_rules.specs.ExactStage.{Outcome, close_exact, delivery_of, outcome_of}
-use Rattle.rb_rules.specs.Goodness.{Scenario}
-use Rattle.rb_rules.specs.Hearing.{close_window, tail_at, window_numbered}
-use Rattle.rb_rules.specs.NodeState.{NodeState, sender_at}
-use Rattle.rb_rules.specs.NodeSteps.{close}
-use Rattle.rb_rules.specs.Slots.{Sender, role_of}
-use Rattle.rb_rules.specs.Slots.Sender.{EachTrusted, Node, Nobody}
-use Rattle.rb_rules.specs.SyncStage.{close_sync, sync_outcome_of}
-use Rattle.rb_rules.specs.Windows.{holds_offset, window_at, windows_of_frame}
+use Rattle.rb_base.specs.{Nodes.Side.Biu, Sizes.{Sizes, sync_slot_of}, declared.values.Delivery.Delivery, declared.values.Heard.Heard}
+use Rattle.rb_rules.specs.{declared.closing.Closed.Closed, declared.plan.Plan.Plan, declared.plan.Window.Window, declared.record.Epoch.Epoch, declared.role.Role.Role, declared.role.Role.TheVariants.{Data, DiagBiu, DiagRmu, Schedule, Sync}, declared.sense.Sense.Sense, Core.{Act, Core, act_on, epoch_at, is_last, of_source, state_at, window_here}, ExactStage.{Outcome, close_exact, delivery_of, outcome_of}, Goodness.Scenario, Hearing.{close_window, tail_at, window_numbered}, NodeState.{NodeState, sender_at}, NodeSteps.close, Slots.{Sender, role_of}, Slots.Sender.{EachTrusted, Node, Nobody}, SyncStage.{close_sync, sync_outcome_of}, Windows.{holds_offset, window_at, windows_of_frame}}
 use Rattle.rb_rules.proofs.WindowNumbers.{exact-numbered, sync-numbered}
 use Rattle.rb_laws_events.specs.Closing.{stages_in}
 use Rattle.rb_laws_events.proofs.TickWindows.{get-window, how-many}
-use Rattle.rb_listen.specs.Following.{follow}
-use Rattle.rb_listen.specs.declared.lesson.First.{First}
-use Rattle.rb_listen.specs.declared.search.Search.{Search}
+use Rattle.rb_listen.specs.{Following.follow, declared.lesson.First.First, declared.search.Search.Search}
 use Rattle.rb_laws_listener_learns.specs.Ears.{Ear, told_at}
-use Rattle.rb_laws_listener_follows.proofs.EpochKnown.{AmongThem, among}
-use Rattle.rb_laws_listener_follows.proofs.EpochsRise.{AtTick, WaitsFirst, at_tick, none_earlier, quiet_before}
-use Rattle.rb_laws_listener_follows.proofs.FollowerRuns.{acts_by}
+use Rattle.rb_laws_listener_follows.proofs.{EpochKnown.{AmongThem, among}, EpochsRise.{AtTick, WaitsFirst, at_tick, none_earlier, quiet_before}, FollowerRuns.acts_by}
 
 -- the delivery is of this frame and slot, and the stage is 2
 record IsOfSlot (st : NodeState) (slot stage : ℕ) (d : Delivery) : Type 0 where

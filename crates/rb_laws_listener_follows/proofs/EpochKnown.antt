@@ -1,33 +1,14 @@
 -- A listener comes to know its next epoch with the last tick of stage 2 of the sync slot, and with
 -- no other tick.
-use Rattle.std.proofs.Common.{◌≡◌, ◌⊎◌, ℕ, zero, suc, ◌+◌, ◌-◌, ◌*◌, ◌/◌, ◌<◌, ◌==◌, ◌&&◌, Bool, true, false, List, [], ◌∷◌, length, find, cond, Option, Some, None, if◌then◌else◌, option_map, unwrap_or, slice_get, inl, inr, refl, sym, ◌∙◌, ap, subst, arith}
-use Rattle.std.proofs.lemmas.Bool.{cases_lt, eqb-true}
-use Rattle.rb_base.specs.Nodes.Side.{Biu}
-use Rattle.rb_base.specs.Sizes.{Sizes, sync_slot_of}
-use Rattle.rb_rules.specs.declared.plan.Plan.{Plan}
-use Rattle.rb_rules.specs.declared.plan.Window.{Window}
-use Rattle.rb_rules.specs.declared.sense.Sense.{Sense}
-use Rattle.rb_rules.specs.Core.{Act, Core, act_on, epoch_at, is_last, is_tick, of_source, state_at, window_here}
-use Rattle.rb_rules.specs.ExactStage.{Outcome, close_exact}
-use Rattle.rb_rules.specs.Hearing.{close_window, tail_at, window_numbered}
-use Rattle.rb_rules.specs.NodeState.{NodeState}
-use Rattle.rb_rules.specs.NodeSteps.{close, turn_if_known}
-use Rattle.rb_rules.specs.Plan.{f0_of}
-use Rattle.rb_rules.specs.declared.role.Role.TheVariants.{Sync}
-use Rattle.rb_rules.specs.SyncStage.{close_sync, new_epoch_of, sync_closing_of, sync_outcome_of, expects_call}
-use Rattle.rb_rules.specs.Slots.{listens}
-use Rattle.rb_rules.specs.Windows.{holds_offset, window_at, windows_of_frame}
-use Rattle.rb_rules.proofs.RoundStates.{Stays, close-stays}
-use Rattle.rb_rules.proofs.WindowNumbers.{exact-numbered, sync-numbered}
+use Rattle.std.proofs.{Common.{◌≡◌, ◌⊎◌, ℕ, zero, suc, ◌+◌, ◌-◌, ◌*◌, ◌/◌, ◌<◌, ◌==◌, ◌&&◌, Bool, true, false, List, [], ◌∷◌, length, find, cond, Option, Some, None, if◌then◌else◌, option_map, unwrap_or, slice_get, inl, inr, refl, sym, ◌∙◌, ap, subst, arith}, lemmas.Bool.{cases_lt, eqb-true}}
+use Rattle.rb_base.specs.{Nodes.Side.Biu, Sizes.{Sizes, sync_slot_of}}
+use Rattle.rb_rules.specs.{declared.plan.Plan.Plan, declared.plan.Window.Window, declared.sense.Sense.Sense, Core.{Act, Core, act_on, epoch_at, is_last, is_tick, of_source, state_at, window_here}, ExactStage.{Outcome, close_exact}, Hearing.{close_window, tail_at, window_numbered}, NodeState.NodeState, NodeSteps.{close, turn_if_known}, Plan.f0_of, declared.role.Role.TheVariants.Sync, SyncStage.{close_sync, new_epoch_of, sync_closing_of, sync_outcome_of, expects_call}, Slots.listens, Windows.{holds_offset, window_at, windows_of_frame}}
+use Rattle.rb_rules.proofs.{RoundStates.{Stays, close-stays}, WindowNumbers.{exact-numbered, sync-numbered}}
 use Rattle.rb_laws_agreement.proofs.Tests.{true_or_false}
 use Rattle.rb_laws_events.specs.Closing.{stages_in}
-use Rattle.rb_laws_events.proofs.NodeMoves.{turn-at}
-use Rattle.rb_laws_events.proofs.StageOrder.{last-second-call}
-use Rattle.rb_laws_events.proofs.TickWindows.{get-window, how-many}
-use Rattle.rb_laws_events.proofs.TurnTicks.{no-next}
+use Rattle.rb_laws_events.proofs.{NodeMoves.turn-at, StageOrder.last-second-call, TickWindows.{get-window, how-many}, TurnTicks.no-next}
 use Rattle.rb_laws_listener_near.proofs.SyncTracks.{turns_with}
-use Rattle.rb_laws_listener_follows.proofs.ExactSteps.{exact_keeps}
-use Rattle.rb_laws_listener_follows.proofs.TurnSteps.{turned-unknown}
+use Rattle.rb_laws_listener_follows.proofs.{ExactSteps.exact_keeps, TurnSteps.turned-unknown}
 
 -- the offset from which on the listener knows the middle of stage 2
 abbrev pub second_end : Sizes → Plan → ℕ

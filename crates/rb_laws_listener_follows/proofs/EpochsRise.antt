@@ -1,27 +1,13 @@
 -- A listener tells one frame after another: each with one tick, and not before the end of stage 2
 -- of the sync slot of the one before.
-use Rattle.std.proofs.Common.{◌≡◌, ◌⊎◌, ℕ, zero, suc, ◌+◌, ◌-◌, ◌^◌, ◌<◌, ◌≤◌, ◌==◌, Bool, true, false, ◌++◌, Option, Some, None, inl, inr, refl, sym, ◌∙◌, ap, subst, arith}
-use Rattle.std.proofs.lemmas.Bool.{cases_lt, eqb-true}
-use Rattle.std.proofs.lemmas.Bool.Decides.{nat_tests}
+use Rattle.std.proofs.{Common.{◌≡◌, ◌⊎◌, ℕ, zero, suc, ◌+◌, ◌-◌, ◌^◌, ◌<◌, ◌≤◌, ◌==◌, Bool, true, false, ◌++◌, Option, Some, None, inl, inr, refl, sym, ◌∙◌, ap, subst, arith}, lemmas.Bool.{cases_lt, eqb-true}, lemmas.Bool.Decides.nat_tests}
 use Rattle.rb_base.specs.Nodes.Side.{Biu}
-use Rattle.rb_rules.specs.declared.record.Epoch.{Epoch}
-use Rattle.rb_rules.specs.Core.{Act, Core, act_on, epoch_at, state_at}
-use Rattle.rb_rules.specs.Goodness.{Scenario}
-use Rattle.rb_rules.specs.Hearing.{epoch_of}
-use Rattle.rb_rules.specs.NodeState.{NodeState}
-use Rattle.rb_rules.specs.SyncStage.{new_epoch_of}
+use Rattle.rb_rules.specs.{declared.record.Epoch.Epoch, Core.{Act, Core, act_on, epoch_at, state_at}, Goodness.Scenario, Hearing.epoch_of, NodeState.NodeState, SyncStage.new_epoch_of}
 use Rattle.rb_laws_events.proofs.TurnTicks.{no-next}
-use Rattle.rb_listen.specs.Following.{follow}
-use Rattle.rb_listen.specs.Listening.{Heeding, Listening, first_core, followed, heed, is_over, no_heed, search_on, untold, wait_on}
+use Rattle.rb_listen.specs.{Following.follow, Listening.{Heeding, Listening, first_core, followed, heed, is_over, no_heed, search_on, untold, wait_on}, declared.lesson.First.First, declared.search.Search.Search}
+use Rattle.rb_laws_listener_learns.specs.{Ears.{Ear, hears, listening_at, told_at}, Waiting.WaitsFor}
+use Rattle.rb_laws_listener_follows.proofs.{BeforeFirst.{Follows, hears_on, later_follows}, EpochKnown.{TickKeeps, Turns, second_end, tick_keeps, turns_or_stays}, FollowerRuns.{acts_by, arrivals, hears_all, heeds_core}, Tellings.tells_epoch}
 use Rattle.rb_listen.specs.Listening as now
-use Rattle.rb_listen.specs.declared.lesson.First.{First}
-use Rattle.rb_listen.specs.declared.search.Search.{Search}
-use Rattle.rb_laws_listener_learns.specs.Ears.{Ear, hears, listening_at, told_at}
-use Rattle.rb_laws_listener_learns.specs.Waiting.{WaitsFor}
-use Rattle.rb_laws_listener_follows.proofs.BeforeFirst.{Follows, hears_on, later_follows}
-use Rattle.rb_laws_listener_follows.proofs.EpochKnown.{TickKeeps, Turns, second_end, tick_keeps, turns_or_stays}
-use Rattle.rb_laws_listener_follows.proofs.FollowerRuns.{acts_by, arrivals, hears_all, heeds_core}
-use Rattle.rb_laws_listener_follows.proofs.Tellings.{tells_epoch}
 
 -- ---- what it told before a tick
 

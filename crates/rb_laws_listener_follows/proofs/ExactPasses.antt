@@ -1,28 +1,13 @@
 -- Below the sync slot a listener goes from window to window of a frame that it follows.
 use Rattle.std.proofs.Common.{◌≡◌, ℕ, suc, ◌+◌, ◌-◌, ◌*◌, ◌/◌, ◌%◌, ◌<◌, ◌≤◌, List, Some, None, get_or, sym, ◌∙◌, ap, subst, arith}
-use Rattle.rb_base.specs.Sizes.{sync_slot_of}
-use Rattle.rb_base.specs.declared.values.See.TheVariants.{Nothing}
-use Rattle.rb_rules.specs.declared.sense.Sense.{Sense}
-use Rattle.rb_rules.specs.ExactStage.{Outcome}
-use Rattle.rb_rules.specs.Goodness.{Scenario}
-use Rattle.rb_rules.specs.Moments.{IsComplete, IsRunning}
-use Rattle.rb_rules.specs.NodeState.{NodeState}
-use Rattle.rb_rules.specs.Ports.{HandIn}
-use Rattle.rb_rules.specs.Rounds.{moment}
-use Rattle.rb_laws_agreement.proofs.Invariant.{Shared}
-use Rattle.rb_laws_agreement.proofs.Settings.{Setting, stages_with}
+use Rattle.rb_base.specs.{Sizes.sync_slot_of, declared.values.See.TheVariants.Nothing}
+use Rattle.rb_rules.specs.{declared.sense.Sense.Sense, ExactStage.Outcome, Goodness.Scenario, Moments.{IsComplete, IsRunning}, NodeState.NodeState, Ports.HandIn, Rounds.moment}
+use Rattle.rb_laws_agreement.proofs.{Invariant.Shared, Settings.{Setting, stages_with}}
 use Rattle.rb_laws_listener_near.specs.Judged.{verdict_with}
-use Rattle.rb_laws_listener_near.proofs.Tracking.{held}
-use Rattle.rb_laws_listener_near.proofs.VotesAlike.{SawTaken}
-use Rattle.rb_laws_listener_learns.specs.Ears.{Ear}
-use Rattle.rb_laws_listener_learns.specs.Receivers.{HoldsTo, seen_by, seen_closed, timed_see}
+use Rattle.rb_laws_listener_near.proofs.{Tracking.held, VotesAlike.SawTaken}
+use Rattle.rb_laws_listener_learns.specs.{Ears.Ear, Receivers.{HoldsTo, seen_by, seen_closed, timed_see}}
 use Rattle.rb_laws_listener_learns.proofs.FrameStages.{IsAtWindow, IsStepped, at-window, first_of_frame, stepped}
-use Rattle.rb_laws_listener_follows.proofs.ExactRuns.{StandsNext, setting_at, stands_next}
-use Rattle.rb_laws_listener_follows.proofs.ExactSteps.{Abides, GoesThrough, IsPremise, closing_is, goes_through, outcome_at, sense_at, window_at}
-use Rattle.rb_laws_listener_follows.proofs.FollowerRuns.{ClosesWindow, IsWindow, closes_window, closing}
-use Rattle.rb_laws_listener_follows.proofs.SeenPremise.{holds_following, most_stay, place_closed, seen_following, sees_values}
-use Rattle.rb_laws_listener_follows.proofs.SeenWindows.{IsPlaceOf, NoneSeen, SeesWindow, seen_stays, sees_window}
-use Rattle.rb_laws_listener_follows.proofs.TurnSets.{HoldsSets}
+use Rattle.rb_laws_listener_follows.proofs.{ExactRuns.{StandsNext, setting_at, stands_next}, ExactSteps.{Abides, GoesThrough, IsPremise, closing_is, goes_through, outcome_at, sense_at, window_at}, FollowerRuns.{ClosesWindow, IsWindow, closes_window, closing}, SeenPremise.{holds_following, most_stay, place_closed, seen_following, sees_values}, SeenWindows.{IsPlaceOf, NoneSeen, SeesWindow, seen_stays, sees_window}, TurnSets.HoldsSets}
 
 -- The listener stands before window w of the frame, and has closed neither this window nor a later
 -- one. Before the first one it holds the trusted nodes of all

@@ -1,25 +1,13 @@
 -- From window to window below the sync slot a listener stands beside the run.
 use Rattle.std.proofs.Common.{◌≡◌, ℕ, suc, ◌+◌, ◌-◌, ◌*◌, ◌<◌, ◌≤◌, false, List, inl, inr, sym, ◌∙◌, ap, subst, arith}
-use Rattle.rb_base.specs.Nodes.Side.{Biu}
-use Rattle.rb_base.specs.Sizes.{sync_slot_of}
-use Rattle.rb_rules.specs.Goodness.{Scenario}
-use Rattle.rb_rules.specs.Moments.{IsRunning}
-use Rattle.rb_rules.specs.NodeState.{NodeState}
-use Rattle.rb_rules.specs.Ports.{HandIn}
-use Rattle.rb_rules.specs.Rounds.{moment, windows_in}
-use Rattle.rb_laws_agreement.proofs.Agreement.{IsAgreed, agreement, exact-setting, step_is}
-use Rattle.rb_laws_agreement.proofs.Invariant.{Shared}
-use Rattle.rb_laws_agreement.proofs.NextMoments.{next}
-use Rattle.rb_laws_agreement.proofs.Settings.{Setting}
-use Rattle.rb_laws_agreement.proofs.SlotRuns.{next-window}
-use Rattle.rb_laws_synchrony.proofs.SyncSteps.{near_exact}
-use Rattle.rb_laws_synchrony.proofs.Synchronous.{Synchronous}
+use Rattle.rb_base.specs.{Nodes.Side.Biu, Sizes.sync_slot_of}
+use Rattle.rb_rules.specs.{Goodness.Scenario, Moments.IsRunning, NodeState.NodeState, Ports.HandIn, Rounds.{moment, windows_in}}
+use Rattle.rb_laws_agreement.proofs.{Agreement.{IsAgreed, agreement, exact-setting, step_is}, Invariant.Shared, NextMoments.next, Settings.Setting, SlotRuns.next-window}
+use Rattle.rb_laws_synchrony.proofs.{SyncSteps.near_exact, Synchronous.Synchronous}
 use Rattle.rb_laws_events.proofs.TurnTicks.{no-next}
 use Rattle.rb_laws_listener_learns.specs.Ears.{Ear}
 use Rattle.rb_laws_listener_near.proofs.Tracking.{Tracks}
-use Rattle.rb_laws_listener_follows.proofs.ExactSteps.{Abides, GoesThrough, outcome_at}
-use Rattle.rb_laws_listener_follows.proofs.FollowerRuns.{Stands}
-use Rattle.rb_laws_listener_follows.proofs.HeardExact.{Beside}
+use Rattle.rb_laws_listener_follows.proofs.{ExactSteps.{Abides, GoesThrough, outcome_at}, FollowerRuns.Stands, HeardExact.Beside}
 
 -- the run goes on over the window of moment `n`
 pub record GoesOn (sc : Scenario) (hands : List HandIn) (n : ℕ) : Type 0 where

@@ -1,44 +1,19 @@
 -- A listener goes through a window below the sync slot: it closes it as the good BIUs do, and
 -- stands before the next.
 use Rattle.std.proofs.Common.{◌≡◌, ℕ, suc, ◌+◌, ◌-◌, ◌*◌, ◌^◌, ◌<◌, ◌≤◌, ◌==◌, Bool, true, false, List, Option, Some, None, refl, sym, ◌∙◌, ap, subst, arith}
-use Rattle.rb_base.specs.Nodes.Side.{Biu}
-use Rattle.rb_base.specs.Sizes.{Sizes, sync_slot_of}
-use Rattle.rb_base.specs.declared.values.See.{See}
+use Rattle.rb_base.specs.{Nodes.Side.Biu, Sizes.{Sizes, sync_slot_of}, declared.values.See.See}
 use Rattle.rb_base.proofs.Plain.{less-differs}
-use Rattle.rb_rules.specs.declared.plan.Plan.{Plan}
-use Rattle.rb_rules.specs.declared.plan.Window.{Window}
-use Rattle.rb_rules.specs.declared.sense.Sense.{Sense}
-use Rattle.rb_rules.specs.Core.{Core, of_source, state_at, window_here}
-use Rattle.rb_rules.specs.ExactStage.{Outcome, close_exact, outcome_of, votes_in}
-use Rattle.rb_rules.specs.Goodness.{Scenario}
-use Rattle.rb_rules.specs.Hearing.{close_window}
-use Rattle.rb_rules.specs.Judging.{JudgedStage}
-use Rattle.rb_rules.specs.NodeState.{NodeState}
-use Rattle.rb_rules.specs.NodeSteps.{close}
-use Rattle.rb_rules.specs.Ports.{HandIn}
-use Rattle.rb_rules.specs.Rounds.{moment}
-use Rattle.rb_rules.specs.Slots.{role_of}
-use Rattle.rb_rules.specs.SyncStage.{close_sync, new_epoch_of}
+use Rattle.rb_rules.specs.{declared.plan.Plan.Plan, declared.plan.Window.Window, declared.sense.Sense.Sense, Core.{Core, of_source, state_at, window_here}, ExactStage.{Outcome, close_exact, outcome_of, votes_in}, Goodness.Scenario, Hearing.close_window, Judging.JudgedStage, NodeState.NodeState, NodeSteps.close, Ports.HandIn, Rounds.moment, Slots.role_of, SyncStage.{close_sync, new_epoch_of}}
 use Rattle.rb_rules.proofs.RoundStates.{close-stays}
-use Rattle.rb_laws_agreement.proofs.ExactAgrees.{has_ticks}
-use Rattle.rb_laws_agreement.proofs.Invariant.{Shared}
-use Rattle.rb_laws_agreement.proofs.NextMoments.{next}
-use Rattle.rb_laws_agreement.proofs.NodeWindows.{Windows, exact_windows}
-use Rattle.rb_laws_agreement.proofs.Settings.{Setting, stages_with}
+use Rattle.rb_laws_agreement.proofs.{ExactAgrees.has_ticks, Invariant.Shared, NextMoments.next, NodeWindows.{Windows, exact_windows}, Settings.{Setting, stages_with}}
 use Rattle.rb_laws_synchrony.proofs.StageCalls.{IsAt, exact_at}
-use Rattle.rb_laws_events.proofs.StageOrder.{last-same, last_of}
-use Rattle.rb_laws_events.proofs.TickWindows.{first-same, first_of}
+use Rattle.rb_laws_events.proofs.{StageOrder.{last-same, last_of}, TickWindows.{first-same, first_of}}
 use Rattle.rb_listen.specs.Following.{follow}
-use Rattle.rb_listen.specs.Listening as now
 use Rattle.rb_laws_listener_learns.specs.Ears.{Ear, listening_at}
 use Rattle.rb_laws_listener_near.specs.Judged.{verdict_with}
-use Rattle.rb_laws_listener_near.proofs.Tracking.{MostStay, Tracks, held}
-use Rattle.rb_laws_listener_near.proofs.VotesAlike.{SawTaken}
-use Rattle.rb_laws_listener_near.proofs.WindowSteps.{IsWatched, closed_by, tracks_after}
-use Rattle.rb_laws_listener_follows.proofs.FollowerRuns.{ClosesWindow, IsWindow, Stands, closes_window, closing, collected, state_before}
-use Rattle.rb_laws_listener_follows.proofs.FollowerWindows.{closes_there, is_window}
-use Rattle.rb_laws_listener_follows.proofs.HeardExact.{Beside}
-use Rattle.rb_laws_listener_follows.proofs.SensesExact.{sense_heard, senses_exact}
+use Rattle.rb_laws_listener_near.proofs.{Tracking.{MostStay, Tracks, held}, VotesAlike.SawTaken, WindowSteps.{IsWatched, closed_by, tracks_after}}
+use Rattle.rb_laws_listener_follows.proofs.{FollowerRuns.{ClosesWindow, IsWindow, Stands, closes_window, closing, collected, state_before}, FollowerWindows.{closes_there, is_window}, HeardExact.Beside, SensesExact.{sense_heard, senses_exact}}
+use Rattle.rb_listen.specs.Listening as now
 
 -- the listener stands before the window of moment n, with whose first tick it comes to this state
 pub record Abides (sc : Scenario) (hands : List HandIn) (ear : Ear) (n epoch low : ℕ) (s : Shared) (before st : NodeState) : Type 0 where

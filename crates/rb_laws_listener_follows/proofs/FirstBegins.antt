@@ -1,39 +1,16 @@
 -- A listener that has learned and waited begins its first frame beside the run, and holds what the
 -- good BIUs hold.
 use Rattle.std.proofs.Common.{◌≡◌, ℕ, suc, ◌+◌, List, [], Some, None, replicate, refl, sym, ◌∙◌, ap, subst, arith}
-use Rattle.rb_base.specs.Nodes.{Side}
-use Rattle.rb_base.specs.Nodes.Side.{Biu}
-use Rattle.rb_base.specs.Sizes.{Sizes, sync_slot_of}
-use Rattle.rb_base.specs.declared.values.Heard.TheVariants.{Fault}
+use Rattle.rb_base.specs.{Nodes.Side, Nodes.Side.Biu, Sizes.{Sizes, sync_slot_of}, declared.values.Heard.TheVariants.Fault}
 use Rattle.rb_base.proofs.Sets.{has_none}
-use Rattle.rb_rules.specs.Conviction.{turn}
-use Rattle.rb_rules.specs.Goodness.{Scenario, is_good}
-use Rattle.rb_rules.specs.Lawful.{IsLawful}
-use Rattle.rb_rules.specs.Moments.{IsGoodBefore, IsRunning, before_slot, before_stage}
-use Rattle.rb_rules.specs.NodeState.{NodeState}
-use Rattle.rb_rules.specs.Ports.{HandIn}
-use Rattle.rb_rules.specs.Rounds.{moment}
-use Rattle.rb_rules.specs.SyncStage.{new_epoch_of}
-use Rattle.rb_laws_agreement.proofs.FrameBegins.{frame_turns}
-use Rattle.rb_laws_agreement.proofs.Invariant.{IsGoodNode, Shared, slot_numbered}
-use Rattle.rb_laws_agreement.proofs.Places.{IsPlaced, placed}
-use Rattle.rb_listen.specs.Lessons.{first_of}
-use Rattle.rb_listen.specs.Listening.{first_core}
-use Rattle.rb_listen.specs.declared.lesson.First.{First}
-use Rattle.rb_listen.specs.declared.search.Search.{Search}
+use Rattle.rb_rules.specs.{Conviction.turn, Goodness.{Scenario, is_good}, Lawful.IsLawful, Moments.{IsGoodBefore, IsRunning, before_slot, before_stage}, NodeState.NodeState, Ports.HandIn, Rounds.moment, SyncStage.new_epoch_of}
+use Rattle.rb_laws_agreement.proofs.{FrameBegins.frame_turns, Invariant.{IsGoodNode, Shared, slot_numbered}, Places.{IsPlaced, placed}}
+use Rattle.rb_listen.specs.{Lessons.first_of, Listening.first_core, declared.lesson.First.First, declared.search.Search.Search}
 use Rattle.rb_laws_listener_near.specs.Holding.{HoldAlike}
-use Rattle.rb_laws_listener_learns.specs.Deciding.{DecidesBy}
-use Rattle.rb_laws_listener_learns.specs.Ears.{Ear, HearsTheRun, IsEar}
-use Rattle.rb_laws_listener_learns.specs.Learned.{HasLearned}
-use Rattle.rb_laws_listener_learns.specs.Receivers.{IsCalm}
-use Rattle.rb_laws_listener_learns.specs.Waiting.{WaitsFor}
+use Rattle.rb_laws_listener_learns.specs.{Deciding.DecidesBy, Ears.{Ear, HearsTheRun, IsEar}, Learned.HasLearned, Receivers.IsCalm, Waiting.WaitsFor}
 use Rattle.rb_laws_listener_learns.proofs.Waits.{waits-for}
 use Rattle.rb_laws_listener_follows.specs.InTime.{BeginsNear, moment_before}
-use Rattle.rb_laws_listener_follows.proofs.Begun.{HasBegun, has_begun}
-use Rattle.rb_laws_listener_follows.proofs.FirstNear.{first_near}
-use Rattle.rb_laws_listener_follows.proofs.FirstWindow.{BeginsFirst}
-use Rattle.rb_laws_listener_follows.proofs.FramesInTime.{beside_at}
-use Rattle.rb_laws_listener_follows.proofs.HeardExact.{Beside}
+use Rattle.rb_laws_listener_follows.proofs.{Begun.{HasBegun, has_begun}, FirstNear.first_near, FirstWindow.BeginsFirst, FramesInTime.beside_at, HeardExact.Beside}
 
 -- the state with which the listener begins to follow
 abbrev pub first_state : Scenario → First → NodeState

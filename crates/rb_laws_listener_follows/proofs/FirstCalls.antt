@@ -1,47 +1,16 @@
 -- A listener goes through stage 1 of the sync slot, in which the RMUs listen: nothing of good RMUs
 -- comes, and it keeps up with the bus.
 use Rattle.std.proofs.Common.{◌≡◌, ℕ, suc, ◌+◌, ◌-◌, ◌*◌, ◌^◌, ◌≤◌, true, false, List, [], Some, None, slice_get, refl, sym, ◌∙◌, ap, subst, arith}
-use Rattle.rb_base.specs.Nodes.Side.{Biu, Rmu}
-use Rattle.rb_base.specs.Sizes.{Sizes, sync_slot_of}
-use Rattle.rb_rules.specs.declared.plan.Plan.{Plan}
-use Rattle.rb_rules.specs.declared.sense.Sense.{Sense}
-use Rattle.rb_rules.specs.declared.sense.Sense.TheVariants.{Silent}
-use Rattle.rb_rules.specs.Book.{of_kind}
-use Rattle.rb_rules.specs.Core.{of_source, state_at, window_here}
-use Rattle.rb_rules.specs.Goodness.{Scenario, is_good}
-use Rattle.rb_rules.specs.Hearing.{close_window, window_numbered}
-use Rattle.rb_rules.specs.NodeState.{NodeState}
-use Rattle.rb_rules.specs.NodeSteps.{expect_of}
-use Rattle.rb_rules.specs.Plan.{f0_of}
-use Rattle.rb_rules.specs.Ports.{HandIn}
-use Rattle.rb_rules.specs.Rounds.{after_window, moment}
-use Rattle.rb_rules.specs.Sense.{sense_of}
-use Rattle.rb_rules.specs.Standing.{does_wrong}
-use Rattle.rb_rules.specs.SyncStage.{close_sync, expects_call, new_epoch_of, sync_outcome_of}
-use Rattle.rb_rules.specs.Windows.{window_of}
-use Rattle.rb_rules.proofs.RoundStates.{HasTicks}
-use Rattle.rb_rules.proofs.WindowNumbers.{sync-numbered}
-use Rattle.rb_laws_agreement.proofs.Tests.{Present}
-use Rattle.rb_laws_agreement.proofs.ExactAgrees.{has_ticks}
-use Rattle.rb_laws_agreement.proofs.Goodnesses.{slot_last}
-use Rattle.rb_laws_agreement.proofs.Invariant.{IsGoodNode, Shared, is_good_now}
-use Rattle.rb_laws_agreement.proofs.NextMoments.{next, was_good}
-use Rattle.rb_laws_agreement.proofs.Settings.{good_state}
-use Rattle.rb_laws_agreement.proofs.SyncAgrees.{SyncSetting}
-use Rattle.rb_laws_agreement.proofs.NodeWindows.{sync_windows_are}
-use Rattle.rb_laws_agreement.proofs.SyncWindows.{close-sync}
+use Rattle.rb_base.specs.{Nodes.Side.{Biu, Rmu}, Sizes.{Sizes, sync_slot_of}}
+use Rattle.rb_rules.specs.{declared.plan.Plan.Plan, declared.sense.Sense.Sense, declared.sense.Sense.TheVariants.Silent, Book.of_kind, Core.{of_source, state_at, window_here}, Goodness.{Scenario, is_good}, Hearing.{close_window, window_numbered}, NodeState.NodeState, NodeSteps.expect_of, Plan.f0_of, Ports.HandIn, Rounds.{after_window, moment}, Sense.sense_of, Standing.does_wrong, SyncStage.{close_sync, expects_call, new_epoch_of, sync_outcome_of}, Windows.window_of}
+use Rattle.rb_rules.proofs.{RoundStates.HasTicks, WindowNumbers.sync-numbered}
+use Rattle.rb_laws_agreement.proofs.{Tests.Present, ExactAgrees.has_ticks, Goodnesses.slot_last, Invariant.{IsGoodNode, Shared, is_good_now}, NextMoments.{next, was_good}, Settings.good_state, SyncAgrees.SyncSetting, NodeWindows.sync_windows_are, SyncWindows.close-sync}
 use Rattle.rb_laws_events.specs.Closing.{stages_in}
-use Rattle.rb_laws_events.proofs.StageOrder.{last_of}
-use Rattle.rb_laws_events.proofs.TickWindows.{first_of}
+use Rattle.rb_laws_events.proofs.{StageOrder.last_of, TickWindows.first_of}
 use Rattle.rb_laws_synchrony.proofs.SyncSteps.{IsPassedStage}
 use Rattle.rb_laws_listener_learns.specs.Ears.{Ear}
-use Rattle.rb_laws_listener_near.proofs.SyncTracks.{tracks_sync}
-use Rattle.rb_laws_listener_near.proofs.Tracking.{Tracks, stays_good}
-use Rattle.rb_laws_listener_follows.proofs.Arrivals.{none_collected, none_with_stamp}
-use Rattle.rb_laws_listener_follows.proofs.ExactSteps.{Abides}
-use Rattle.rb_laws_listener_follows.proofs.FollowerRuns.{ClosesWindow, IsWindow, Stands, closes_window, closing, collected}
-use Rattle.rb_laws_listener_follows.proofs.FollowerWindows.{closes_there, is_window}
-use Rattle.rb_laws_listener_follows.proofs.HeardSync.{nothing_first}
+use Rattle.rb_laws_listener_near.proofs.{SyncTracks.tracks_sync, Tracking.{Tracks, stays_good}}
+use Rattle.rb_laws_listener_follows.proofs.{Arrivals.{none_collected, none_with_stamp}, ExactSteps.Abides, FollowerRuns.{ClosesWindow, IsWindow, Stands, closes_window, closing, collected}, FollowerWindows.{closes_there, is_window}, HeardSync.nothing_first}
 
 -- ---- windows of the sync slot at the listener
 

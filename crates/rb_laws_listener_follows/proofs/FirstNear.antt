@@ -1,63 +1,18 @@
 -- A listener that has learned begins its first frame near all good nodes.
-use Rattle.std.proofs.Common.{◌≡◌, ℕ, suc, ◌+◌, ◌-◌, ◌*◌, ◌/◌, ◌%◌, ◌<◌, ◌≤◌, ◌==◌, not, Bool, true, false, List, [], ◌∷◌, Option, Some, None, is_some, length, if◌then◌else◌, refl, sym, ◌∙◌, ap, subst, arith}
-use Rattle.std.proofs.lemmas.Bool.{eq-eqb, ltb-true}
-use Rattle.std.proofs.lemmas.Option.{same_Some}
-use Rattle.rb_base.specs.Nodes.{has, set_of, size}
-use Rattle.rb_base.specs.Nodes.{Side}
-use Rattle.rb_base.specs.Nodes.Side.{Biu, Rmu}
-use Rattle.rb_base.specs.Sizes.{sync_slot_of}
-use Rattle.rb_base.specs.declared.values.See.TheVariants.{Nothing}
-use Rattle.rb_base.proofs.Plain.{and_first, eq_self, some-from}
-use Rattle.rb_base.proofs.Sets.{has-set_of}
-use Rattle.rb_base.proofs.SetSizes.{size_within}
-use Rattle.rb_rules.specs.declared.sense.Sense.{Sense}
-use Rattle.rb_rules.specs.Clock.{IsStamp, stamp_of, time_of}
-use Rattle.rb_rules.specs.Goodness.{Scenario, clock_of, is_good}
-use Rattle.rb_rules.specs.Hearing.{judged_see, sending}
-use Rattle.rb_rules.specs.Judging.{JudgedStage, good_now, is_suspect}
-use Rattle.rb_rules.specs.Lawful.{IsDelay, IsLawful}
-use Rattle.rb_rules.specs.Moments.{IsComplete, IsGoodBefore, IsRunning, before_slot, before_stage, time_in_frame}
-use Rattle.rb_rules.specs.NodeState.{NodeState, trusted_of}
-use Rattle.rb_rules.specs.Plan.{shortest_of}
-use Rattle.rb_rules.specs.Ports.{HandIn}
-use Rattle.rb_rules.specs.Rounds.{Moment, moment, windows_in}
-use Rattle.rb_rules.specs.Sense.{stamp_in, value_in}
-use Rattle.rb_rules.specs.ExactStage.{see_value}
-use Rattle.rb_rules.specs.Slots.{role_of, sender_in}
-use Rattle.rb_rules.specs.SyncStage.{call_of, call_tick_of, see_time}
-use Rattle.rb_rules.proofs.Stamps.{one_stamp, stamp_of-is}
-use Rattle.rb_laws_agreement.proofs.Agreement.{IsAgreed, agreement}
-use Rattle.rb_laws_agreement.proofs.Goodnesses.{slot_last}
-use Rattle.rb_laws_agreement.proofs.Invariant.{IsGoodNode, is_good_now}
-use Rattle.rb_rules.specs.Book.{judged_of}
-use Rattle.rb_rules.proofs.Slots.{sync_role}
-use Rattle.rb_laws_agreement.proofs.JudgedWindows.{rows_of}
-use Rattle.rb_laws_agreement.proofs.NodeWindows.{Windows, sync_windows_are, word_at}
-use Rattle.rb_laws_agreement.proofs.Places.{IsPlaced, complete_before, placed, running_earlier}
-use Rattle.rb_laws_synchrony.proofs.PlanNumbers.{drift_of}
-use Rattle.rb_laws_synchrony.proofs.Times.{Steady}
-use Rattle.rb_listen.specs.Lessons.{record_of, recorded_of, stage_recorded, trusted_rmus}
-use Rattle.rb_listen.specs.declared.lesson.First.{First}
-use Rattle.rb_listen.specs.declared.search.Search.{Search}
-use Rattle.rb_laws_listener_near.specs.Calls.{AreMostGood, ComesAfter, IsGoodInSync, SawTheTimes, TakesTheCalls}
-use Rattle.rb_laws_listener_near.specs.Judged.{verdict_with}
-use Rattle.rb_laws_listener_near.specs.Laws.{LieWithin}
+use Rattle.std.proofs.{Common.{◌≡◌, ℕ, suc, ◌+◌, ◌-◌, ◌*◌, ◌/◌, ◌%◌, ◌<◌, ◌≤◌, ◌==◌, not, Bool, true, false, List, [], ◌∷◌, Option, Some, None, is_some, length, if◌then◌else◌, refl, sym, ◌∙◌, ap, subst, arith}, lemmas.Bool.{eq-eqb, ltb-true}, lemmas.Option.same_Some}
+use Rattle.rb_base.specs.{Nodes.{has, set_of, size}, Nodes.Side, Nodes.Side.{Biu, Rmu}, Sizes.sync_slot_of, declared.values.See.TheVariants.Nothing}
+use Rattle.rb_base.proofs.{Plain.{and_first, eq_self, some-from}, Sets.has-set_of, SetSizes.size_within}
+use Rattle.rb_rules.specs.{declared.sense.Sense.Sense, Clock.{IsStamp, stamp_of, time_of}, Goodness.{Scenario, clock_of, is_good}, Hearing.{judged_see, sending}, Judging.{JudgedStage, good_now, is_suspect}, Lawful.{IsDelay, IsLawful}, Moments.{IsComplete, IsGoodBefore, IsRunning, before_slot, before_stage, time_in_frame}, NodeState.{NodeState, trusted_of}, Plan.shortest_of, Ports.HandIn, Rounds.{Moment, moment, windows_in}, Sense.{stamp_in, value_in}, ExactStage.see_value, Slots.{role_of, sender_in}, SyncStage.{call_of, call_tick_of, see_time}, Book.judged_of}
+use Rattle.rb_rules.proofs.{Stamps.{one_stamp, stamp_of-is}, Slots.sync_role}
+use Rattle.rb_laws_agreement.proofs.{Agreement.{IsAgreed, agreement}, Goodnesses.slot_last, Invariant.{IsGoodNode, is_good_now}, JudgedWindows.rows_of, NodeWindows.{Windows, sync_windows_are, word_at}, Places.{IsPlaced, complete_before, placed, running_earlier}}
+use Rattle.rb_laws_synchrony.proofs.{PlanNumbers.drift_of, Times.Steady}
+use Rattle.rb_listen.specs.{Lessons.{record_of, recorded_of, stage_recorded, trusted_rmus}, declared.lesson.First.First, declared.search.Search.Search}
+use Rattle.rb_laws_listener_near.specs.{Calls.{AreMostGood, ComesAfter, IsGoodInSync, SawTheTimes, TakesTheCalls}, Judged.verdict_with, Laws.LieWithin}
 use Rattle.rb_laws_listener_near.proofs.FramesNear.{frames_near}
-use Rattle.rb_laws_listener_learns.specs.Deciding.{DecidesBy}
-use Rattle.rb_laws_listener_learns.specs.Ears.{Ear, HearsTheRun, IsEar, SendsIn, coming_to, is_always_good}
-use Rattle.rb_laws_listener_learns.specs.Learned.{HasCall, HasLearned}
-use Rattle.rb_laws_listener_learns.specs.Receivers.{IsCalm, call_time, is_idle, is_nobody, see_learned, see_recorded, seen_learned, stamp_seen, timed_see}
-use Rattle.rb_laws_listener_learns.proofs.Calling.{call-sending}
-use Rattle.rb_laws_listener_learns.proofs.CallsSent.{sends-at}
-use Rattle.rb_laws_listener_learns.proofs.FrameStages.{IsStepped, at-window, first_of_frame, place_at, stepped, told-now}
-use Rattle.rb_laws_listener_learns.proofs.Fresh.{always-good-in}
-use Rattle.rb_laws_listener_learns.proofs.Learns.{learned-verdict, learns}
-use Rattle.rb_laws_listener_learns.proofs.Together.{steady-ear}
-use Rattle.rb_laws_listener_learns.proofs.TrustedSets.{GoodThere, IsIn, KnowsAt, good-there, knows-at}
-use Rattle.rb_laws_listener_follows.specs.InTime.{BeginsNear}
-use Rattle.rb_laws_listener_follows.specs.Laws.{FirstFramesBeginNear}
-use Rattle.rb_laws_listener_follows.proofs.Begun.{HasBegun, has_begun}
-use Rattle.rb_laws_listener_follows.proofs.TrustedSights.{only_of, seen_of, sight_of, verdict_same}
+use Rattle.rb_laws_listener_learns.specs.{Deciding.DecidesBy, Ears.{Ear, HearsTheRun, IsEar, SendsIn, coming_to, is_always_good}, Learned.{HasCall, HasLearned}, Receivers.{IsCalm, call_time, is_idle, is_nobody, see_learned, see_recorded, seen_learned, stamp_seen, timed_see}}
+use Rattle.rb_laws_listener_learns.proofs.{Calling.call-sending, CallsSent.sends-at, FrameStages.{IsStepped, at-window, first_of_frame, place_at, stepped, told-now}, Fresh.always-good-in, Learns.{learned-verdict, learns}, Together.steady-ear, TrustedSets.{GoodThere, IsIn, KnowsAt, good-there, knows-at}}
+use Rattle.rb_laws_listener_follows.specs.{InTime.BeginsNear, Laws.FirstFramesBeginNear}
+use Rattle.rb_laws_listener_follows.proofs.{Begun.{HasBegun, has_begun}, TrustedSights.{only_of, seen_of, sight_of, verdict_same}}
 
 -- What it took, and when.
 

@@ -2,29 +2,14 @@
 -- window.
 use Rattle.std.proofs.Common.{◌≡◌, ℕ, suc, ◌+◌, ◌/◌, ◌%◌, ◌≤◌, List, Some, None, sym, ◌∙◌, ap, subst, arith}
 use Rattle.rb_base.specs.Sizes.{sync_slot_of}
-use Rattle.rb_rules.specs.Goodness.{Scenario}
-use Rattle.rb_rules.specs.Lawful.{IsLawful}
-use Rattle.rb_rules.specs.Moments.{IsRunning}
-use Rattle.rb_rules.specs.Ports.{HandIn}
-use Rattle.rb_rules.specs.Rounds.{moment}
+use Rattle.rb_rules.specs.{Goodness.Scenario, Lawful.IsLawful, Moments.IsRunning, Ports.HandIn, Rounds.moment}
 use Rattle.rb_laws_agreement.proofs.Settings.{stages_with}
-use Rattle.rb_listen.specs.Lessons.{first_of}
-use Rattle.rb_listen.specs.declared.lesson.First.{First}
-use Rattle.rb_listen.specs.declared.search.Search.{Search}
+use Rattle.rb_listen.specs.{Lessons.first_of, declared.lesson.First.First, declared.search.Search.Search}
 use Rattle.rb_laws_listener_near.specs.Judged.{verdict_with}
-use Rattle.rb_laws_listener_learns.specs.Deciding.{DecidesBy}
-use Rattle.rb_laws_listener_learns.specs.Ears.{Ear, HearsTheRun, IsEar}
-use Rattle.rb_laws_listener_learns.specs.Learned.{HasLearned}
-use Rattle.rb_laws_listener_learns.specs.Receivers.{HoldsTo, IsCalm}
-use Rattle.rb_laws_listener_learns.proofs.FrameStages.{IsAtWindow, IsStepped, at-window, first_of_frame, stepped}
-use Rattle.rb_laws_listener_learns.proofs.Waits.{waits-for}
+use Rattle.rb_laws_listener_learns.specs.{Deciding.DecidesBy, Ears.{Ear, HearsTheRun, IsEar}, Learned.HasLearned, Receivers.{HoldsTo, IsCalm}}
+use Rattle.rb_laws_listener_learns.proofs.{FrameStages.{IsAtWindow, IsStepped, at-window, first_of_frame, stepped}, Waits.waits-for}
 use Rattle.rb_laws_listener_follows.specs.InTime.{moment_before}
-use Rattle.rb_laws_listener_follows.proofs.BeforeFirst.{none_first}
-use Rattle.rb_laws_listener_follows.proofs.ExactPasses.{StandsAt}
-use Rattle.rb_laws_listener_follows.proofs.ExactSteps.{Abides}
-use Rattle.rb_laws_listener_follows.proofs.FirstBegins.{FirstBegins, first_state}
-use Rattle.rb_laws_listener_follows.proofs.FirstWindow.{PassesWindow, outcome_first, passes_window}
-use Rattle.rb_laws_listener_follows.proofs.SeenPremise.{holds_following, seen_following}
+use Rattle.rb_laws_listener_follows.proofs.{BeforeFirst.none_first, ExactPasses.StandsAt, ExactSteps.Abides, FirstBegins.{FirstBegins, first_state}, FirstWindow.{PassesWindow, outcome_first, passes_window}, SeenPremise.{holds_following, seen_following}}
 
 -- the listener has gone through the first window, and stands before the second
 pub record FirstStands (sc : Scenario) (hands : List HandIn) (ear : Ear) (learned : ℕ) (first : First) (b : FirstBegins sc hands ear learned first) : Type 0 where

@@ -1,61 +1,19 @@
 -- A listener goes through the first window of its first frame. What comes with the stamp of the
 -- frame's first tick it does not keep.
-use Rattle.std.proofs.Common.{◌≡◌, ℕ, zero, suc, ◌+◌, ◌-◌, ◌*◌, ◌^◌, ◌<◌, ◌≤◌, ◌==◌, ◌&&◌, not, Bool, true, false, List, [], Option, Some, None, option_and_then, option_map, refl, sym, ◌∙◌, ap, subst, arith}
-use Rattle.std.proofs.lemmas.Bool.{lt-ltb}
-use Rattle.std.proofs.lemmas.Bool.Decides.{nat_tests}
-use Rattle.rb_base.specs.Nodes.Side.{Biu, Rmu}
-use Rattle.rb_base.specs.Sizes.{Sizes, sync_slot_of}
-use Rattle.rb_base.specs.declared.values.Heard.{Heard}
-use Rattle.rb_base.specs.declared.values.See.{See}
-use Rattle.rb_rules.specs.declared.plan.Plan.{Plan}
-use Rattle.rb_rules.specs.declared.plan.Window.{Window}
-use Rattle.rb_rules.specs.declared.role.Role.TheVariants.{Schedule}
-use Rattle.rb_rules.specs.declared.sense.Sense.{Sense}
-use Rattle.rb_rules.specs.Core.{Act, Core, act_on, epoch_at, is_last, is_spent, of_source, state_at, window_here}
-use Rattle.rb_rules.specs.ExactStage.{Outcome, close_exact, message_of, says, says_of}
-use Rattle.rb_rules.specs.Goodness.{Scenario, is_good}
-use Rattle.rb_rules.specs.Hearing.{close_window, sending}
-use Rattle.rb_rules.specs.Judging.{JudgedStage}
-use Rattle.rb_rules.specs.Moments.{IsRunning}
-use Rattle.rb_rules.specs.NodeState.{NodeState, sender_at}
-use Rattle.rb_rules.specs.NodeSteps.{close, expect_of, message_said}
-use Rattle.rb_rules.specs.Ports.{HandIn}
-use Rattle.rb_rules.specs.Rounds.{after_window, moment}
-use Rattle.rb_rules.specs.Sense.{sense_of}
-use Rattle.rb_rules.specs.Slots.{Sender, listens, role_of}
-use Rattle.rb_rules.specs.Slots.Sender.{EachTrusted, Node, Nobody}
-use Rattle.rb_rules.specs.SyncStage.{close_sync, new_epoch_of, send_tick_of}
+use Rattle.std.proofs.{Common.{◌≡◌, ℕ, zero, suc, ◌+◌, ◌-◌, ◌*◌, ◌^◌, ◌<◌, ◌≤◌, ◌==◌, ◌&&◌, not, Bool, true, false, List, [], Option, Some, None, option_and_then, option_map, refl, sym, ◌∙◌, ap, subst, arith}, lemmas.Bool.lt-ltb, lemmas.Bool.Decides.nat_tests}
+use Rattle.rb_base.specs.{Nodes.Side.{Biu, Rmu}, Sizes.{Sizes, sync_slot_of}, declared.values.Heard.Heard, declared.values.See.See}
+use Rattle.rb_rules.specs.{declared.plan.Plan.Plan, declared.plan.Window.Window, declared.role.Role.TheVariants.Schedule, declared.sense.Sense.Sense, Core.{Act, Core, act_on, epoch_at, is_last, is_spent, of_source, state_at, window_here}, ExactStage.{Outcome, close_exact, message_of, says, says_of}, Goodness.{Scenario, is_good}, Hearing.{close_window, sending}, Judging.JudgedStage, Moments.IsRunning, NodeState.{NodeState, sender_at}, NodeSteps.{close, expect_of, message_said}, Ports.HandIn, Rounds.{after_window, moment}, Sense.sense_of, Slots.{Sender, listens, role_of}, Slots.Sender.{EachTrusted, Node, Nobody}, SyncStage.{close_sync, new_epoch_of, send_tick_of}}
 use Rattle.rb_rules.proofs.RoundStates.{close-stays}
-use Rattle.rb_laws_agreement.proofs.Agreement.{IsAgreed, agreement}
-use Rattle.rb_laws_agreement.proofs.ExactAgrees.{has_ticks}
-use Rattle.rb_laws_agreement.proofs.ExactWindows.{IsSenseOf}
-use Rattle.rb_laws_agreement.proofs.Invariant.{IsGoodNode, Shared, slot_numbered}
-use Rattle.rb_laws_agreement.proofs.NodeWindows.{Windows, exact_windows, word_at}
-use Rattle.rb_laws_agreement.proofs.Settings.{Setting, stages_with}
-use Rattle.rb_laws_agreement.proofs.SlotRuns.{next-window}
-use Rattle.rb_laws_synchrony.proofs.StageCalls.{IsAt, exact_at}
-use Rattle.rb_laws_synchrony.proofs.SyncSteps.{near_exact}
-use Rattle.rb_laws_synchrony.proofs.Synchronous.{Synchronous}
-use Rattle.rb_laws_synchrony.proofs.Times.{lawful_fits, plan_fits}
-use Rattle.rb_laws_events.proofs.StageOrder.{last-same, last_of}
-use Rattle.rb_laws_events.proofs.TickWindows.{first-same, first_of}
-use Rattle.rb_laws_events.proofs.TurnTicks.{no-next}
-use Rattle.rb_listen.specs.Following.{follow}
-use Rattle.rb_listen.specs.Listening.{followed, heed}
-use Rattle.rb_listen.specs.Listening as now
+use Rattle.rb_laws_agreement.proofs.{Agreement.{IsAgreed, agreement}, ExactAgrees.has_ticks, ExactWindows.IsSenseOf, Invariant.{IsGoodNode, Shared, slot_numbered}, NodeWindows.{Windows, exact_windows, word_at}, Settings.{Setting, stages_with}, SlotRuns.next-window}
+use Rattle.rb_laws_synchrony.proofs.{StageCalls.{IsAt, exact_at}, SyncSteps.near_exact, Synchronous.Synchronous, Times.{lawful_fits, plan_fits}}
+use Rattle.rb_laws_events.proofs.{StageOrder.{last-same, last_of}, TickWindows.{first-same, first_of}, TurnTicks.no-next}
+use Rattle.rb_listen.specs.{Following.follow, Listening.{followed, heed}}
 use Rattle.rb_laws_listener_learns.specs.Ears.{Ear, SendsIn, hears, listening_at}
 use Rattle.rb_laws_listener_learns.proofs.CallsSent.{sends-at}
 use Rattle.rb_laws_listener_near.specs.Judged.{verdict_with}
-use Rattle.rb_laws_listener_near.proofs.Tracking.{Tracks, stays_good}
-use Rattle.rb_laws_listener_near.proofs.WindowSteps.{IsWatched, closed_by, tracks_after}
-use Rattle.rb_laws_listener_follows.proofs.Arrivals.{none_collected, none_with_stamp}
-use Rattle.rb_laws_listener_follows.proofs.ExactRuns.{GoesOn, goes_on, setting_at}
-use Rattle.rb_laws_listener_follows.proofs.ExactSteps.{Abides, exact_keeps}
-use Rattle.rb_laws_listener_follows.proofs.FollowerRuns.{ClosesWindow, IsWindow, Stands, closes_window, closing, collected, state_before}
-use Rattle.rb_laws_listener_follows.proofs.FollowerWindows.{closes_there, is_window}
-use Rattle.rb_laws_listener_follows.proofs.HeardExact.{Beside, IsOwn, only_own}
-use Rattle.rb_laws_listener_follows.proofs.SeenPremise.{most_stay, place_closed}
-use Rattle.rb_laws_listener_follows.proofs.SeenWindows.{NoneSeen, sees_window}
+use Rattle.rb_laws_listener_near.proofs.{Tracking.{Tracks, stays_good}, WindowSteps.{IsWatched, closed_by, tracks_after}}
+use Rattle.rb_laws_listener_follows.proofs.{Arrivals.{none_collected, none_with_stamp}, ExactRuns.{GoesOn, goes_on, setting_at}, ExactSteps.{Abides, exact_keeps}, FollowerRuns.{ClosesWindow, IsWindow, Stands, closes_window, closing, collected, state_before}, FollowerWindows.{closes_there, is_window}, HeardExact.{Beside, IsOwn, only_own}, SeenPremise.{most_stay, place_closed}, SeenWindows.{NoneSeen, sees_window}}
+use Rattle.rb_listen.specs.Listening as now
 
 -- with its first tick the listener has turned to following, and stands beside the run before the
 -- first window of the frame

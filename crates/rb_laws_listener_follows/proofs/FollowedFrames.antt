@@ -1,48 +1,15 @@
 -- From frame to frame a listener follows the bus, as long as the premise holds and it has ticks.
-use Rattle.std.proofs.Common.{◌≡◌, ℕ, zero, suc, ◌+◌, ◌-◌, ◌*◌, ◌^◌, ◌<◌, ◌≤◌, List, [], Some, inl, inr, refl, sym, ◌∙◌, subst, arith}
-use Rattle.std.proofs.lemmas.Bool.{cases_lt}
-use Rattle.std.proofs.lemmas.Option.{same_Some}
-use Rattle.std.proofs.Math.Nat.{mul-le-mul_right}
-use Rattle.rb_base.specs.Nodes.{Side}
-use Rattle.rb_base.specs.Sizes.{sync_slot_of}
-use Rattle.rb_rules.specs.declared.record.Epoch.{Epoch}
-use Rattle.rb_rules.specs.declared.sense.Sense.{Sense}
-use Rattle.rb_rules.specs.Clock.{IsStamp, stamp_of, time_of}
-use Rattle.rb_rules.specs.Goodness.{Scenario, clock_of}
-use Rattle.rb_rules.specs.Lawful.{IsLawful}
-use Rattle.rb_rules.specs.Moments.{IsComplete, IsRunning}
-use Rattle.rb_rules.specs.NodeState.{NodeState}
-use Rattle.rb_rules.specs.Plan.{f0_of, shortest_of}
-use Rattle.rb_rules.specs.Ports.{HandIn}
-use Rattle.rb_rules.specs.Rounds.{moment, windows_in}
-use Rattle.rb_rules.proofs.Drift.{times_rise_to}
-use Rattle.rb_rules.proofs.Middles.{IsBetween}
-use Rattle.rb_rules.proofs.Stamps.{stamp_of-is}
-use Rattle.rb_laws_agreement.proofs.FrameBegins.{IsTurn, frame_turns}
-use Rattle.rb_laws_agreement.proofs.Invariant.{IsGoodNode}
-use Rattle.rb_laws_agreement.proofs.Places.{running_earlier}
-use Rattle.rb_laws_synchrony.proofs.PlanNumbers.{drift_of}
-use Rattle.rb_laws_synchrony.proofs.StageCalls.{clock_now}
-use Rattle.rb_laws_synchrony.proofs.StageMiddles.{tick_of}
-use Rattle.rb_laws_synchrony.proofs.Synchronous.{at_offset}
-use Rattle.rb_laws_synchrony.proofs.Synchrony.{IsSynchronous, synchrony}
-use Rattle.rb_laws_synchrony.proofs.Times.{Steady, lawful_fits, plan_fits}
-use Rattle.rb_listen.specs.declared.lesson.First.{First}
-use Rattle.rb_listen.specs.declared.search.Search.{Search}
-use Rattle.rb_laws_listener_learns.specs.Ears.{Ear, IsEar, told_at}
-use Rattle.rb_laws_listener_learns.specs.Receivers.{HoldsTo}
-use Rattle.rb_laws_listener_learns.proofs.Apart.{WasAt}
-use Rattle.rb_laws_listener_learns.proofs.FrameStages.{IsAtWindow, at-window, first_of_frame}
-use Rattle.rb_laws_listener_learns.proofs.Together.{steady-ear}
+use Rattle.std.proofs.{Common.{◌≡◌, ℕ, zero, suc, ◌+◌, ◌-◌, ◌*◌, ◌^◌, ◌<◌, ◌≤◌, List, [], Some, inl, inr, refl, sym, ◌∙◌, subst, arith}, lemmas.Bool.cases_lt, lemmas.Option.same_Some, Math.Nat.mul-le-mul_right}
+use Rattle.rb_base.specs.{Nodes.Side, Sizes.sync_slot_of}
+use Rattle.rb_rules.specs.{declared.record.Epoch.Epoch, declared.sense.Sense.Sense, Clock.{IsStamp, stamp_of, time_of}, Goodness.{Scenario, clock_of}, Lawful.IsLawful, Moments.{IsComplete, IsRunning}, NodeState.NodeState, Plan.{f0_of, shortest_of}, Ports.HandIn, Rounds.{moment, windows_in}}
+use Rattle.rb_rules.proofs.{Drift.times_rise_to, Middles.IsBetween, Stamps.stamp_of-is}
+use Rattle.rb_laws_agreement.proofs.{FrameBegins.{IsTurn, frame_turns}, Invariant.IsGoodNode, Places.running_earlier}
+use Rattle.rb_laws_synchrony.proofs.{PlanNumbers.drift_of, StageCalls.clock_now, StageMiddles.tick_of, Synchronous.at_offset, Synchrony.{IsSynchronous, synchrony}, Times.{Steady, lawful_fits, plan_fits}}
+use Rattle.rb_listen.specs.{declared.lesson.First.First, declared.search.Search.Search}
+use Rattle.rb_laws_listener_learns.specs.{Ears.{Ear, IsEar, told_at}, Receivers.HoldsTo}
+use Rattle.rb_laws_listener_learns.proofs.{Apart.WasAt, FrameStages.{IsAtWindow, at-window, first_of_frame}, Together.steady-ear}
 use Rattle.rb_laws_listener_follows.specs.Following.{TellsFrame}
-use Rattle.rb_laws_listener_follows.proofs.EpochKnown.{second_end}
-use Rattle.rb_laws_listener_follows.proofs.EpochsRise.{TellsAfter, WaitsFirst, tells_after}
-use Rattle.rb_laws_listener_follows.proofs.ExactPasses.{IsHeldTo, StandsAt}
-use Rattle.rb_laws_listener_follows.proofs.FollowerRuns.{hears_all}
-use Rattle.rb_laws_listener_follows.proofs.HeardExact.{tail-start, was_at}
-use Rattle.rb_laws_listener_follows.proofs.NextFrames.{NextFrame, next_frame_of}
-use Rattle.rb_laws_listener_follows.proofs.SyncPasses.{sync_moment}
-use Rattle.rb_laws_listener_follows.proofs.TellsFrames.{tells_at}
+use Rattle.rb_laws_listener_follows.proofs.{EpochKnown.second_end, EpochsRise.{TellsAfter, WaitsFirst, tells_after}, ExactPasses.{IsHeldTo, StandsAt}, FollowerRuns.hears_all, HeardExact.{tail-start, was_at}, NextFrames.{NextFrame, next_frame_of}, SyncPasses.sync_moment, TellsFrames.tells_at}
 
 -- all nodes that are good before the first window of the frame begin the frame from time `low` on
 -- and within p

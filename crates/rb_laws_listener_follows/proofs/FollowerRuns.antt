@@ -1,21 +1,12 @@
 -- A listener that follows goes through a window tick by tick: at its last tick it has all that came
 -- with the stamps of its ticks, and closes.
-use Rattle.std.proofs.Common.{◌≡◌, ℕ, zero, suc, ◌+◌, ◌^◌, ◌<◌, ◌≤◌, nat_lt, ◌&&◌, not, Bool, true, false, List, [], ◌∷◌, ◌++◌, Some, None, refl, sym, ◌∙◌, ap, subst, arith}
-use Rattle.std.proofs.lemmas.List.{append-nil, append_assoc}
-use Rattle.rb_base.specs.Nodes.Side.{Biu}
-use Rattle.rb_base.specs.Sizes.{Sizes}
-use Rattle.rb_rules.specs.declared.plan.Plan.{Plan}
-use Rattle.rb_rules.specs.Core.{Act, Core, act_on, arrive, epoch_at, is_last, is_spent, of_source, state_at, window_here}
-use Rattle.rb_rules.specs.ExactStage.{Outcome}
-use Rattle.rb_rules.specs.Goodness.{Scenario}
-use Rattle.rb_rules.specs.Hearing.{Coming, close_window}
-use Rattle.rb_rules.specs.NodeState.{NodeState}
-use Rattle.rb_rules.specs.Sense.{Arrival}
+use Rattle.std.proofs.{Common.{◌≡◌, ℕ, zero, suc, ◌+◌, ◌^◌, ◌<◌, ◌≤◌, nat_lt, ◌&&◌, not, Bool, true, false, List, [], ◌∷◌, ◌++◌, Some, None, refl, sym, ◌∙◌, ap, subst, arith}, lemmas.List.{append-nil, append_assoc}}
+use Rattle.rb_base.specs.{Nodes.Side.Biu, Sizes.Sizes}
+use Rattle.rb_rules.specs.{declared.plan.Plan.Plan, Core.{Act, Core, act_on, arrive, epoch_at, is_last, is_spent, of_source, state_at, window_here}, ExactStage.Outcome, Goodness.Scenario, Hearing.{Coming, close_window}, NodeState.NodeState, Sense.Arrival}
 use Rattle.rb_rules.proofs.QuietTicks.{not-spent}
-use Rattle.rb_listen.specs.Following.{follow}
-use Rattle.rb_listen.specs.Listening.{Listening, followed, hear, heed}
-use Rattle.rb_listen.specs.Listening as now
+use Rattle.rb_listen.specs.{Following.follow, Listening.{Listening, followed, hear, heed}}
 use Rattle.rb_laws_listener_learns.specs.Ears.{Ear, hears, listening_at}
+use Rattle.rb_listen.specs.Listening as now
 
 -- What is kept of what comes.
 

@@ -1,19 +1,11 @@
 -- The ticks of a follower's windows are those of a BIU in its state.
-use Rattle.std.proofs.Common.{◌≡◌, ℕ, ◌+◌, ◌-◌, ◌^◌, ◌<◌, ◌≤◌, Option, Some, None, refl, ◌∙◌, arith}
-use Rattle.std.proofs.lemmas.Bool.{eq-eqb}
-use Rattle.rb_base.specs.Nodes.Side.{Biu}
-use Rattle.rb_base.specs.Sizes.{Sizes}
+use Rattle.std.proofs.{Common.{◌≡◌, ℕ, ◌+◌, ◌-◌, ◌^◌, ◌<◌, ◌≤◌, Option, Some, None, refl, ◌∙◌, arith}, lemmas.Bool.eq-eqb}
+use Rattle.rb_base.specs.{Nodes.Side.Biu, Sizes.Sizes}
 use Rattle.rb_base.proofs.Plain.{less-differs}
-use Rattle.rb_rules.specs.declared.plan.Plan.{Plan}
-use Rattle.rb_rules.specs.Core.{state_at, window_here}
-use Rattle.rb_rules.specs.Hearing.{window_numbered}
-use Rattle.rb_rules.specs.NodeState.{NodeState}
-use Rattle.rb_rules.specs.SyncStage.{new_epoch_of}
+use Rattle.rb_rules.specs.{declared.plan.Plan.Plan, Core.{state_at, window_here}, Hearing.window_numbered, NodeState.NodeState, SyncStage.new_epoch_of}
 use Rattle.rb_rules.proofs.RoundStates.{HasTicks}
 use Rattle.rb_laws_events.specs.Closing.{stages_in}
-use Rattle.rb_laws_events.proofs.StageOrder.{last_of}
-use Rattle.rb_laws_events.proofs.TickWindows.{first_of, here-is, last-is}
-use Rattle.rb_laws_events.proofs.TurnTicks.{no-next, not-yet}
+use Rattle.rb_laws_events.proofs.{StageOrder.last_of, TickWindows.{first_of, here-is, last-is}, TurnTicks.{no-next, not-yet}}
 use Rattle.rb_laws_listener_follows.proofs.FollowerRuns.{IsWindow}
 
 -- before its next epoch a node's state stays

@@ -1,44 +1,15 @@
 -- A listener that has learned follows the bus from its first frame on.
-use Rattle.std.proofs.Common.{◌≡◌, ℕ, zero, suc, ◌+◌, ◌-◌, ◌*◌, ◌/◌, ◌%◌, ◌<◌, ◌≤◌, List, Some, inl, inr, slice_get, refl, sym, ◌∙◌, ap, subst, arith}
-use Rattle.std.proofs.lemmas.Bool.{cases_lt}
-use Rattle.std.proofs.Math.Nat.{mul-le-mul_right}
+use Rattle.std.proofs.{Common.{◌≡◌, ℕ, zero, suc, ◌+◌, ◌-◌, ◌*◌, ◌/◌, ◌%◌, ◌<◌, ◌≤◌, List, Some, inl, inr, slice_get, refl, sym, ◌∙◌, ap, subst, arith}, lemmas.Bool.cases_lt, Math.Nat.mul-le-mul_right}
 use Rattle.rb_base.specs.Sizes.{sync_slot_of}
-use Rattle.rb_rules.specs.declared.plan.Window.{Window}
-use Rattle.rb_rules.specs.declared.sense.Sense.{Sense}
-use Rattle.rb_rules.specs.Clock.{time_of}
-use Rattle.rb_rules.specs.Goodness.{Scenario, clock_of}
-use Rattle.rb_rules.specs.Lawful.{IsLawful}
-use Rattle.rb_rules.specs.Moments.{IsComplete, IsGoodBefore, IsRunning}
-use Rattle.rb_rules.specs.Ports.{HandIn}
-use Rattle.rb_rules.specs.Rounds.{moment, windows_in}
-use Rattle.rb_rules.specs.StandsFor.{StandsFor}
-use Rattle.rb_rules.specs.Windows.{exact_window, windows_of_frame}
-use Rattle.rb_laws_agreement.proofs.FrameBegins.{frame_turns}
-use Rattle.rb_laws_agreement.proofs.Invariant.{IsGoodNode}
-use Rattle.rb_laws_agreement.proofs.Places.{IsPlaced, good_before_slot, placed, running_earlier}
-use Rattle.rb_listen.specs.Lessons.{first_of}
-use Rattle.rb_listen.specs.declared.lesson.First.{First}
-use Rattle.rb_listen.specs.declared.search.Search.{Search}
+use Rattle.rb_rules.specs.{declared.plan.Window.Window, declared.sense.Sense.Sense, Clock.time_of, Goodness.{Scenario, clock_of}, Lawful.IsLawful, Moments.{IsComplete, IsGoodBefore, IsRunning}, Ports.HandIn, Rounds.{moment, windows_in}, StandsFor.StandsFor, Windows.{exact_window, windows_of_frame}}
+use Rattle.rb_laws_agreement.proofs.{FrameBegins.frame_turns, Invariant.IsGoodNode, Places.{IsPlaced, good_before_slot, placed, running_earlier}}
+use Rattle.rb_listen.specs.{Lessons.first_of, declared.lesson.First.First, declared.search.Search.Search}
 use Rattle.rb_laws_listener_near.specs.Laws.{LieWithin}
 use Rattle.rb_laws_listener_near.proofs.FramesNear.{within}
-use Rattle.rb_laws_listener_learns.specs.Deciding.{DecidesBy}
-use Rattle.rb_laws_listener_learns.specs.Ears.{Ear, HearsTheRun, IsEar}
-use Rattle.rb_laws_listener_learns.specs.Learned.{HasLearned}
-use Rattle.rb_laws_listener_learns.specs.Receivers.{HoldsTo, IsCalm}
-use Rattle.rb_laws_listener_learns.proofs.FrameStages.{first_of_frame}
-use Rattle.rb_laws_listener_learns.proofs.Learns.{learns}
-use Rattle.rb_laws_listener_learns.proofs.Waits.{waits-for}
-use Rattle.rb_laws_listener_follows.specs.Following.{ClosesAt, FollowsFrame, IsReachedWell, ListenersFollowTheBus, TellsFrame, TellsLater}
-use Rattle.rb_laws_listener_follows.specs.InTime.{moment_before}
-use Rattle.rb_laws_listener_follows.proofs.ClosesBegun.{closes_begun}
-use Rattle.rb_laws_listener_follows.proofs.ClosesFrame.{closes_from, exact_is}
-use Rattle.rb_laws_listener_follows.proofs.DeliversOnce.{delivers_later, delivers_once}
-use Rattle.rb_laws_listener_follows.proofs.EpochsRise.{WaitsFirst, first_once, first_told, none_earlier}
-use Rattle.rb_laws_listener_follows.proofs.FirstBegins.{FirstBegins, first_begins, first_state}
-use Rattle.rb_laws_listener_follows.proofs.FirstStands.{FirstStands, first_stands}
-use Rattle.rb_laws_listener_follows.proofs.FollowedFrames.{IsBegun, IsFollowed, begun_at}
-use Rattle.rb_laws_listener_follows.proofs.OtherTicks.{closes_only}
-use Rattle.rb_laws_listener_follows.proofs.Tellings.{tells_frame}
+use Rattle.rb_laws_listener_learns.specs.{Deciding.DecidesBy, Ears.{Ear, HearsTheRun, IsEar}, Learned.HasLearned, Receivers.{HoldsTo, IsCalm}}
+use Rattle.rb_laws_listener_learns.proofs.{FrameStages.first_of_frame, Learns.learns, Waits.waits-for}
+use Rattle.rb_laws_listener_follows.specs.{Following.{ClosesAt, FollowsFrame, IsReachedWell, ListenersFollowTheBus, TellsFrame, TellsLater}, InTime.moment_before}
+use Rattle.rb_laws_listener_follows.proofs.{ClosesBegun.closes_begun, ClosesFrame.{closes_from, exact_is}, DeliversOnce.{delivers_later, delivers_once}, EpochsRise.{WaitsFirst, first_once, first_told, none_earlier}, FirstBegins.{FirstBegins, first_begins, first_state}, FirstStands.{FirstStands, first_stands}, FollowedFrames.{IsBegun, IsFollowed, begun_at}, OtherTicks.closes_only, Tellings.tells_frame}
 
 -- What it has learned, and its first frame.
 record Learns (sc : Scenario) (hands : List HandIn) (ear : Ear) (learned tick : ℕ) (s : Search) : Type 0 where

@@ -1,33 +1,15 @@
 -- A listener that starts a frame near the good nodes stands beside the run in all its windows below
 -- the sync slot.
-use Rattle.std.proofs.Common.{◌≡◌, ℕ, zero, suc, ◌+◌, ◌-◌, ◌*◌, ◌/◌, ◌<◌, ◌≤◌, true, List, slice_get, ◌⊎◌, inl, inr, sym, ◌∙◌, ap, subst, arith}
-use Rattle.std.proofs.lemmas.Bool.{cases_lt}
-use Rattle.rb_base.specs.Nodes.{Side}
-use Rattle.rb_base.specs.Nodes.Side.{Rmu}
-use Rattle.rb_base.specs.Sizes.{sync_slot_of}
-use Rattle.rb_rules.specs.Book.{of_kind}
-use Rattle.rb_rules.specs.Clock.{IsStamp, time_of}
-use Rattle.rb_rules.specs.Goodness.{Scenario, clock_of, is_good}
-use Rattle.rb_rules.specs.Lawful.{IsLawful}
-use Rattle.rb_rules.specs.Moments.{IsGoodBefore, IsReached, IsRunning, before_slot, before_stage, time_in_frame}
-use Rattle.rb_rules.specs.NodeState.{NodeState}
-use Rattle.rb_rules.specs.Ports.{HandIn}
-use Rattle.rb_rules.specs.Rounds.{moment, windows_in}
+use Rattle.std.proofs.{Common.{◌≡◌, ℕ, zero, suc, ◌+◌, ◌-◌, ◌*◌, ◌/◌, ◌<◌, ◌≤◌, true, List, slice_get, ◌⊎◌, inl, inr, sym, ◌∙◌, ap, subst, arith}, lemmas.Bool.cases_lt}
+use Rattle.rb_base.specs.{Nodes.Side, Nodes.Side.Rmu, Sizes.sync_slot_of}
+use Rattle.rb_rules.specs.{Book.of_kind, Clock.{IsStamp, time_of}, Goodness.{Scenario, clock_of, is_good}, Lawful.IsLawful, Moments.{IsGoodBefore, IsReached, IsRunning, before_slot, before_stage, time_in_frame}, NodeState.NodeState, Ports.HandIn, Rounds.{moment, windows_in}}
 use Rattle.rb_rules.proofs.Middles.{IsBetween}
-use Rattle.rb_laws_agreement.proofs.Tests.{Present}
-use Rattle.rb_laws_agreement.proofs.Agreement.{IsAgreed, agreement}
-use Rattle.rb_laws_agreement.proofs.Goodnesses.{good_below_16, good_earlier}
-use Rattle.rb_laws_agreement.proofs.Invariant.{IsGoodNode, Shared, is_good_now, slot_numbered}
-use Rattle.rb_laws_agreement.proofs.Leasts.{HaveNone, IsFirstOf, first_of}
-use Rattle.rb_laws_agreement.proofs.Places.{IsPlaced, placed, running_earlier}
-use Rattle.rb_laws_agreement.proofs.Settings.{good_state}
-use Rattle.rb_laws_agreement.proofs.FrameTimes.{Starts, starts, starts-so, starts-there}
+use Rattle.rb_laws_agreement.proofs.{Tests.Present, Agreement.{IsAgreed, agreement}, Goodnesses.{good_below_16, good_earlier}, Invariant.{IsGoodNode, Shared, is_good_now, slot_numbered}, Leasts.{HaveNone, IsFirstOf, first_of}, Places.{IsPlaced, placed, running_earlier}, Settings.good_state, FrameTimes.{Starts, starts, starts-so, starts-there}}
 use Rattle.rb_laws_synchrony.proofs.SyncLaws.{epochs_near}
 use Rattle.rb_laws_listener_learns.specs.Ears.{Ear, HearsTheRun, IsEar, SendsIn, coming_to}
 use Rattle.rb_laws_listener_learns.proofs.Apart.{WasAt}
 use Rattle.rb_laws_listener_near.specs.Laws.{LieWithin}
-use Rattle.rb_laws_listener_follows.specs.InTime.{BeginsNear, moment_before}
-use Rattle.rb_laws_listener_follows.specs.Laws.{RmusAreHeardInTime}
+use Rattle.rb_laws_listener_follows.specs.{InTime.{BeginsNear, moment_before}, Laws.RmusAreHeardInTime}
 use Rattle.rb_laws_listener_follows.proofs.HeardExact.{Beside, IsOwn, only_own, own_in_time, was_at}
 
 -- ---- the first time of the frame, the listener's with them

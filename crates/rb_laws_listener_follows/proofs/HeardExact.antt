@@ -1,49 +1,14 @@
 -- What a listener hears of good RMUs in a window below the sync slot: what they send in it, and
 -- nothing else.
-use Rattle.std.proofs.Common.{◌≡◌, ℕ, ◌+◌, ◌-◌, ◌*◌, ◌/◌, ◌%◌, ◌<◌, ◌≤◌, ◌==◌, ◌&&◌, ◌||◌, nat_lt, true, false, List, Some, None, get_or, ◌⊎◌, inl, inr, refl, sym, ◌∙◌, ap, subst, arith}
-use Rattle.std.proofs.lemmas.Bool.{cases_lt, cases_order, eqb-true, ltb-true, or_cases}
-use Rattle.std.proofs.lemmas.Option.{same_Some}
-use Rattle.std.proofs.Math.Nat.{mul-le-mul_left, mul-le-mul_right}
-use Rattle.rb_base.specs.Nodes.{Side}
-use Rattle.rb_base.specs.Nodes.Side.{Biu, Rmu}
-use Rattle.rb_base.specs.Sizes.{sync_slot_of}
+use Rattle.std.proofs.{Common.{◌≡◌, ℕ, ◌+◌, ◌-◌, ◌*◌, ◌/◌, ◌%◌, ◌<◌, ◌≤◌, ◌==◌, ◌&&◌, ◌||◌, nat_lt, true, false, List, Some, None, get_or, ◌⊎◌, inl, inr, refl, sym, ◌∙◌, ap, subst, arith}, lemmas.Bool.{cases_lt, cases_order, eqb-true, ltb-true, or_cases}, lemmas.Option.same_Some, Math.Nat.{mul-le-mul_left, mul-le-mul_right}}
+use Rattle.rb_base.specs.{Nodes.Side, Nodes.Side.{Biu, Rmu}, Sizes.sync_slot_of}
 use Rattle.rb_base.proofs.Plain.{and_first, and_second, less-differs}
-use Rattle.rb_rules.specs.declared.role.Role.TheVariants.{Sync}
-use Rattle.rb_rules.specs.Clock.{IsStamp, time_of}
-use Rattle.rb_rules.specs.Goodness.{Scenario, clock_of, is_before, is_good}
-use Rattle.rb_rules.specs.Headline.{stated_skew}
-use Rattle.rb_rules.specs.Hearing.{Coming, Sending, sending}
-use Rattle.rb_rules.specs.Lawful.{IsDelay, IsLawful}
-use Rattle.rb_rules.specs.Moments.{IsRunning}
-use Rattle.rb_rules.specs.NodeState.{NodeState}
-use Rattle.rb_rules.specs.Plan.{f0_of, shortest_of, tail_start_of}
-use Rattle.rb_rules.specs.Ports.{HandIn}
-use Rattle.rb_rules.specs.Rounds.{Moment, moment, windows_in}
-use Rattle.rb_rules.specs.Slots.{listens}
-use Rattle.rb_rules.specs.SyncStage.{call_tick_of, send_tick_of}
-use Rattle.rb_rules.specs.Windows.{send_offset_of}
-use Rattle.rb_rules.proofs.Drift.{times_rise_to}
-use Rattle.rb_rules.proofs.Middles.{IsBetween}
-use Rattle.rb_rules.proofs.Stamps.{stamp_le}
-use Rattle.rb_laws_agreement.proofs.Agreement.{IsAgreed, agreement}
-use Rattle.rb_laws_agreement.proofs.Goodnesses.{good_counts, slot_here, slot_last}
-use Rattle.rb_laws_agreement.proofs.Invariant.{Agree, IsGoodNode, Shared, slot_numbered}
-use Rattle.rb_laws_agreement.proofs.NodeWindows.{Windows, exact_windows, sync_windows_are, tail_windows, word_at}
-use Rattle.rb_laws_agreement.proofs.Places.{IsPlaced, good_before_slot, placed}
-use Rattle.rb_laws_synchrony.proofs.PlanNumbers.{drift_of, exact_early, exact_late, last_plus}
-use Rattle.rb_laws_synchrony.proofs.StageCalls.{clock_now, second_calls}
-use Rattle.rb_laws_synchrony.proofs.StageMiddles.{tick_of}
-use Rattle.rb_laws_synchrony.proofs.Synchronous.{Synchronous, at_offset}
-use Rattle.rb_laws_synchrony.proofs.Synchrony.{IsSynchronous, synchrony}
-use Rattle.rb_laws_synchrony.proofs.TakenCalls.{call_sent}
-use Rattle.rb_laws_synchrony.proofs.TimelyWindows.{IsSent, sent_parts}
-use Rattle.rb_laws_synchrony.proofs.Times.{Steady, lawful_fits, plan_fits, tick_le}
+use Rattle.rb_rules.specs.{declared.role.Role.TheVariants.Sync, Clock.{IsStamp, time_of}, Goodness.{Scenario, clock_of, is_before, is_good}, Headline.stated_skew, Hearing.{Coming, Sending, sending}, Lawful.{IsDelay, IsLawful}, Moments.IsRunning, NodeState.NodeState, Plan.{f0_of, shortest_of, tail_start_of}, Ports.HandIn, Rounds.{Moment, moment, windows_in}, Slots.listens, SyncStage.{call_tick_of, send_tick_of}, Windows.send_offset_of}
+use Rattle.rb_rules.proofs.{Drift.times_rise_to, Middles.IsBetween, Stamps.stamp_le}
+use Rattle.rb_laws_agreement.proofs.{Agreement.{IsAgreed, agreement}, Goodnesses.{good_counts, slot_here, slot_last}, Invariant.{Agree, IsGoodNode, Shared, slot_numbered}, NodeWindows.{Windows, exact_windows, sync_windows_are, tail_windows, word_at}, Places.{IsPlaced, good_before_slot, placed}}
+use Rattle.rb_laws_synchrony.proofs.{PlanNumbers.{drift_of, exact_early, exact_late, last_plus}, StageCalls.{clock_now, second_calls}, StageMiddles.tick_of, Synchronous.{Synchronous, at_offset}, Synchrony.{IsSynchronous, synchrony}, TakenCalls.call_sent, TimelyWindows.{IsSent, sent_parts}, Times.{Steady, lawful_fits, plan_fits, tick_le}}
 use Rattle.rb_laws_listener_learns.specs.Ears.{Ear, HearsTheRun, IsEar, IsHeard, IsOfFaulty, IsOfGood, SendsIn, coming_to}
-use Rattle.rb_laws_listener_learns.proofs.Apart.{WasAt, all-were-at}
-use Rattle.rb_laws_listener_learns.proofs.Begins.{skew-fits}
-use Rattle.rb_laws_listener_learns.proofs.CallsSent.{sends-at}
-use Rattle.rb_laws_listener_learns.proofs.Fresh.{onset-in}
-use Rattle.rb_laws_listener_learns.proofs.Together.{steady-ear}
+use Rattle.rb_laws_listener_learns.proofs.{Apart.{WasAt, all-were-at}, Begins.skew-fits, CallsSent.sends-at, Fresh.onset-in, Together.steady-ear}
 
 -- ---- when an RMU sends
 

@@ -1,35 +1,14 @@
 -- What a listener hears of RMUs that are good in the next frame, too, in stage 3 of the sync slot
 -- and in the tail: nothing.
-use Rattle.std.proofs.Common.{◌≡◌, ℕ, ◌+◌, ◌-◌, ◌*◌, ◌<◌, ◌≤◌, nat_lt, true, List, None, get_or, ◌⊎◌, inl, inr, refl, sym, ◌∙◌, ap, subst, arith}
-use Rattle.std.proofs.lemmas.Bool.{cases_order, ltb-true}
-use Rattle.std.proofs.Math.Nat.{mul-le-mul_right}
-use Rattle.rb_base.specs.Nodes.{Side}
-use Rattle.rb_base.specs.Nodes.Side.{Rmu}
-use Rattle.rb_base.specs.Sizes.{sync_slot_of}
+use Rattle.std.proofs.{Common.{◌≡◌, ℕ, ◌+◌, ◌-◌, ◌*◌, ◌<◌, ◌≤◌, nat_lt, true, List, None, get_or, ◌⊎◌, inl, inr, refl, sym, ◌∙◌, ap, subst, arith}, lemmas.Bool.{cases_order, ltb-true}, Math.Nat.mul-le-mul_right}
+use Rattle.rb_base.specs.{Nodes.Side, Nodes.Side.Rmu, Sizes.sync_slot_of}
 use Rattle.rb_base.proofs.Plain.{and_first, and_second}
-use Rattle.rb_rules.specs.Clock.{IsStamp, time_of}
-use Rattle.rb_rules.specs.Goodness.{Scenario, clock_of, is_before, is_good}
-use Rattle.rb_rules.specs.Headline.{stated_skew}
-use Rattle.rb_rules.specs.Hearing.{Coming, Sending}
-use Rattle.rb_rules.specs.Moments.{IsRunning}
-use Rattle.rb_rules.specs.NodeState.{NodeState}
-use Rattle.rb_rules.specs.Plan.{f0_of, shortest_of, tail_start_of}
-use Rattle.rb_rules.specs.Ports.{HandIn}
-use Rattle.rb_rules.specs.Rounds.{moment, windows_in}
-use Rattle.rb_rules.proofs.Drift.{times_rise_to}
-use Rattle.rb_rules.proofs.Middles.{IsBetween}
-use Rattle.rb_laws_agreement.proofs.Agreement.{IsAgreed, agreement}
-use Rattle.rb_laws_agreement.proofs.Goodnesses.{good_counts}
-use Rattle.rb_laws_agreement.proofs.Invariant.{IsGoodNode, Shared}
-use Rattle.rb_laws_agreement.proofs.Places.{IsPlaced, good_before_slot, placed, running_earlier}
-use Rattle.rb_laws_synchrony.proofs.PlanNumbers.{drift_of}
-use Rattle.rb_laws_synchrony.proofs.StageCalls.{clock_now}
-use Rattle.rb_laws_synchrony.proofs.Times.{Steady, lawful_fits, plan_fits}
+use Rattle.rb_rules.specs.{Clock.{IsStamp, time_of}, Goodness.{Scenario, clock_of, is_before, is_good}, Headline.stated_skew, Hearing.{Coming, Sending}, Moments.IsRunning, NodeState.NodeState, Plan.{f0_of, shortest_of, tail_start_of}, Ports.HandIn, Rounds.{moment, windows_in}}
+use Rattle.rb_rules.proofs.{Drift.times_rise_to, Middles.IsBetween}
+use Rattle.rb_laws_agreement.proofs.{Agreement.{IsAgreed, agreement}, Goodnesses.good_counts, Invariant.{IsGoodNode, Shared}, Places.{IsPlaced, good_before_slot, placed, running_earlier}}
+use Rattle.rb_laws_synchrony.proofs.{PlanNumbers.drift_of, StageCalls.clock_now, Times.{Steady, lawful_fits, plan_fits}}
 use Rattle.rb_laws_listener_learns.specs.Ears.{Ear, IsHeard, IsOfFaulty, IsOfGood, SendsIn, coming_to}
-use Rattle.rb_laws_listener_learns.proofs.Apart.{WasAt}
-use Rattle.rb_laws_listener_learns.proofs.Begins.{skew-fits}
-use Rattle.rb_laws_listener_learns.proofs.Fresh.{onset-in}
-use Rattle.rb_laws_listener_learns.proofs.Together.{steady-ear}
+use Rattle.rb_laws_listener_learns.proofs.{Apart.WasAt, Begins.skew-fits, Fresh.onset-in, Together.steady-ear}
 use Rattle.rb_laws_listener_follows.proofs.HeardExact.{Beside, IsEarlier, SendsThen, comes, earlier_stamp, onset_after, place_order, sends_then, tail-start, was_at, window_within}
 
 -- ---- the next frame

@@ -1,44 +1,14 @@
 -- What a listener hears of good RMUs in the first two stages of the sync slot: nothing in stage 1,
 -- and in stage 2 their calls.
-use Rattle.std.proofs.Common.{◌≡◌, ℕ, suc, ◌+◌, ◌-◌, ◌*◌, ◌<◌, ◌≤◌, nat_lt, true, List, None, get_or, inl, inr, refl, sym, ◌∙◌, ap, subst, arith}
-use Rattle.std.proofs.lemmas.Bool.{cases_order, ltb-true}
-use Rattle.std.proofs.Math.Nat.{mul-le-mul_right}
-use Rattle.rb_base.specs.Nodes.{Side}
-use Rattle.rb_base.specs.Nodes.Side.{Rmu}
-use Rattle.rb_base.specs.Sizes.{sync_slot_of}
+use Rattle.std.proofs.{Common.{◌≡◌, ℕ, suc, ◌+◌, ◌-◌, ◌*◌, ◌<◌, ◌≤◌, nat_lt, true, List, None, get_or, inl, inr, refl, sym, ◌∙◌, ap, subst, arith}, lemmas.Bool.{cases_order, ltb-true}, Math.Nat.mul-le-mul_right}
+use Rattle.rb_base.specs.{Nodes.Side, Nodes.Side.Rmu, Sizes.sync_slot_of}
 use Rattle.rb_base.proofs.Plain.{and_first, and_second}
-use Rattle.rb_rules.specs.Clock.{IsStamp, time_of}
-use Rattle.rb_rules.specs.Goodness.{Scenario, clock_of, is_before, is_good}
-use Rattle.rb_rules.specs.Headline.{stated_skew}
-use Rattle.rb_rules.specs.Hearing.{Coming, Sending}
-use Rattle.rb_rules.specs.Lawful.{IsLawful}
-use Rattle.rb_rules.specs.NodeState.{NodeState}
-use Rattle.rb_rules.specs.Plan.{f0_of, shortest_of}
-use Rattle.rb_rules.specs.Ports.{HandIn}
-use Rattle.rb_rules.specs.Rounds.{Moment, moment, windows_in}
-use Rattle.rb_rules.proofs.Drift.{times_rise_to}
-use Rattle.rb_rules.proofs.Middles.{IsBetween}
-use Rattle.rb_rules.proofs.Stamps.{stamp_le}
-use Rattle.rb_laws_agreement.proofs.Agreement.{IsAgreed, agreement}
-use Rattle.rb_laws_agreement.proofs.Goodnesses.{good_counts}
-use Rattle.rb_laws_agreement.proofs.Invariant.{IsGoodNode, Shared}
-use Rattle.rb_laws_agreement.proofs.NextMoments.{next}
-use Rattle.rb_laws_agreement.proofs.NodeWindows.{Windows, sync_windows_are, word_at}
-use Rattle.rb_laws_agreement.proofs.Places.{IsPlaced, good_before_slot, placed}
-use Rattle.rb_laws_agreement.proofs.SlotRuns.{next-window}
-use Rattle.rb_laws_synchrony.proofs.PlanNumbers.{drift_of, last_plus, second_early, second_late}
-use Rattle.rb_laws_synchrony.proofs.StageCalls.{clock_now, second_calls}
-use Rattle.rb_laws_synchrony.proofs.StageMiddles.{tick_of}
-use Rattle.rb_laws_synchrony.proofs.SyncSteps.{IsPassedStage, near_first}
-use Rattle.rb_laws_synchrony.proofs.Synchronous.{Synchronous, at_offset, from_2, to_2}
-use Rattle.rb_laws_synchrony.proofs.TakenCalls.{call_sent}
-use Rattle.rb_laws_synchrony.proofs.Times.{Steady, lawful_fits, plan_fits, tick_le}
+use Rattle.rb_rules.specs.{Clock.{IsStamp, time_of}, Goodness.{Scenario, clock_of, is_before, is_good}, Headline.stated_skew, Hearing.{Coming, Sending}, Lawful.IsLawful, NodeState.NodeState, Plan.{f0_of, shortest_of}, Ports.HandIn, Rounds.{Moment, moment, windows_in}}
+use Rattle.rb_rules.proofs.{Drift.times_rise_to, Middles.IsBetween, Stamps.stamp_le}
+use Rattle.rb_laws_agreement.proofs.{Agreement.{IsAgreed, agreement}, Goodnesses.good_counts, Invariant.{IsGoodNode, Shared}, NextMoments.next, NodeWindows.{Windows, sync_windows_are, word_at}, Places.{IsPlaced, good_before_slot, placed}, SlotRuns.next-window}
+use Rattle.rb_laws_synchrony.proofs.{PlanNumbers.{drift_of, last_plus, second_early, second_late}, StageCalls.{clock_now, second_calls}, StageMiddles.tick_of, SyncSteps.{IsPassedStage, near_first}, Synchronous.{Synchronous, at_offset, from_2, to_2}, TakenCalls.call_sent, Times.{Steady, lawful_fits, plan_fits, tick_le}}
 use Rattle.rb_laws_listener_learns.specs.Ears.{Ear, IsHeard, IsOfFaulty, IsOfGood, SendsIn, coming_to}
-use Rattle.rb_laws_listener_learns.proofs.Apart.{WasAt}
-use Rattle.rb_laws_listener_learns.proofs.Begins.{skew-fits}
-use Rattle.rb_laws_listener_learns.proofs.CallsSent.{sends-at}
-use Rattle.rb_laws_listener_learns.proofs.Fresh.{onset-in}
-use Rattle.rb_laws_listener_learns.proofs.Together.{steady-ear}
+use Rattle.rb_laws_listener_learns.proofs.{Apart.WasAt, Begins.skew-fits, CallsSent.sends-at, Fresh.onset-in, Together.steady-ear}
 use Rattle.rb_laws_listener_follows.proofs.HeardExact.{Beside, IsEarlier, IsOwn, SendsThen, comes, ear_time, earlier_stamp, one_more, onset_after, place_order, sends_then, tail-start, was_at, window_within}
 
 -- ---- the numbers

@@ -1,57 +1,17 @@
 -- From stage 2 of the sync slot a listener goes through stage 3 and the tail to the first window of
 -- the next frame.
-use Rattle.std.proofs.Common.{◌≡◌, ℕ, suc, ◌+◌, ◌-◌, ◌*◌, ◌≤◌, true, List, slice_get, refl, sym, ◌∙◌, ap, subst, arith}
-use Rattle.std.proofs.lemmas.Option.{same_Some}
-use Rattle.rb_base.specs.Nodes.{has}
-use Rattle.rb_base.specs.Nodes.Side.{Biu, Rmu}
-use Rattle.rb_base.specs.Sizes.{Sizes, sync_slot_of}
+use Rattle.std.proofs.{Common.{◌≡◌, ℕ, suc, ◌+◌, ◌-◌, ◌*◌, ◌≤◌, true, List, slice_get, refl, sym, ◌∙◌, ap, subst, arith}, lemmas.Option.same_Some}
+use Rattle.rb_base.specs.{Nodes.has, Nodes.Side.{Biu, Rmu}, Sizes.{Sizes, sync_slot_of}}
 use Rattle.rb_base.proofs.Plain.{and_second}
-use Rattle.rb_rules.specs.declared.plan.Plan.{Plan}
-use Rattle.rb_rules.specs.declared.sense.Sense.{Sense}
-use Rattle.rb_rules.specs.Clock.{IsStamp}
-use Rattle.rb_rules.specs.Goodness.{Scenario, is_good}
-use Rattle.rb_rules.specs.Hearing.{window_numbered}
-use Rattle.rb_rules.specs.Lawful.{IsLawful}
-use Rattle.rb_rules.specs.Moments.{IsComplete}
-use Rattle.rb_rules.specs.NodeState.{NodeState}
-use Rattle.rb_rules.specs.Plan.{f0_of, shortest_of, tail_start_of}
-use Rattle.rb_rules.specs.Ports.{HandIn}
-use Rattle.rb_rules.specs.Rounds.{Moment, moment, windows_in}
-use Rattle.rb_rules.specs.SyncStage.{close_sync, new_epoch_of, sync_outcome_of}
+use Rattle.rb_rules.specs.{declared.plan.Plan.Plan, declared.sense.Sense.Sense, Clock.IsStamp, Goodness.{Scenario, is_good}, Hearing.window_numbered, Lawful.IsLawful, Moments.IsComplete, NodeState.NodeState, Plan.{f0_of, shortest_of, tail_start_of}, Ports.HandIn, Rounds.{Moment, moment, windows_in}, SyncStage.{close_sync, new_epoch_of, sync_outcome_of}, Book.of_kind}
 use Rattle.rb_rules.proofs.WindowNumbers.{sync-numbered}
-use Rattle.rb_laws_agreement.proofs.Agreement.{IsAgreed, agreement}
-use Rattle.rb_laws_agreement.proofs.ExactAgrees.{has_ticks}
-use Rattle.rb_laws_agreement.proofs.Goodnesses.{good_before, slot_last}
-use Rattle.rb_rules.specs.Book.{of_kind}
-use Rattle.rb_laws_agreement.proofs.Tests.{Passing, Present}
-use Rattle.rb_laws_agreement.proofs.Numbers.{one_of_many}
-use Rattle.rb_laws_agreement.proofs.Premises.{is_sound}
-use Rattle.rb_laws_agreement.proofs.Settings.{good_state}
+use Rattle.rb_laws_agreement.proofs.{Agreement.{IsAgreed, agreement}, ExactAgrees.has_ticks, Goodnesses.{good_before, slot_last}, Tests.{Passing, Present}, Numbers.one_of_many, Premises.is_sound, Settings.good_state, Invariant.{IsGoodNode, Shared, is_good_now, slot_numbered}, NextMoments.next, NodeWindows.sync_windows_are}
 use Rattle.rb_laws_events.proofs.TurnTicks.{not-yet}
-use Rattle.rb_laws_synchrony.proofs.SyncSteps.{IsPassedStage}
-use Rattle.rb_laws_agreement.proofs.Invariant.{IsGoodNode, Shared, is_good_now, slot_numbered}
-use Rattle.rb_laws_agreement.proofs.NextMoments.{next}
-use Rattle.rb_laws_agreement.proofs.NodeWindows.{sync_windows_are}
-use Rattle.rb_laws_synchrony.proofs.LastStage.{near_third}
-use Rattle.rb_laws_synchrony.proofs.LaterStages.{near_second}
-use Rattle.rb_laws_synchrony.proofs.PlanNumbers.{drift_of}
-use Rattle.rb_laws_synchrony.proofs.Synchronous.{Synchronous}
-use Rattle.rb_laws_synchrony.proofs.Times.{Steady}
-use Rattle.rb_laws_listener_near.proofs.NextEpochs.{BeginTogether, MiddleIsNear, begin_together}
-use Rattle.rb_laws_listener_near.proofs.SyncTracks.{IsLike}
+use Rattle.rb_laws_synchrony.proofs.{SyncSteps.IsPassedStage, LastStage.near_third, LaterStages.near_second, PlanNumbers.drift_of, Synchronous.Synchronous, Times.Steady}
+use Rattle.rb_laws_listener_near.proofs.{NextEpochs.{BeginTogether, MiddleIsNear, begin_together}, SyncTracks.IsLike}
 use Rattle.rb_laws_listener_learns.specs.Ears.{Ear, SendsIn, coming_to}
-use Rattle.rb_laws_listener_learns.proofs.SyncStages.{StageIs, stage_is}
-use Rattle.rb_laws_listener_learns.proofs.Together.{steady-ear}
-use Rattle.rb_laws_listener_follows.proofs.ExactPasses.{IsHeldTo}
-use Rattle.rb_laws_listener_follows.proofs.FirstCalls.{IsSpan, sense_span, span_window}
-use Rattle.rb_laws_listener_follows.proofs.FollowerRuns.{IsWindow, Stands}
-use Rattle.rb_laws_listener_follows.proofs.HeardExact.{Beside, comes}
-use Rattle.rb_laws_listener_follows.proofs.HeardLast.{NextBegins}
-use Rattle.rb_laws_listener_follows.proofs.HeardSync.{called_between, calls_in_time}
-use Rattle.rb_laws_listener_follows.proofs.LateSteps.{CallsAreOver, IsDeaf, PassesLate, SparesNext, StandsLate, passes_late}
-use Rattle.rb_laws_listener_follows.proofs.NextBegin.{next_begins}
-use Rattle.rb_laws_listener_follows.proofs.SeenWindows.{NoneSeen}
-use Rattle.rb_laws_listener_follows.proofs.SyncPasses.{IsInSync, PassesAtSecond, SpanSees, StandsAtSecond, in_sync, span_sees, sync_moment}
+use Rattle.rb_laws_listener_learns.proofs.{SyncStages.{StageIs, stage_is}, Together.steady-ear}
+use Rattle.rb_laws_listener_follows.proofs.{ExactPasses.IsHeldTo, FirstCalls.{IsSpan, sense_span, span_window}, FollowerRuns.{IsWindow, Stands}, HeardExact.{Beside, comes}, HeardLast.NextBegins, HeardSync.{called_between, calls_in_time}, LateSteps.{CallsAreOver, IsDeaf, PassesLate, SparesNext, StandsLate, passes_late}, NextBegin.next_begins, SeenWindows.NoneSeen, SyncPasses.{IsInSync, PassesAtSecond, SpanSees, StandsAtSecond, in_sync, span_sees, sync_moment}}
 
 -- ---- the frame that it is in
 

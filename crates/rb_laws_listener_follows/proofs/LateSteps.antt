@@ -1,40 +1,12 @@
 -- A listener goes through stage 3 of the sync slot and the tail, in which no RMU speaks.
-use Rattle.std.proofs.Common.{◌≡◌, ℕ, suc, ◌+◌, ◌-◌, ◌*◌, ◌≤◌, true, false, List, [], Some, slice_get, sym, ◌∙◌, ap, subst, arith}
-use Rattle.std.proofs.lemmas.Option.{same_Some}
-use Rattle.rb_base.specs.Nodes.{has}
-use Rattle.rb_base.specs.Nodes.Side.{Biu, Rmu}
-use Rattle.rb_base.specs.Sizes.{sync_slot_of}
-use Rattle.rb_rules.specs.declared.sense.Sense.{Sense}
-use Rattle.rb_rules.specs.declared.sense.Sense.TheVariants.{Silent}
-use Rattle.rb_rules.specs.Book.{of_kind}
-use Rattle.rb_rules.specs.Clock.{IsStamp}
-use Rattle.rb_rules.specs.Core.{of_source}
-use Rattle.rb_rules.specs.Goodness.{Scenario, is_good}
-use Rattle.rb_rules.specs.Hearing.{Sending}
-use Rattle.rb_rules.specs.NodeState.{NodeState}
-use Rattle.rb_rules.specs.NodeSteps.{expect_of}
-use Rattle.rb_rules.specs.Plan.{f0_of}
-use Rattle.rb_rules.specs.Ports.{HandIn}
-use Rattle.rb_rules.specs.Rounds.{moment}
-use Rattle.rb_rules.specs.Sense.{sense_of}
-use Rattle.rb_rules.specs.Standing.{does_wrong}
-use Rattle.rb_rules.specs.SyncStage.{close_sync, expects_call, new_epoch_of}
-use Rattle.rb_laws_agreement.proofs.Tests.{Present}
-use Rattle.rb_laws_agreement.proofs.ExactAgrees.{has_ticks}
-use Rattle.rb_laws_agreement.proofs.Goodnesses.{good_before, good_below_16}
-use Rattle.rb_laws_agreement.proofs.Invariant.{IsGoodNode, Shared, is_good_now, slot_numbered}
-use Rattle.rb_laws_agreement.proofs.NextMoments.{next}
-use Rattle.rb_laws_agreement.proofs.NodeWindows.{Windows}
-use Rattle.rb_laws_agreement.proofs.Settings.{good_state}
-use Rattle.rb_laws_agreement.proofs.SyncAgrees.{SyncSetting}
+use Rattle.std.proofs.{Common.{◌≡◌, ℕ, suc, ◌+◌, ◌-◌, ◌*◌, ◌≤◌, true, false, List, [], Some, slice_get, sym, ◌∙◌, ap, subst, arith}, lemmas.Option.same_Some}
+use Rattle.rb_base.specs.{Nodes.has, Nodes.Side.{Biu, Rmu}, Sizes.sync_slot_of}
+use Rattle.rb_rules.specs.{declared.sense.Sense.Sense, declared.sense.Sense.TheVariants.Silent, Book.of_kind, Clock.IsStamp, Core.of_source, Goodness.{Scenario, is_good}, Hearing.Sending, NodeState.NodeState, NodeSteps.expect_of, Plan.f0_of, Ports.HandIn, Rounds.moment, Sense.sense_of, Standing.does_wrong, SyncStage.{close_sync, expects_call, new_epoch_of}}
+use Rattle.rb_laws_agreement.proofs.{Tests.Present, ExactAgrees.has_ticks, Goodnesses.{good_before, good_below_16}, Invariant.{IsGoodNode, Shared, is_good_now, slot_numbered}, NextMoments.next, NodeWindows.Windows, Settings.good_state, SyncAgrees.SyncSetting}
 use Rattle.rb_laws_events.proofs.TurnTicks.{not-yet}
 use Rattle.rb_laws_listener_learns.specs.Ears.{Ear, SendsIn, coming_to}
 use Rattle.rb_laws_listener_near.proofs.SyncTracks.{IsLike, like_sync, spares_sync}
-use Rattle.rb_laws_listener_follows.proofs.Arrivals.{none_collected, none_with_stamp}
-use Rattle.rb_laws_listener_follows.proofs.FirstCalls.{IsSpan, keeps_epoch, sense_span, span_closing, span_window}
-use Rattle.rb_laws_listener_follows.proofs.FollowerRuns.{ClosesWindow, IsWindow, Stands, closes_window, closing, collected}
-use Rattle.rb_laws_listener_follows.proofs.HeardExact.{Beside}
-use Rattle.rb_laws_listener_follows.proofs.HeardLast.{NextBegins, nothing_late}
+use Rattle.rb_laws_listener_follows.proofs.{Arrivals.{none_collected, none_with_stamp}, FirstCalls.{IsSpan, keeps_epoch, sense_span, span_closing, span_window}, FollowerRuns.{ClosesWindow, IsWindow, Stands, closes_window, closing, collected}, HeardExact.Beside, HeardLast.{NextBegins, nothing_late}}
 
 -- the listener directly accuses no RMU that is good in the next frame
 abbrev pub SparesNext : Scenario → ℕ → NodeState → Type 0

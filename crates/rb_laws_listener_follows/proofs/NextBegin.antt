@@ -1,17 +1,9 @@
 -- If stage 3 of the sync slot passes, good nodes begin the next frame when they know it then.
 use Rattle.std.proofs.Common.{◌≡◌, ℕ, suc, ◌+◌, ◌*◌, List, ap, subst, arith}
-use Rattle.rb_base.specs.Nodes.{Side}
-use Rattle.rb_base.specs.Sizes.{sync_slot_of}
-use Rattle.rb_rules.specs.Clock.{time_of}
-use Rattle.rb_rules.specs.Goodness.{Scenario, clock_of}
-use Rattle.rb_rules.specs.Lawful.{IsLawful}
-use Rattle.rb_rules.specs.Moments.{IsRunning}
-use Rattle.rb_rules.specs.NodeState.{NodeState}
-use Rattle.rb_rules.specs.Ports.{HandIn}
-use Rattle.rb_rules.specs.Rounds.{Moment, moment, windows_in}
+use Rattle.rb_base.specs.{Nodes.Side, Sizes.sync_slot_of}
+use Rattle.rb_rules.specs.{Clock.time_of, Goodness.{Scenario, clock_of}, Lawful.IsLawful, Moments.IsRunning, NodeState.NodeState, Ports.HandIn, Rounds.{Moment, moment, windows_in}}
 use Rattle.rb_rules.proofs.Middles.{IsBetween}
-use Rattle.rb_laws_agreement.proofs.Agreement.{IsAgreed, agreement}
-use Rattle.rb_laws_agreement.proofs.Invariant.{Agree, IsGoodNode, Shared}
+use Rattle.rb_laws_agreement.proofs.{Agreement.{IsAgreed, agreement}, Invariant.{Agree, IsGoodNode, Shared}}
 use Rattle.rb_laws_synchrony.proofs.Synchronous.{KnowsEpoch}
 use Rattle.rb_laws_listener_learns.specs.Ears.{Ear}
 use Rattle.rb_laws_listener_learns.proofs.SyncStages.{TurnsAt, turns_at}

@@ -1,27 +1,12 @@
 -- A listener that follows a frame of the bus comes from any window of it up to the sync slot to
 -- each later one, and to its next frame.
 use Rattle.std.proofs.Common.{◌≡◌, ℕ, zero, suc, ◌+◌, ◌-◌, ◌*◌, ◌≤◌, List, Some, sym, ap, subst, arith}
-use Rattle.rb_base.specs.Nodes.Side.{Biu}
-use Rattle.rb_base.specs.Sizes.{sync_slot_of}
-use Rattle.rb_rules.specs.declared.sense.Sense.{Sense}
-use Rattle.rb_rules.specs.Goodness.{Scenario}
-use Rattle.rb_rules.specs.Moments.{IsComplete, IsRunning}
-use Rattle.rb_rules.specs.NodeState.{NodeState}
-use Rattle.rb_rules.specs.Plan.{f0_of, tail_start_of}
-use Rattle.rb_rules.specs.Ports.{HandIn}
-use Rattle.rb_rules.specs.Rounds.{moment, windows_in}
-use Rattle.rb_rules.specs.SyncStage.{new_epoch_of}
-use Rattle.rb_laws_agreement.proofs.Agreement.{running_before}
-use Rattle.rb_laws_agreement.proofs.Places.{running_earlier}
+use Rattle.rb_base.specs.{Nodes.Side.Biu, Sizes.sync_slot_of}
+use Rattle.rb_rules.specs.{declared.sense.Sense.Sense, Goodness.Scenario, Moments.{IsComplete, IsRunning}, NodeState.NodeState, Plan.{f0_of, tail_start_of}, Ports.HandIn, Rounds.{moment, windows_in}, SyncStage.new_epoch_of}
+use Rattle.rb_laws_agreement.proofs.{Agreement.running_before, Places.running_earlier}
 use Rattle.rb_laws_listener_learns.specs.Ears.{Ear}
 use Rattle.rb_laws_listener_learns.proofs.FrameStages.{first_of_frame}
-use Rattle.rb_laws_listener_follows.proofs.EpochKnown.{second_end}
-use Rattle.rb_laws_listener_follows.proofs.ExactPasses.{IsHeldTo, PassesExact, StandsAt, passes_exact}
-use Rattle.rb_laws_listener_follows.proofs.FollowerRuns.{Stands}
-use Rattle.rb_laws_listener_follows.proofs.HeardLast.{NextBegins}
-use Rattle.rb_laws_listener_follows.proofs.LatePasses.{StandsAtThird, next_epoch_of, to_tail, to_third}
-use Rattle.rb_laws_listener_follows.proofs.SyncPasses.{IsInSync, PassesAtSecond, StandsAtSecond, in_sync, sync_moment, through_second, to_second}
-use Rattle.rb_laws_listener_follows.proofs.TurnPasses.{to_next}
+use Rattle.rb_laws_listener_follows.proofs.{EpochKnown.second_end, ExactPasses.{IsHeldTo, PassesExact, StandsAt, passes_exact}, FollowerRuns.Stands, HeardLast.NextBegins, LatePasses.{StandsAtThird, next_epoch_of, to_tail, to_third}, SyncPasses.{IsInSync, PassesAtSecond, StandsAtSecond, in_sync, sync_moment, through_second, to_second}, TurnPasses.to_next}
 
 -- ---- to a later window
 

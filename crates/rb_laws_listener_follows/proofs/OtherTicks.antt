@@ -1,36 +1,13 @@
 -- A listener closes the stages of a frame that it follows with their own ticks only.
-use Rattle.std.proofs.Common.{◌≡◌, ◌⊎◌, ℕ, suc, ◌+◌, ◌-◌, ◌^◌, ◌<◌, ◌≤◌, ◌==◌, Bool, true, false, List, [], ◌∷◌, find, cond, Option, Some, None, unwrap_or, slice_get, inl, inr, refl, sym, ◌∙◌, ap, subst, arith}
-use Rattle.std.proofs.lemmas.Bool.{cases_lt, eqb-true}
-use Rattle.rb_base.specs.Nodes.Side.{Biu}
-use Rattle.rb_base.specs.Sizes.{Sizes, sync_slot_of}
-use Rattle.rb_base.specs.declared.values.Place.{Place}
-use Rattle.rb_rules.specs.declared.closing.Closed.{Closed}
-use Rattle.rb_rules.specs.declared.plan.Plan.{Plan}
-use Rattle.rb_rules.specs.declared.plan.Window.{Window}
-use Rattle.rb_rules.specs.declared.record.Epoch.{Epoch}
-use Rattle.rb_rules.specs.declared.sense.Sense.{Sense}
-use Rattle.rb_rules.specs.Core.{Core, act_on, is_last, of_source, state_at, window_here}
-use Rattle.rb_rules.specs.ExactStage.{Outcome, close_exact}
-use Rattle.rb_rules.specs.Goodness.{Scenario}
-use Rattle.rb_rules.specs.Hearing.{close_window, tail_at}
-use Rattle.rb_rules.specs.NodeState.{NodeState}
-use Rattle.rb_rules.specs.NodeSteps.{close, expect_of}
-use Rattle.rb_rules.specs.Sense.{sense_of}
-use Rattle.rb_rules.specs.SyncStage.{close_sync}
-use Rattle.rb_rules.specs.Windows.{holds_offset, window_at, windows_of_frame}
+use Rattle.std.proofs.{Common.{◌≡◌, ◌⊎◌, ℕ, suc, ◌+◌, ◌-◌, ◌^◌, ◌<◌, ◌≤◌, ◌==◌, Bool, true, false, List, [], ◌∷◌, find, cond, Option, Some, None, unwrap_or, slice_get, inl, inr, refl, sym, ◌∙◌, ap, subst, arith}, lemmas.Bool.{cases_lt, eqb-true}}
+use Rattle.rb_base.specs.{Nodes.Side.Biu, Sizes.{Sizes, sync_slot_of}, declared.values.Place.Place}
+use Rattle.rb_rules.specs.{declared.closing.Closed.Closed, declared.plan.Plan.Plan, declared.plan.Window.Window, declared.record.Epoch.Epoch, declared.sense.Sense.Sense, Core.{Core, act_on, is_last, of_source, state_at, window_here}, ExactStage.{Outcome, close_exact}, Goodness.Scenario, Hearing.{close_window, tail_at}, NodeState.NodeState, NodeSteps.{close, expect_of}, Sense.sense_of, SyncStage.close_sync, Windows.{holds_offset, window_at, windows_of_frame}}
 use Rattle.rb_laws_agreement.proofs.Tests.{true_or_false}
-use Rattle.rb_listen.specs.Following.{follow}
-use Rattle.rb_listen.specs.Listening as now
-use Rattle.rb_listen.specs.declared.lesson.First.{First}
-use Rattle.rb_listen.specs.declared.search.Search.{Search}
+use Rattle.rb_listen.specs.{Following.follow, declared.lesson.First.First, declared.search.Search.Search}
 use Rattle.rb_laws_listener_learns.specs.Ears.{Ear, listening_at, told_at}
 use Rattle.rb_laws_listener_follows.specs.Following.{IsItsTick}
-use Rattle.rb_laws_listener_follows.proofs.BeforeFirst.{Follows, later_follows}
-use Rattle.rb_laws_listener_follows.proofs.ClosesExact.{exact-place}
-use Rattle.rb_laws_listener_follows.proofs.EpochsRise.{IsIn, IsSince, WaitsFirst, in_state, same_core, since}
-use Rattle.rb_laws_listener_follows.proofs.FollowerRuns.{IsClosing, acts_by, closes_it}
-use Rattle.rb_laws_listener_follows.proofs.SeenPremise.{place_synced}
-use Rattle.rb_laws_listener_follows.proofs.SeenWindows.{quiet_act}
+use Rattle.rb_laws_listener_follows.proofs.{BeforeFirst.{Follows, later_follows}, ClosesExact.exact-place, EpochsRise.{IsIn, IsSince, WaitsFirst, in_state, same_core, since}, FollowerRuns.{IsClosing, acts_by, closes_it}, SeenPremise.place_synced, SeenWindows.quiet_act}
+use Rattle.rb_listen.specs.Listening as now
 
 -- ---- a close
 

@@ -1,41 +1,15 @@
 -- A listener in stage 2 of the sync slot takes the call of each RMU that is good there, with the
 -- stamp of its time.
-use Rattle.std.proofs.Common.{◌≡◌, ℕ, ◌+◌, ◌-◌, ◌*◌, ◌%◌, ◌<◌, ◌≤◌, ◌==◌, true, false, List, [], ◌∷◌, Option, Some, slice_get, refl, sym, ◌∙◌, ap, subst, arith}
-use Rattle.std.proofs.lemmas.Option.{same_Some}
-use Rattle.rb_base.specs.Nodes.{has}
-use Rattle.rb_base.specs.Nodes.Side.{Biu, Rmu}
-use Rattle.rb_base.specs.Sizes.{sync_slot_of}
+use Rattle.std.proofs.{Common.{◌≡◌, ℕ, ◌+◌, ◌-◌, ◌*◌, ◌%◌, ◌<◌, ◌≤◌, ◌==◌, true, false, List, [], ◌∷◌, Option, Some, slice_get, refl, sym, ◌∙◌, ap, subst, arith}, lemmas.Option.same_Some}
+use Rattle.rb_base.specs.{Nodes.has, Nodes.Side.{Biu, Rmu}, Sizes.sync_slot_of}
 use Rattle.rb_base.proofs.Plain.{all_four, eq_self}
-use Rattle.rb_rules.specs.declared.sense.Sense.TheVariants.{One}
-use Rattle.rb_rules.specs.Clock.{IsStamp, stamp_of}
-use Rattle.rb_rules.specs.Core.{of_source}
-use Rattle.rb_rules.specs.Goodness.{Scenario, is_good}
-use Rattle.rb_rules.specs.Hearing.{Coming, Sending}
-use Rattle.rb_rules.specs.NodeState.{NodeState}
-use Rattle.rb_rules.specs.NodeSteps.{expect_of}
-use Rattle.rb_rules.specs.Plan.{f0_of, shortest_of}
-use Rattle.rb_rules.specs.Ports.{HandIn}
-use Rattle.rb_rules.specs.Rounds.{moment, sending_in, window_in}
-use Rattle.rb_rules.specs.Sense.{sense_of, stamp_in, suits}
-use Rattle.rb_rules.specs.Spelling.{IsMessage, spelling_of}
-use Rattle.rb_rules.specs.Standing.{taken_of}
-use Rattle.rb_rules.specs.SyncStage.{call_of, call_tick_of, expects_call}
-use Rattle.rb_rules.proofs.Senses.{spelled_is_one}
-use Rattle.rb_rules.proofs.Slots.{few_slots}
-use Rattle.rb_rules.proofs.Stamps.{one_stamp, stamp_of-is}
-use Rattle.rb_laws_agreement.proofs.Goodnesses.{good_counts, slot_last}
-use Rattle.rb_laws_agreement.proofs.Invariant.{IsGoodNode, Shared}
-use Rattle.rb_laws_agreement.proofs.NodeWindows.{Windows, sync_windows_are, word_at}
-use Rattle.rb_laws_synchrony.proofs.PlanNumbers.{drift_of}
-use Rattle.rb_laws_synchrony.proofs.Times.{Steady}
+use Rattle.rb_rules.specs.{declared.sense.Sense.TheVariants.One, Clock.{IsStamp, stamp_of}, Core.of_source, Goodness.{Scenario, is_good}, Hearing.{Coming, Sending}, NodeState.NodeState, NodeSteps.expect_of, Plan.{f0_of, shortest_of}, Ports.HandIn, Rounds.{moment, sending_in, window_in}, Sense.{sense_of, stamp_in, suits}, Spelling.{IsMessage, spelling_of}, Standing.taken_of, SyncStage.{call_of, call_tick_of, expects_call}}
+use Rattle.rb_rules.proofs.{Senses.spelled_is_one, Slots.few_slots, Stamps.{one_stamp, stamp_of-is}}
+use Rattle.rb_laws_agreement.proofs.{Goodnesses.{good_counts, slot_last}, Invariant.{IsGoodNode, Shared}, NodeWindows.{Windows, sync_windows_are, word_at}}
+use Rattle.rb_laws_synchrony.proofs.{PlanNumbers.drift_of, Times.Steady}
 use Rattle.rb_laws_listener_learns.specs.Ears.{Ear, HearsTheRun, IsEar, IsHeard, IsOfGood, SendsIn, coming_to}
-use Rattle.rb_laws_listener_learns.proofs.Calling.{call-sending}
-use Rattle.rb_laws_listener_learns.proofs.Together.{steady-ear}
-use Rattle.rb_laws_listener_follows.proofs.Arrivals.{none_with_stamp, one_collected, one_with_stamp}
-use Rattle.rb_laws_listener_follows.proofs.FirstCalls.{sense_span}
-use Rattle.rb_laws_listener_follows.proofs.FollowerRuns.{collected}
-use Rattle.rb_laws_listener_follows.proofs.HeardExact.{Beside, IsOwn, comes}
-use Rattle.rb_laws_listener_follows.proofs.HeardSync.{called_between, calls_in_time, only_calls}
+use Rattle.rb_laws_listener_learns.proofs.{Calling.call-sending, Together.steady-ear}
+use Rattle.rb_laws_listener_follows.proofs.{Arrivals.{none_with_stamp, one_collected, one_with_stamp}, FirstCalls.sense_span, FollowerRuns.collected, HeardExact.{Beside, IsOwn, comes}, HeardSync.{called_between, calls_in_time, only_calls}}
 
 -- ---- a sole message
 

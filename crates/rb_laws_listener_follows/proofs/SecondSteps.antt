@@ -1,51 +1,16 @@
 -- A listener goes through stage 2 of the sync slot: it keeps the middle of the calls, from which
 -- its next frame begins near the good nodes.
 use Rattle.std.proofs.Common.{◌≡◌, ℕ, suc, ◌+◌, ◌-◌, ◌*◌, ◌<◌, ◌≤◌, ◌&&◌, not, Bool, true, false, List, Option, Some, None, is_some, option_map, unwrap_or, if◌then◌else◌, refl, sym, ◌∙◌, ap, subst, arith}
-use Rattle.rb_base.specs.Nodes.{has}
-use Rattle.rb_base.specs.Nodes.Side.{Biu, Rmu}
-use Rattle.rb_base.specs.Sizes.{Sizes, sync_slot_of}
-use Rattle.rb_base.specs.declared.values.See.{See}
-use Rattle.rb_rules.specs.declared.sense.Sense.{Sense}
-use Rattle.rb_rules.specs.Clock.{IsStamp, stamp_of, time_of}
-use Rattle.rb_rules.specs.Core.{state_at}
-use Rattle.rb_rules.specs.ExactStage.{each_node, present}
-use Rattle.rb_rules.specs.Goodness.{Scenario, clock_of, is_good}
-use Rattle.rb_rules.specs.Hearing.{window_numbered}
-use Rattle.rb_rules.specs.Judging.{JudgedStage, verdict_of}
-use Rattle.rb_rules.specs.Middle.{middle_of}
-use Rattle.rb_rules.specs.NodeState.{NodeState}
-use Rattle.rb_rules.specs.Plan.{f0_of, shortest_of}
-use Rattle.rb_rules.specs.Ports.{HandIn}
-use Rattle.rb_rules.specs.Rounds.{after_window, moment}
-use Rattle.rb_rules.specs.Sense.{stamp_in}
-use Rattle.rb_rules.specs.Standing.{Standing, does_wrong, taken_of}
-use Rattle.rb_rules.specs.SyncStage.{call_tick_of, close_sync, expects_call, new_epoch_of, sync_outcome_of}
-use Rattle.rb_rules.proofs.Stamps.{one_stamp, stamp_of-is}
-use Rattle.rb_rules.proofs.WindowNumbers.{sync-numbered}
-use Rattle.rb_laws_agreement.proofs.ExactAgrees.{has_ticks}
-use Rattle.rb_laws_agreement.proofs.Goodnesses.{slot_last}
-use Rattle.rb_laws_agreement.proofs.Invariant.{IsGoodNode, Shared, is_good_now}
-use Rattle.rb_laws_agreement.proofs.NextMoments.{next, was_good}
-use Rattle.rb_laws_agreement.proofs.NodeWindows.{sync_windows_are}
-use Rattle.rb_laws_agreement.proofs.SyncAgrees.{SyncSetting}
-use Rattle.rb_laws_synchrony.proofs.CallSights.{stages_with}
-use Rattle.rb_laws_synchrony.proofs.PlanNumbers.{drift_of, last_plus, second_early, second_late}
-use Rattle.rb_laws_synchrony.proofs.StageMiddles.{IsCaller, caller, tick_of}
-use Rattle.rb_laws_synchrony.proofs.SyncSteps.{IsPassedStage}
-use Rattle.rb_laws_synchrony.proofs.Synchronous.{from_2, to_2}
-use Rattle.rb_laws_synchrony.proofs.Times.{Steady, lawful_fits, plan_fits, tick_le}
+use Rattle.rb_base.specs.{Nodes.has, Nodes.Side.{Biu, Rmu}, Sizes.{Sizes, sync_slot_of}, declared.values.See.See}
+use Rattle.rb_rules.specs.{declared.sense.Sense.Sense, Clock.{IsStamp, stamp_of, time_of}, Core.state_at, ExactStage.{each_node, present}, Goodness.{Scenario, clock_of, is_good}, Hearing.window_numbered, Judging.{JudgedStage, verdict_of}, Middle.middle_of, NodeState.NodeState, Plan.{f0_of, shortest_of}, Ports.HandIn, Rounds.{after_window, moment}, Sense.stamp_in, Standing.{Standing, does_wrong, taken_of}, SyncStage.{call_tick_of, close_sync, expects_call, new_epoch_of, sync_outcome_of}}
+use Rattle.rb_rules.proofs.{Stamps.{one_stamp, stamp_of-is}, WindowNumbers.sync-numbered}
+use Rattle.rb_laws_agreement.proofs.{ExactAgrees.has_ticks, Goodnesses.slot_last, Invariant.{IsGoodNode, Shared, is_good_now}, NextMoments.{next, was_good}, NodeWindows.sync_windows_are, SyncAgrees.SyncSetting}
+use Rattle.rb_laws_synchrony.proofs.{CallSights.stages_with, PlanNumbers.{drift_of, last_plus, second_early, second_late}, StageMiddles.{IsCaller, caller, tick_of}, SyncSteps.IsPassedStage, Synchronous.{from_2, to_2}, Times.{Steady, lawful_fits, plan_fits, tick_le}}
 use Rattle.rb_laws_listener_learns.specs.Ears.{Ear, coming_to}
 use Rattle.rb_laws_listener_learns.proofs.Together.{steady-ear}
 use Rattle.rb_laws_listener_near.specs.Judged.{verdict_with}
-use Rattle.rb_laws_listener_near.proofs.ListenerMiddles.{FindsMiddle, MostGood, TakesCalls}
-use Rattle.rb_laws_listener_near.proofs.ListenerNear.{IsCalled, SawTimes, calls_found, calls_near_bius, heard-second}
-use Rattle.rb_laws_listener_near.proofs.NextEpochs.{MiddleIsNear}
-use Rattle.rb_laws_listener_near.proofs.SyncTracks.{tracks_sync}
-use Rattle.rb_laws_listener_near.proofs.Tracking.{Held, Tracks, stays_good}
-use Rattle.rb_laws_listener_follows.proofs.FirstCalls.{IsSpan, keeps_epoch, sense_span, span_closing, span_window}
-use Rattle.rb_laws_listener_follows.proofs.FollowerRuns.{ClosesWindow, IsWindow, Stands, closes_window, closing}
-use Rattle.rb_laws_listener_follows.proofs.HeardExact.{Beside, comes, ear_time}
-use Rattle.rb_laws_listener_follows.proofs.SecondCalls.{TakesCall, taken_second, takes_call}
+use Rattle.rb_laws_listener_near.proofs.{ListenerMiddles.{FindsMiddle, MostGood, TakesCalls}, ListenerNear.{IsCalled, SawTimes, calls_found, calls_near_bius, heard-second}, NextEpochs.MiddleIsNear, SyncTracks.tracks_sync, Tracking.{Held, Tracks, stays_good}}
+use Rattle.rb_laws_listener_follows.proofs.{FirstCalls.{IsSpan, keeps_epoch, sense_span, span_closing, span_window}, FollowerRuns.{ClosesWindow, IsWindow, Stands, closes_window, closing}, HeardExact.{Beside, comes, ear_time}, SecondCalls.{TakesCall, taken_second, takes_call}}
 
 -- ---- what it takes
 

@@ -1,38 +1,15 @@
 -- In a frame after the one that it learned, a listener sees what it takes, and the premise with it
 -- is that of its windows.
-use Rattle.std.proofs.Common.{◌≡◌, ℕ, suc, ◌+◌, ◌*◌, ◌<◌, ◌≤◌, ◌==◌, if◌then◌else◌, Bool, true, false, List, Option, None, get_or, refl, sym, ◌∙◌, ap, subst, arith}
-use Rattle.std.proofs.lemmas.Bool.{ltb-true}
-use Rattle.std.proofs.lemmas.List.FromFn.{get_or-map-range_with_len}
-use Rattle.rb_base.specs.Nodes.{set_of, size}
-use Rattle.rb_base.specs.Nodes.Side.{Biu, Rmu}
-use Rattle.rb_base.specs.Sizes.{Sizes, sync_slot_of}
-use Rattle.rb_base.specs.declared.values.See.{See}
-use Rattle.rb_base.specs.declared.values.See.TheVariants.{Nothing}
+use Rattle.std.proofs.{Common.{◌≡◌, ℕ, suc, ◌+◌, ◌*◌, ◌<◌, ◌≤◌, ◌==◌, if◌then◌else◌, Bool, true, false, List, Option, None, get_or, refl, sym, ◌∙◌, ap, subst, arith}, lemmas.Bool.ltb-true, lemmas.List.FromFn.get_or-map-range_with_len}
+use Rattle.rb_base.specs.{Nodes.{set_of, size}, Nodes.Side.{Biu, Rmu}, Sizes.{Sizes, sync_slot_of}, declared.values.See.See, declared.values.See.TheVariants.Nothing}
 use Rattle.rb_base.proofs.Plain.{less-differs, more-differs}
-use Rattle.rb_rules.specs.declared.sense.Sense.{Sense}
-use Rattle.rb_rules.specs.ExactStage.{Outcome, close_exact, each_node, see_value}
-use Rattle.rb_rules.specs.Goodness.{Scenario}
-use Rattle.rb_rules.specs.Judging.{JudgedStage}
-use Rattle.rb_rules.specs.Lawful.{IsLawful}
-use Rattle.rb_rules.specs.Moments.{IsRunning}
-use Rattle.rb_rules.specs.NodeState.{NodeState}
-use Rattle.rb_rules.specs.NodeSteps.{close}
-use Rattle.rb_rules.specs.Ports.{HandIn}
-use Rattle.rb_rules.specs.Rounds.{moment, windows_in}
-use Rattle.rb_rules.specs.SyncStage.{close_sync, sync_outcome_of}
-use Rattle.rb_laws_agreement.proofs.ExactWindows.{take_at}
-use Rattle.rb_laws_agreement.proofs.Exchanges.{get-see}
-use Rattle.rb_laws_agreement.proofs.Invariant.{is_good_now}
-use Rattle.rb_laws_agreement.proofs.JudgedWindows.{judged_value}
-use Rattle.rb_laws_agreement.proofs.Numbers.{how_many, how_many-is, how_many-le}
+use Rattle.rb_rules.specs.{declared.sense.Sense.Sense, ExactStage.{Outcome, close_exact, each_node, see_value}, Goodness.Scenario, Judging.JudgedStage, Lawful.IsLawful, Moments.IsRunning, NodeState.NodeState, NodeSteps.close, Ports.HandIn, Rounds.{moment, windows_in}, SyncStage.{close_sync, sync_outcome_of}}
+use Rattle.rb_laws_agreement.proofs.{ExactWindows.take_at, Exchanges.get-see, Invariant.is_good_now, JudgedWindows.judged_value, Numbers.{how_many, how_many-is, how_many-le}}
 use Rattle.rb_laws_listener_near.specs.Judged.{verdict_with}
-use Rattle.rb_laws_listener_near.proofs.Tracking.{MostStay, stays_good}
-use Rattle.rb_laws_listener_near.proofs.WindowSteps.{closed_by, closes_parts}
-use Rattle.rb_laws_listener_learns.specs.Ears.{Ear, HearsTheRun, is_always_good}
-use Rattle.rb_laws_listener_learns.specs.Receivers.{HoldsTo, call_time, seen_by, seen_closed, seen_in, seen_learned, stamp_seen, timed_see}
+use Rattle.rb_laws_listener_near.proofs.{Tracking.{MostStay, stays_good}, WindowSteps.{closed_by, closes_parts}}
+use Rattle.rb_laws_listener_learns.specs.{Ears.{Ear, HearsTheRun, is_always_good}, Receivers.{HoldsTo, call_time, seen_by, seen_closed, seen_in, seen_learned, stamp_seen, timed_see}}
 use Rattle.rb_laws_listener_learns.proofs.TrustedSets.{good-at-moment}
-use Rattle.rb_laws_listener_follows.proofs.ClosesExact.{exact-place}
-use Rattle.rb_laws_listener_follows.proofs.ExactRuns.{GoesOn, goes_on}
+use Rattle.rb_laws_listener_follows.proofs.{ClosesExact.exact-place, ExactRuns.{GoesOn, goes_on}}
 
 -- ---- the premise
 

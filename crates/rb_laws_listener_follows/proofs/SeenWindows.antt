@@ -1,20 +1,11 @@
 -- What a listener that follows has closed: with the last tick of a window this window, and before
 -- it nothing.
-use Rattle.std.proofs.Common.{◌≡◌, ◌⊎◌, ℕ, zero, suc, ◌+◌, ◌/◌, ◌%◌, ◌<◌, ◌≤◌, ◌==◌, ◌&&◌, Bool, true, false, Option, Some, None, [], inl, inr, refl, sym, ◌∙◌, ap, arith}
+use Rattle.std.proofs.{Common.{◌≡◌, ◌⊎◌, ℕ, zero, suc, ◌+◌, ◌/◌, ◌%◌, ◌<◌, ◌≤◌, ◌==◌, ◌&&◌, Bool, true, false, Option, Some, None, [], inl, inr, refl, sym, ◌∙◌, ap, arith}, lemmas.Bool.{eq-eqb, eqb-true, false_from_ne_true}}
 use Rattle.std.specs.Option.{option_or}
-use Rattle.std.proofs.lemmas.Bool.{eq-eqb, eqb-true, false_from_ne_true}
-use Rattle.rb_base.specs.Nodes.Side.{Biu}
-use Rattle.rb_base.specs.Sizes.{Sizes}
+use Rattle.rb_base.specs.{Nodes.Side.Biu, Sizes.Sizes}
 use Rattle.rb_base.proofs.Plain.{and_first, and_second}
-use Rattle.rb_rules.specs.declared.closing.Closed.{Closed}
-use Rattle.rb_rules.specs.declared.plan.Plan.{Plan}
-use Rattle.rb_rules.specs.Core.{Act, Core, act_on, epoch_at, is_last, of_source, window_here}
-use Rattle.rb_rules.specs.ExactStage.{Outcome}
-use Rattle.rb_rules.specs.Goodness.{Scenario}
-use Rattle.rb_rules.specs.Hearing.{close_window}
-use Rattle.rb_rules.specs.NodeState.{NodeState}
-use Rattle.rb_laws_listener_learns.specs.Ears.{Ear}
-use Rattle.rb_laws_listener_learns.specs.Receivers.{closing_at, closing_in, if_window, is_window, seen_by}
+use Rattle.rb_rules.specs.{declared.closing.Closed.Closed, declared.plan.Plan.Plan, Core.{Act, Core, act_on, epoch_at, is_last, of_source, window_here}, ExactStage.Outcome, Goodness.Scenario, Hearing.close_window, NodeState.NodeState}
+use Rattle.rb_laws_listener_learns.specs.{Ears.Ear, Receivers.{closing_at, closing_in, if_window, is_window, seen_by}}
 use Rattle.rb_laws_listener_follows.proofs.FollowerRuns.{ClosesWindow, IsWindow, Stands, acts_by, closing, core_in, follows_window, state-in}
 
 -- ---- one tick

@@ -1,48 +1,16 @@
 -- A follower in a window below the sync slot senses of each RMU that stays good what that one says.
-use Rattle.std.proofs.Common.{◌≡◌, ℕ, zero, suc, ◌+◌, ◌-◌, ◌*◌, ◌^◌, ◌<◌, ◌≤◌, ◌==◌, true, false, List, [], ◌∷◌, Option, Some, None, option_map, slice_get, refl, sym, ◌∙◌, ap, subst, arith}
+use Rattle.std.proofs.{Common.{◌≡◌, ℕ, zero, suc, ◌+◌, ◌-◌, ◌*◌, ◌^◌, ◌<◌, ◌≤◌, ◌==◌, true, false, List, [], ◌∷◌, Option, Some, None, option_map, slice_get, refl, sym, ◌∙◌, ap, subst, arith}, lemmas.Option.same_Some}
 use Rattle.std.specs.Prelude.{IfSome}
-use Rattle.std.proofs.lemmas.Option.{same_Some}
-use Rattle.rb_base.specs.Nodes.Side.{Rmu}
-use Rattle.rb_base.specs.Sizes.{sync_slot_of}
-use Rattle.rb_base.specs.declared.values.Heard.{Heard}
+use Rattle.rb_base.specs.{Nodes.Side.Rmu, Sizes.sync_slot_of, declared.values.Heard.Heard}
 use Rattle.rb_base.proofs.Plain.{less-differs}
-use Rattle.rb_rules.specs.declared.message.Message.{Message}
-use Rattle.rb_rules.specs.declared.sense.Expect.{Expect}
-use Rattle.rb_rules.specs.declared.sense.Sense.{Sense}
-use Rattle.rb_rules.specs.Clock.{IsStamp, stamp_of}
-use Rattle.rb_rules.specs.Core.{of_source}
-use Rattle.rb_rules.specs.ExactStage.{message_of, says}
-use Rattle.rb_rules.specs.Goodness.{Scenario, is_good}
-use Rattle.rb_rules.specs.Hearing.{Coming, Sending, sending}
-use Rattle.rb_rules.specs.NodeState.{NodeState}
-use Rattle.rb_rules.specs.NodeSteps.{expect_of}
-use Rattle.rb_rules.specs.Plan.{shortest_of}
-use Rattle.rb_rules.specs.Ports.{HandIn}
-use Rattle.rb_rules.specs.Rounds.{Moment, after_window, moment, sending_in}
-use Rattle.rb_rules.specs.Sense.{Arrival, sense_of}
-use Rattle.rb_rules.specs.Spelling.{spelling_of}
-use Rattle.rb_rules.specs.Windows.{send_offset_of}
-use Rattle.rb_rules.proofs.Senses.{IsCarried, spelled_is_one, value_is_message, value_suits}
-use Rattle.rb_rules.proofs.Slots.{few_slots}
-use Rattle.rb_rules.proofs.Stamps.{one_stamp, stamp_of-is}
-use Rattle.rb_laws_agreement.proofs.ExactWindows.{IsSenseOf}
-use Rattle.rb_laws_agreement.proofs.FirstStages.{carried_1}
-use Rattle.rb_laws_agreement.proofs.Goodnesses.{good_counts, slot_here}
-use Rattle.rb_laws_agreement.proofs.Invariant.{IsGoodNode, Shared, slot_numbered}
-use Rattle.rb_laws_agreement.proofs.NodeWindows.{IsOne, Windows, exact_windows, sending-none, sending-some, word_at}
-use Rattle.rb_laws_agreement.proofs.SecondStages.{carried_2}
-use Rattle.rb_laws_agreement.proofs.Settings.{AllCarried, Setting}
-use Rattle.rb_laws_agreement.proofs.ThirdStages.{carried_3}
-use Rattle.rb_laws_synchrony.proofs.PlanNumbers.{drift_of}
-use Rattle.rb_laws_synchrony.proofs.Times.{Steady}
+use Rattle.rb_rules.specs.{declared.message.Message.Message, declared.sense.Expect.Expect, declared.sense.Sense.Sense, Clock.{IsStamp, stamp_of}, Core.of_source, ExactStage.{message_of, says}, Goodness.{Scenario, is_good}, Hearing.{Coming, Sending, sending}, NodeState.NodeState, NodeSteps.expect_of, Plan.shortest_of, Ports.HandIn, Rounds.{Moment, after_window, moment, sending_in}, Sense.{Arrival, sense_of}, Spelling.spelling_of, Windows.send_offset_of}
+use Rattle.rb_rules.proofs.{Senses.{IsCarried, spelled_is_one, value_is_message, value_suits}, Slots.few_slots, Stamps.{one_stamp, stamp_of-is}}
+use Rattle.rb_laws_agreement.proofs.{ExactWindows.IsSenseOf, FirstStages.carried_1, Goodnesses.{good_counts, slot_here}, Invariant.{IsGoodNode, Shared, slot_numbered}, NodeWindows.{IsOne, Windows, exact_windows, sending-none, sending-some, word_at}, SecondStages.carried_2, Settings.{AllCarried, Setting}, ThirdStages.carried_3}
+use Rattle.rb_laws_synchrony.proofs.{PlanNumbers.drift_of, Times.Steady}
 use Rattle.rb_laws_listener_learns.specs.Ears.{Ear, IsHeard, IsOfGood, SendsIn, coming_to}
-use Rattle.rb_laws_listener_learns.proofs.CallsSent.{sends-at}
-use Rattle.rb_laws_listener_learns.proofs.Moments.{same-sent}
-use Rattle.rb_laws_listener_learns.proofs.Together.{steady-ear}
+use Rattle.rb_laws_listener_learns.proofs.{CallsSent.sends-at, Moments.same-sent, Together.steady-ear}
 use Rattle.rb_laws_listener_near.proofs.Tracking.{Senses}
-use Rattle.rb_laws_listener_follows.proofs.Arrivals.{none_collected, none_with_stamp, one_collected, one_with_stamp}
-use Rattle.rb_laws_listener_follows.proofs.FollowerRuns.{arrivals, collected}
-use Rattle.rb_laws_listener_follows.proofs.HeardExact.{Beside, IsOwn, IsTickOf, only_own, own_in_time}
+use Rattle.rb_laws_listener_follows.proofs.{Arrivals.{none_collected, none_with_stamp, one_collected, one_with_stamp}, FollowerRuns.{arrivals, collected}, HeardExact.{Beside, IsOwn, IsTickOf, only_own, own_in_time}}
 
 -- what good nodes say has four bytes
 carried : (sc : Scenario) (hands : List HandIn) (n : ℕ) (m : Moment) (s : Shared) (slot q : ℕ) → Setting sc hands n m s slot q → AllCarried sc m slot (q + 1)

@@ -1,44 +1,16 @@
 -- In the first two stages of the sync slot of a frame that it follows, a listener goes from one to
 -- the next, and keeps the middle of the calls.
 use Rattle.std.proofs.Common.{◌≡◌, ℕ, suc, ◌+◌, ◌-◌, ◌*◌, ◌/◌, ◌%◌, ◌<◌, ◌≤◌, List, length, map, Some, None, get_or, refl, sym, ◌∙◌, ap, subst, arith}
-use Rattle.rb_base.specs.Nodes.Side.{Biu}
-use Rattle.rb_base.specs.Sizes.{Sizes, sync_slot_of}
-use Rattle.rb_base.specs.declared.values.See.TheVariants.{Nothing}
-use Rattle.rb_rules.specs.declared.closing.Closed.{Closed}
-use Rattle.rb_rules.specs.declared.sense.Sense.{Sense}
-use Rattle.rb_rules.specs.Core.{state_at}
-use Rattle.rb_rules.specs.ExactStage.{each_node}
-use Rattle.rb_rules.specs.Goodness.{Scenario}
-use Rattle.rb_rules.specs.Lawful.{IsLawful}
-use Rattle.rb_rules.specs.Moments.{IsComplete, IsRunning}
-use Rattle.rb_rules.specs.NodeState.{NodeState}
-use Rattle.rb_rules.specs.Plan.{f0_of}
-use Rattle.rb_rules.specs.Ports.{HandIn}
-use Rattle.rb_rules.specs.Rounds.{moment, windows_in}
-use Rattle.rb_rules.specs.Sense.{stamp_in}
-use Rattle.rb_rules.specs.Standing.{taken_of}
-use Rattle.rb_rules.specs.SyncStage.{close_sync, expects_call, see_time, sync_outcome_of}
+use Rattle.rb_base.specs.{Nodes.Side.Biu, Sizes.{Sizes, sync_slot_of}, declared.values.See.TheVariants.Nothing}
+use Rattle.rb_rules.specs.{declared.closing.Closed.Closed, declared.sense.Sense.Sense, Core.state_at, ExactStage.each_node, Goodness.Scenario, Lawful.IsLawful, Moments.{IsComplete, IsRunning}, NodeState.NodeState, Plan.f0_of, Ports.HandIn, Rounds.{moment, windows_in}, Sense.stamp_in, Standing.taken_of, SyncStage.{close_sync, expects_call, see_time, sync_outcome_of}}
 use Rattle.rb_rules.proofs.RoundStates.{HasTicks}
-use Rattle.rb_laws_agreement.proofs.ExactAgrees.{has_ticks}
-use Rattle.rb_laws_agreement.proofs.Invariant.{Shared}
-use Rattle.rb_laws_agreement.proofs.Places.{running_earlier}
-use Rattle.rb_laws_agreement.proofs.SyncAgrees.{stage_setting}
+use Rattle.rb_laws_agreement.proofs.{ExactAgrees.has_ticks, Invariant.Shared, Places.running_earlier, SyncAgrees.stage_setting}
 use Rattle.rb_laws_synchrony.proofs.CallSights.{get-see, stages_with}
 use Rattle.rb_laws_listener_near.specs.Judged.{verdict_with}
 use Rattle.rb_laws_listener_near.proofs.ListenerNear.{SawTimes}
-use Rattle.rb_laws_listener_learns.specs.Ears.{Ear}
-use Rattle.rb_laws_listener_learns.specs.Receivers.{seen_by, seen_closed, timed_see}
-use Rattle.rb_laws_listener_learns.proofs.FrameStages.{IsAtWindow, at-window, first_of_frame}
-use Rattle.rb_laws_listener_learns.proofs.SyncStages.{StageIs, stage_is}
-use Rattle.rb_laws_listener_follows.proofs.CallTimes.{has_times, time_second}
-use Rattle.rb_laws_listener_follows.proofs.ExactPasses.{IsHeldTo, StandsAt}
-use Rattle.rb_laws_listener_follows.proofs.FirstCalls.{IsSpan, PassesFirst, first_span, passes_first, sense_span, span_closing, span_window}
-use Rattle.rb_laws_listener_follows.proofs.FollowerRuns.{ClosesWindow, IsWindow, Stands, closes_window, closing}
-use Rattle.rb_laws_listener_follows.proofs.SecondCalls.{taken_second}
-use Rattle.rb_laws_listener_follows.proofs.SecondSteps.{PassesSecond, StandsSecond, passes_second, second_span}
-use Rattle.rb_laws_listener_follows.proofs.SeenPremise.{holds_following, most_now, place_synced, seen_following}
-use Rattle.rb_laws_listener_follows.proofs.SeenWindows.{IsPlaceOf, NoneSeen, SeesWindow, seen_stays, sees_window}
-use Rattle.rb_laws_listener_follows.proofs.SyncRuns.{held_in_sync, stands_second}
+use Rattle.rb_laws_listener_learns.specs.{Ears.Ear, Receivers.{seen_by, seen_closed, timed_see}}
+use Rattle.rb_laws_listener_learns.proofs.{FrameStages.{IsAtWindow, at-window, first_of_frame}, SyncStages.{StageIs, stage_is}}
+use Rattle.rb_laws_listener_follows.proofs.{CallTimes.{has_times, time_second}, ExactPasses.{IsHeldTo, StandsAt}, FirstCalls.{IsSpan, PassesFirst, first_span, passes_first, sense_span, span_closing, span_window}, FollowerRuns.{ClosesWindow, IsWindow, Stands, closes_window, closing}, SecondCalls.taken_second, SecondSteps.{PassesSecond, StandsSecond, passes_second, second_span}, SeenPremise.{holds_following, most_now, place_synced, seen_following}, SeenWindows.{IsPlaceOf, NoneSeen, SeesWindow, seen_stays, sees_window}, SyncRuns.{held_in_sync, stands_second}}
 
 -- moment `k` is before stage q + 1 of a frame's sync slot, or before its tail
 pub record IsInSync (sc : Scenario) (hands : List HandIn) (frame k q : ℕ) : Type 0 where

@@ -1,34 +1,14 @@
 -- From stage 1 of the sync slot a listener comes to stage 2.
 use Rattle.std.proofs.Common.{◌≡◌, ℕ, suc, ◌+◌, ◌≤◌, true, List, slice_get, ◌∙◌, ap, subst, arith}
-use Rattle.rb_base.specs.Nodes.{has}
-use Rattle.rb_base.specs.Nodes.Side.{Biu}
-use Rattle.rb_base.specs.Sizes.{sync_slot_of}
+use Rattle.rb_base.specs.{Nodes.has, Nodes.Side.Biu, Sizes.sync_slot_of}
 use Rattle.rb_base.proofs.Plain.{and_second}
-use Rattle.rb_rules.specs.Book.{of_kind}
-use Rattle.rb_rules.specs.Goodness.{Scenario, is_good}
-use Rattle.rb_rules.specs.Moments.{IsRunning}
-use Rattle.rb_rules.specs.NodeState.{NodeState}
-use Rattle.rb_rules.specs.Plan.{f0_of}
-use Rattle.rb_rules.specs.Ports.{HandIn}
-use Rattle.rb_rules.specs.Rounds.{Moment, moment}
-use Rattle.rb_laws_agreement.proofs.Tests.{Passing, Present}
-use Rattle.rb_laws_agreement.proofs.Numbers.{one_of_many}
-use Rattle.rb_laws_agreement.proofs.Premises.{is_sound}
-use Rattle.rb_laws_agreement.proofs.Goodnesses.{slot_last}
-use Rattle.rb_laws_agreement.proofs.Invariant.{Agree, IsGoodNode, Shared, is_good_now}
-use Rattle.rb_laws_agreement.proofs.NextMoments.{next}
-use Rattle.rb_laws_agreement.proofs.NodeWindows.{sync_windows_are}
-use Rattle.rb_laws_agreement.proofs.Settings.{good_state}
-use Rattle.rb_laws_agreement.proofs.SyncAgrees.{SyncSetting, agree_sync}
-use Rattle.rb_laws_synchrony.proofs.SyncSteps.{IsPassedStage, near_first}
-use Rattle.rb_laws_synchrony.proofs.Synchronous.{Synchronous}
+use Rattle.rb_rules.specs.{Book.of_kind, Goodness.{Scenario, is_good}, Moments.IsRunning, NodeState.NodeState, Plan.f0_of, Ports.HandIn, Rounds.{Moment, moment}}
+use Rattle.rb_laws_agreement.proofs.{Tests.{Passing, Present}, Numbers.one_of_many, Premises.is_sound, Goodnesses.slot_last, Invariant.{Agree, IsGoodNode, Shared, is_good_now}, NextMoments.next, NodeWindows.sync_windows_are, Settings.good_state, SyncAgrees.{SyncSetting, agree_sync}}
+use Rattle.rb_laws_synchrony.proofs.{SyncSteps.{IsPassedStage, near_first}, Synchronous.Synchronous}
 use Rattle.rb_laws_events.proofs.TurnTicks.{no-next}
 use Rattle.rb_laws_listener_learns.specs.Ears.{Ear}
-use Rattle.rb_laws_listener_near.proofs.SyncTracks.{IsLike}
-use Rattle.rb_laws_listener_near.proofs.Tracking.{Held, Tracks, held-by}
-use Rattle.rb_laws_listener_follows.proofs.ExactSteps.{Abides}
-use Rattle.rb_laws_listener_follows.proofs.FirstCalls.{PassesFirst}
-use Rattle.rb_laws_listener_follows.proofs.SecondSteps.{StandsSecond}
+use Rattle.rb_laws_listener_near.proofs.{SyncTracks.IsLike, Tracking.{Held, Tracks, held-by}}
+use Rattle.rb_laws_listener_follows.proofs.{ExactSteps.Abides, FirstCalls.PassesFirst, SecondSteps.StandsSecond}
 
 -- if a stage of the sync slot passes, a listener that keeps up holds what all good nodes do
 pub held_like : (sc : Scenario) (hands : List HandIn) (n q : ℕ) (s : Shared) → IsPassedStage sc hands n (moment sc hands n) s q → (st : NodeState) → IsLike sc (moment sc hands n) st → Held sc (moment sc hands n) s st

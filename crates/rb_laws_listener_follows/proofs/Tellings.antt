@@ -1,27 +1,14 @@
 -- What a listener that follows tells with a tick.
-use Rattle.std.proofs.Common.{◌≡◌, ℕ, ◌+◌, ◌^◌, ◌<◌, ◌&&◌, not, nat_lt, Bool, true, false, Option, Some, None, [], refl, sym, ◌∙◌, ap}
+use Rattle.std.proofs.{Common.{◌≡◌, ℕ, ◌+◌, ◌^◌, ◌<◌, ◌&&◌, not, nat_lt, Bool, true, false, Option, Some, None, [], refl, sym, ◌∙◌, ap}, lemmas.Bool.eq-eqb}
 use Rattle.std.specs.Option.{option_and_then}
-use Rattle.std.proofs.lemmas.Bool.{eq-eqb}
-use Rattle.rb_base.specs.Nodes.{Side, has, set_of}
-use Rattle.rb_base.specs.Nodes.Side.{Biu, Rmu}
-use Rattle.rb_base.specs.Sizes.{Sizes}
-use Rattle.rb_rules.specs.declared.closing.Closed.{Closed}
-use Rattle.rb_rules.specs.declared.plan.Plan.{Plan}
-use Rattle.rb_rules.specs.declared.record.Epoch.{Epoch}
-use Rattle.rb_rules.specs.Core.{Act, Core, act_on, epoch_at, is_last, of_source, state_at, window_here}
-use Rattle.rb_rules.specs.ExactStage.{Outcome}
-use Rattle.rb_rules.specs.Goodness.{Scenario}
-use Rattle.rb_rules.specs.Hearing.{close_window, epoch_of}
-use Rattle.rb_rules.specs.NodeState.{NodeState, trusted_of}
-use Rattle.rb_rules.specs.NodeSteps.{convicted_of}
-use Rattle.rb_rules.specs.Slots.{count_of}
+use Rattle.rb_base.specs.{Nodes.{Side, has, set_of}, Nodes.Side.{Biu, Rmu}, Sizes.Sizes}
+use Rattle.rb_rules.specs.{declared.closing.Closed.Closed, declared.plan.Plan.Plan, declared.record.Epoch.Epoch, Core.{Act, Core, act_on, epoch_at, is_last, of_source, state_at, window_here}, ExactStage.Outcome, Goodness.Scenario, Hearing.{close_window, epoch_of}, NodeState.{NodeState, trusted_of}, NodeSteps.convicted_of, Slots.count_of}
 use Rattle.rb_laws_agreement.proofs.Exchanges.{trusted-either}
-use Rattle.rb_listen.specs.Following.{follow}
-use Rattle.rb_listen.specs.Listening.{followed, heed}
-use Rattle.rb_listen.specs.Listening as now
+use Rattle.rb_listen.specs.{Following.follow, Listening.{followed, heed}}
 use Rattle.rb_laws_listener_learns.specs.Ears.{Ear, listening_at, told_at}
 use Rattle.rb_laws_listener_follows.specs.Following.{epoch_with}
 use Rattle.rb_laws_listener_follows.proofs.FollowerRuns.{acts_by}
+use Rattle.rb_listen.specs.Listening as now
 
 -- an act tells the start of a frame if its tick is the epoch
 act-epoch : (sizes : Sizes) (plan : Plan) (c : Core) (st : NodeState) → (act_on sizes plan Biu 16 c st None st).epoch ≡ epoch_at sizes Biu st c.had

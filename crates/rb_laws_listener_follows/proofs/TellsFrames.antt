@@ -1,24 +1,14 @@
 -- A listener that stands before the first window of a frame tells the frame's start as the good
 -- nodes do.
 use Rattle.std.proofs.Common.{◌≡◌, ℕ, suc, ◌+◌, ◌-◌, ◌*◌, ◌^◌, ◌<◌, List, [], ◌++◌, Some, refl, sym, ◌∙◌, ap, subst, arith}
-use Rattle.rb_base.specs.Nodes.{Side}
-use Rattle.rb_base.specs.Nodes.Side.{Biu, Rmu}
-use Rattle.rb_rules.specs.Core.{Core, epoch_at, state_at}
-use Rattle.rb_rules.specs.Goodness.{Scenario}
-use Rattle.rb_rules.specs.Moments.{IsGoodBefore, IsRunning}
-use Rattle.rb_rules.specs.NodeState.{NodeState}
-use Rattle.rb_rules.specs.Ports.{HandIn}
-use Rattle.rb_rules.specs.Rounds.{moment, windows_in}
-use Rattle.rb_laws_agreement.proofs.Invariant.{Holds, IsGoodNode}
-use Rattle.rb_laws_agreement.proofs.Places.{IsPlaced, good_before_slot, placed}
-use Rattle.rb_listen.specs.Listening as now
+use Rattle.rb_base.specs.{Nodes.Side, Nodes.Side.{Biu, Rmu}}
+use Rattle.rb_rules.specs.{Core.{Core, epoch_at, state_at}, Goodness.Scenario, Moments.{IsGoodBefore, IsRunning}, NodeState.NodeState, Ports.HandIn, Rounds.{moment, windows_in}}
+use Rattle.rb_laws_agreement.proofs.{Invariant.{Holds, IsGoodNode}, Places.{IsPlaced, good_before_slot, placed}}
 use Rattle.rb_laws_listener_learns.specs.Ears.{Ear, listening_at, told_at}
 use Rattle.rb_laws_listener_learns.proofs.FrameStages.{first_of_frame}
 use Rattle.rb_laws_listener_follows.specs.Following.{epoch_with}
-use Rattle.rb_laws_listener_follows.proofs.ExactPasses.{StandsAt}
-use Rattle.rb_laws_listener_follows.proofs.FollowerRuns.{Stands, arrivals, hears_all, heeds_core}
-use Rattle.rb_laws_listener_follows.proofs.Tellings.{tells_epoch, tells_frame}
-use Rattle.rb_laws_listener_follows.proofs.TurnSets.{HoldsSets}
+use Rattle.rb_laws_listener_follows.proofs.{ExactPasses.StandsAt, FollowerRuns.{Stands, arrivals, hears_all, heeds_core}, Tellings.{tells_epoch, tells_frame}, TurnSets.HoldsSets}
+use Rattle.rb_listen.specs.Listening as now
 
 pub tells_at : (sc : Scenario) (hands : List HandIn) (ear : Ear) (f epoch low : ℕ) → StandsAt sc hands ear (suc f) 0 epoch low → epoch < ear.ticks
     → (me : Side) (i : ℕ) (b : NodeState) → IsGoodBefore sc hands (suc f) 0 me i b → (told_at sc ear epoch).epoch ≡ Some (epoch_with sc (suc f) epoch me b)

@@ -2,12 +2,8 @@
 -- verdict.
 use Rattle.std.proofs.Common.{◌≡◌, ℕ, ◌&&◌, ◌||◌, not, Bool, true, false, List, [], ◌∷◌, Option, Some, None, length, if◌then◌else◌, refl, ◌∙◌, ap}
 use Rattle.std.specs.List.{list_any}
-use Rattle.rb_base.specs.Nodes.{Side, has, set_of}
-use Rattle.rb_base.specs.Nodes.Side.{Biu, Rmu}
-use Rattle.rb_base.specs.declared.values.See.{See}
-use Rattle.rb_base.specs.declared.values.See.TheVariants.{Nothing}
-use Rattle.rb_base.proofs.Plain.{and-same}
-use Rattle.rb_base.proofs.Sets.{same_set_of}
+use Rattle.rb_base.specs.{Nodes.{Side, has, set_of}, Nodes.Side.{Biu, Rmu}, declared.values.See.See, declared.values.See.TheVariants.Nothing}
+use Rattle.rb_base.proofs.{Plain.and-same, Sets.same_set_of}
 use Rattle.rb_rules.specs.Judging.{JudgedStage, are_alike, cause_of, good_now, is_something, is_suspect, some_receiver, trusted_now, was_taken, was_unlike}
 use Rattle.rb_laws_listener_near.specs.Judged.{classes_with, heard_stages, is_asymmetric_with, is_benign_with, took_of, unlike_some, verdict_with, was_taken_with, was_unlike_with}
 

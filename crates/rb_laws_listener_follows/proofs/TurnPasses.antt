@@ -1,54 +1,17 @@
 -- From the end of the sync slot a listener comes through the tail, which may be empty, to the first
 -- window of its next frame.
-use Rattle.std.proofs.Common.{◌≡◌, ℕ, suc, ◌+◌, ◌-◌, ◌*◌, ◌/◌, ◌%◌, ◌<◌, ◌≤◌, ◌==◌, ◌&&◌, true, false, List, Option, Some, None, unwrap_or, inl, inr, refl, sym, ◌∙◌, ap, subst, arith}
-use Rattle.std.proofs.lemmas.Bool.{cases_lt, eqb-true, false_from_ne_true}
-use Rattle.std.proofs.lemmas.Option.{same_Some}
-use Rattle.rb_base.specs.Nodes.Side.{Biu}
-use Rattle.rb_base.specs.Sizes.{sync_slot_of}
+use Rattle.std.proofs.{Common.{◌≡◌, ℕ, suc, ◌+◌, ◌-◌, ◌*◌, ◌/◌, ◌%◌, ◌<◌, ◌≤◌, ◌==◌, ◌&&◌, true, false, List, Option, Some, None, unwrap_or, inl, inr, refl, sym, ◌∙◌, ap, subst, arith}, lemmas.Bool.{cases_lt, eqb-true, false_from_ne_true}, lemmas.Option.same_Some}
+use Rattle.rb_base.specs.{Nodes.Side.Biu, Sizes.sync_slot_of}
 use Rattle.rb_base.proofs.Plain.{and_second}
-use Rattle.rb_rules.specs.declared.closing.Closed.{Closed}
-use Rattle.rb_rules.specs.declared.sense.Sense.{Sense}
-use Rattle.rb_rules.specs.Conviction.{turn}
-use Rattle.rb_rules.specs.Goodness.{Scenario}
-use Rattle.rb_rules.specs.Hearing.{window_numbered}
-use Rattle.rb_rules.specs.Lawful.{IsLawful}
-use Rattle.rb_rules.specs.Moments.{IsComplete, IsRunning}
-use Rattle.rb_rules.specs.NodeState.{NodeState}
-use Rattle.rb_rules.specs.Plan.{tail_start_of}
-use Rattle.rb_rules.specs.Ports.{HandIn}
-use Rattle.rb_rules.specs.Rounds.{moment, next_frame, windows_in}
-use Rattle.rb_rules.specs.SyncStage.{new_epoch_of}
-use Rattle.rb_rules.specs.Windows.{tail_of}
+use Rattle.rb_rules.specs.{declared.closing.Closed.Closed, declared.sense.Sense.Sense, Conviction.turn, Goodness.Scenario, Hearing.window_numbered, Lawful.IsLawful, Moments.{IsComplete, IsRunning}, NodeState.NodeState, Plan.tail_start_of, Ports.HandIn, Rounds.{moment, next_frame, windows_in}, SyncStage.new_epoch_of, Windows.tail_of}
 use Rattle.rb_rules.proofs.WindowNumbers.{sync-numbered}
-use Rattle.rb_laws_agreement.proofs.ExactAgrees.{has_ticks}
-use Rattle.rb_laws_agreement.proofs.FrameAgrees.{shared_next}
-use Rattle.rb_laws_agreement.proofs.FrameTurns.{AtEnd}
-use Rattle.rb_laws_agreement.proofs.FrameBegins.{IsTurn, frame_turns}
-use Rattle.rb_laws_agreement.proofs.Invariant.{Agree, Shared}
-use Rattle.rb_laws_agreement.proofs.NextMoments.{next}
-use Rattle.rb_laws_agreement.proofs.NodeWindows.{tail_windows}
-use Rattle.rb_laws_agreement.proofs.Places.{running_earlier}
-use Rattle.rb_laws_agreement.proofs.SlotRuns.{next-frame, next-window}
-use Rattle.rb_laws_agreement.proofs.SyncAgrees.{SyncSetting, agree_sync, tail_setting}
+use Rattle.rb_laws_agreement.proofs.{ExactAgrees.has_ticks, FrameAgrees.shared_next, FrameTurns.AtEnd, FrameBegins.{IsTurn, frame_turns}, Invariant.{Agree, Shared}, NextMoments.next, NodeWindows.tail_windows, Places.running_earlier, SlotRuns.{next-frame, next-window}, SyncAgrees.{SyncSetting, agree_sync, tail_setting}}
 use Rattle.rb_laws_events.proofs.TurnTicks.{not-yet}
-use Rattle.rb_laws_synchrony.proofs.LastStage.{near_tail}
-use Rattle.rb_laws_synchrony.proofs.Synchronous.{Synchronous}
+use Rattle.rb_laws_synchrony.proofs.{LastStage.near_tail, Synchronous.Synchronous}
 use Rattle.rb_laws_listener_near.proofs.SyncTracks.{IsLike, like_next}
-use Rattle.rb_laws_listener_learns.specs.Ears.{Ear}
-use Rattle.rb_laws_listener_learns.specs.Receivers.{is_window, seen_by}
+use Rattle.rb_laws_listener_learns.specs.{Ears.Ear, Receivers.{is_window, seen_by}}
 use Rattle.rb_laws_listener_learns.proofs.FrameStages.{at-window, first_of_frame}
-use Rattle.rb_laws_listener_follows.proofs.ExactPasses.{IsHeldTo, StandsAt}
-use Rattle.rb_laws_listener_follows.proofs.ExactSteps.{Abides}
-use Rattle.rb_laws_listener_follows.proofs.FirstCalls.{IsSpan, sense_span, span_closing, span_window}
-use Rattle.rb_laws_listener_follows.proofs.FollowerRuns.{IsWindow, Stands, closing}
-use Rattle.rb_laws_listener_follows.proofs.HeardLast.{NextBegins}
-use Rattle.rb_laws_listener_follows.proofs.LatePasses.{StandsAtTail, tail_keeps}
-use Rattle.rb_laws_listener_follows.proofs.LateSteps.{IsDeaf, PassesLate, SparesNext, StandsLate, passes_late}
-use Rattle.rb_laws_listener_follows.proofs.SeenPremise.{place_synced}
-use Rattle.rb_laws_listener_follows.proofs.SeenWindows.{NoneSeen, closes_last, closes_nothing, none_later, seen_none, seen_quiet}
-use Rattle.rb_laws_listener_follows.proofs.SyncPasses.{IsInSync, in_sync, sync_moment}
-use Rattle.rb_laws_listener_follows.proofs.TurnSteps.{turns_next}
-use Rattle.rb_laws_listener_follows.proofs.TurnSets.{HoldsSets, turned_sets}
+use Rattle.rb_laws_listener_follows.proofs.{ExactPasses.{IsHeldTo, StandsAt}, ExactSteps.Abides, FirstCalls.{IsSpan, sense_span, span_closing, span_window}, FollowerRuns.{IsWindow, Stands, closing}, HeardLast.NextBegins, LatePasses.{StandsAtTail, tail_keeps}, LateSteps.{IsDeaf, PassesLate, SparesNext, StandsLate, passes_late}, SeenPremise.place_synced, SeenWindows.{NoneSeen, closes_last, closes_nothing, none_later, seen_none, seen_quiet}, SyncPasses.{IsInSync, in_sync, sync_moment}, TurnSteps.turns_next, TurnSets.{HoldsSets, turned_sets}}
 
 -- ---- the tail
 

@@ -1,24 +1,9 @@
 -- With its turn a listener holds the trusted nodes that all good nodes hold then.
 use Rattle.std.proofs.Common.{◌≡◌, ℕ, ◌+◌, true, List, sym, ◌∙◌, ap, arith}
-use Rattle.rb_base.specs.Nodes.{has}
-use Rattle.rb_base.specs.Nodes.Side.{Biu, Rmu}
-use Rattle.rb_base.specs.Sizes.{sync_slot_of}
+use Rattle.rb_base.specs.{Nodes.has, Nodes.Side.{Biu, Rmu}, Sizes.sync_slot_of}
 use Rattle.rb_base.proofs.Plain.{and_second}
-use Rattle.rb_rules.specs.Conviction.{convicted_at, turn}
-use Rattle.rb_rules.specs.Goodness.{Scenario, is_good}
-use Rattle.rb_rules.specs.NodeState.{NodeState}
-use Rattle.rb_rules.specs.Ports.{HandIn}
-use Rattle.rb_rules.specs.Rounds.{Moment}
-use Rattle.rb_rules.specs.Standing.{without}
-use Rattle.rb_laws_agreement.proofs.FrameAgrees.{next-trusted, shared_next}
-use Rattle.rb_laws_agreement.proofs.FrameTurns.{AtEnd, convicted_held}
-use Rattle.rb_laws_agreement.proofs.Goodnesses.{slot_last}
-use Rattle.rb_laws_agreement.proofs.Invariant.{Holds, Shared, is_good_now}
-use Rattle.rb_laws_agreement.proofs.Numbers.{one_of_many}
-use Rattle.rb_laws_agreement.proofs.Premises.{Premise, is_sound}
-use Rattle.rb_laws_agreement.proofs.SecondStages.{GoodOne}
-use Rattle.rb_laws_agreement.proofs.Settings.{good_state}
-use Rattle.rb_laws_agreement.proofs.Tests.{Passing}
+use Rattle.rb_rules.specs.{Conviction.{convicted_at, turn}, Goodness.{Scenario, is_good}, NodeState.NodeState, Ports.HandIn, Rounds.Moment, Standing.without}
+use Rattle.rb_laws_agreement.proofs.{FrameAgrees.{next-trusted, shared_next}, FrameTurns.{AtEnd, convicted_held}, Goodnesses.slot_last, Invariant.{Holds, Shared, is_good_now}, Numbers.one_of_many, Premises.{Premise, is_sound}, SecondStages.GoodOne, Settings.good_state, Tests.Passing}
 use Rattle.rb_laws_listener_near.specs.Holding.{HoldAlike}
 use Rattle.rb_laws_listener_near.proofs.SyncTracks.{IsLike, bius_convicted, rmus_convicted}
 

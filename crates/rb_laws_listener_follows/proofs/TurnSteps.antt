@@ -1,29 +1,14 @@
 -- With the first tick of its next frame a listener turns as the good BIUs do, and stands before the
 -- frame's first window.
 use Rattle.std.proofs.Common.{◌≡◌, ℕ, suc, ◌+◌, ◌*◌, true, List, None, refl, sym, ◌∙◌, ap, subst, arith}
-use Rattle.rb_base.specs.Nodes.Side.{Biu, Rmu}
-use Rattle.rb_base.specs.Sizes.{Sizes}
-use Rattle.rb_rules.specs.declared.plan.Plan.{Plan}
-use Rattle.rb_rules.specs.Conviction.{turn}
-use Rattle.rb_rules.specs.Core.{state_at}
-use Rattle.rb_rules.specs.Goodness.{Scenario, is_good}
-use Rattle.rb_rules.specs.Moments.{IsRunning}
-use Rattle.rb_rules.specs.NodeState.{NodeState}
-use Rattle.rb_rules.specs.Ports.{HandIn}
-use Rattle.rb_rules.specs.Rounds.{moment, next_frame, windows_in}
-use Rattle.rb_rules.specs.SyncStage.{new_epoch_of}
-use Rattle.rb_laws_agreement.proofs.FrameAgrees.{agree_frame, shared_next}
-use Rattle.rb_laws_agreement.proofs.FrameTurns.{AtEnd}
-use Rattle.rb_laws_agreement.proofs.Invariant.{Agree, Shared, is_good_now, slot_numbered}
+use Rattle.rb_base.specs.{Nodes.Side.{Biu, Rmu}, Sizes.Sizes}
+use Rattle.rb_rules.specs.{declared.plan.Plan.Plan, Conviction.turn, Core.state_at, Goodness.{Scenario, is_good}, Moments.IsRunning, NodeState.NodeState, Ports.HandIn, Rounds.{moment, next_frame, windows_in}, SyncStage.new_epoch_of}
+use Rattle.rb_laws_agreement.proofs.{FrameAgrees.{agree_frame, shared_next}, FrameTurns.AtEnd, Invariant.{Agree, Shared, is_good_now, slot_numbered}}
 use Rattle.rb_laws_events.proofs.NodeMoves.{turn-at}
 use Rattle.rb_laws_listener_learns.specs.Ears.{Ear}
-use Rattle.rb_laws_listener_near.proofs.SyncTracks.{tracks_turn, turns_with}
-use Rattle.rb_laws_listener_near.proofs.Tracking.{Tracks}
-use Rattle.rb_laws_synchrony.proofs.EpochTicks.{turned-frame}
-use Rattle.rb_laws_synchrony.proofs.CallTicks.{begins-at}
-use Rattle.rb_laws_listener_follows.proofs.ExactSteps.{Abides}
-use Rattle.rb_laws_listener_follows.proofs.FollowerRuns.{Stands}
-use Rattle.rb_laws_listener_follows.proofs.LateSteps.{StandsLate}
+use Rattle.rb_laws_listener_near.proofs.{SyncTracks.{tracks_turn, turns_with}, Tracking.Tracks}
+use Rattle.rb_laws_synchrony.proofs.{EpochTicks.turned-frame, CallTicks.begins-at}
+use Rattle.rb_laws_listener_follows.proofs.{ExactSteps.Abides, FollowerRuns.Stands, LateSteps.StandsLate}
 
 -- the epoch after a turn is that of the turn
 turned-epoch : (sizes : Sizes) (probation epoch : ℕ) (st : NodeState) → (turn sizes probation Biu epoch st).epoch ≡ epoch

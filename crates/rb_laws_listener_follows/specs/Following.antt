@@ -1,38 +1,11 @@
 -- What it is that a listener follows the bus, from the frame after the one that it learned on.
 use Rattle.std.specs.Prelude.{ℕ, ◌≡◌, ◌+◌, ◌-◌, ◌*◌, ◌<◌, ◌≤◌, ◌==◌, if◌then◌else◌, Option, Some, None, List, slice_get}
-use Rattle.rb_base.specs.Nodes.{Side}
-use Rattle.rb_base.specs.Nodes.Side.{Biu, Rmu}
-use Rattle.rb_base.specs.Sizes.{Sizes, sync_slot_of}
-use Rattle.rb_base.specs.declared.values.Delivery.{Delivery}
-use Rattle.rb_base.specs.declared.values.Heard.{Heard}
-use Rattle.rb_rules.specs.declared.closing.Closed.{Closed}
-use Rattle.rb_rules.specs.declared.record.Epoch.{Epoch}
-use Rattle.rb_rules.specs.declared.plan.Plan.{Plan}
-use Rattle.rb_rules.specs.declared.plan.Window.{Window}
-use Rattle.rb_rules.specs.declared.role.Role.{Role}
-use Rattle.rb_rules.specs.declared.role.Role.TheVariants.{Data}
-use Rattle.rb_rules.specs.declared.sense.Sense.{Sense}
-use Rattle.rb_rules.specs.AbstractBus.{AbstractBus, sender_on}
-use Rattle.rb_rules.specs.Clock.{time_of}
-use Rattle.rb_rules.specs.Core.{Core, state_at}
-use Rattle.rb_rules.specs.Goodness.{Scenario}
-use Rattle.rb_rules.specs.Lawful.{IsLawful}
-use Rattle.rb_rules.specs.Moments.{IsGoodBefore, IsReached, time_in_frame}
-use Rattle.rb_rules.specs.NodeState.{NodeState}
-use Rattle.rb_rules.specs.NodeSteps.{convicted_of}
-use Rattle.rb_rules.specs.Ports.{HandIn}
-use Rattle.rb_rules.specs.Rounds.{windows_in}
-use Rattle.rb_rules.specs.Slots.{Sender, role_of}
-use Rattle.rb_rules.specs.Slots.Sender.{Node}
-use Rattle.rb_rules.specs.StandsFor.{HoldsOwners, HoldsTrusted, StandsFor, steps_to, value_on}
-use Rattle.rb_rules.specs.Windows.{windows_of_frame}
-use Rattle.rb_listen.specs.Following.{follow}
-use Rattle.rb_listen.specs.Listening as now
-use Rattle.rb_listen.specs.declared.search.Search.{Search}
+use Rattle.rb_base.specs.{Nodes.Side, Nodes.Side.{Biu, Rmu}, Sizes.{Sizes, sync_slot_of}, declared.values.Delivery.Delivery, declared.values.Heard.Heard}
+use Rattle.rb_rules.specs.{declared.closing.Closed.Closed, declared.record.Epoch.Epoch, declared.plan.Plan.Plan, declared.plan.Window.Window, declared.role.Role.Role, declared.role.Role.TheVariants.Data, declared.sense.Sense.Sense, AbstractBus.{AbstractBus, sender_on}, Clock.time_of, Core.{Core, state_at}, Goodness.Scenario, Lawful.IsLawful, Moments.{IsGoodBefore, IsReached, time_in_frame}, NodeState.NodeState, NodeSteps.convicted_of, Ports.HandIn, Rounds.windows_in, Slots.{Sender, role_of}, Slots.Sender.Node, StandsFor.{HoldsOwners, HoldsTrusted, StandsFor, steps_to, value_on}, Windows.windows_of_frame}
+use Rattle.rb_listen.specs.{Following.follow, declared.search.Search.Search}
 use Rattle.rb_laws_listener_near.specs.Laws.{LieWithin}
-use Rattle.rb_laws_listener_learns.specs.Deciding.{DecidesBy}
-use Rattle.rb_laws_listener_learns.specs.Ears.{Ear, HearsTheRun, IsEar, listening_at, told_at}
-use Rattle.rb_laws_listener_learns.specs.Receivers.{HoldsTo, IsCalm}
+use Rattle.rb_laws_listener_learns.specs.{Deciding.DecidesBy, Ears.{Ear, HearsTheRun, IsEar, listening_at, told_at}, Receivers.{HoldsTo, IsCalm}}
+use Rattle.rb_listen.specs.Listening as now
 
 -- the frame begins before the first breach of the premise with the listener
 pub record IsReachedWell (sc : Scenario) (hands : List HandIn) (ear : Ear) (learned : ℕ) (records : List Sense) (frame : ℕ) : Type 0 where

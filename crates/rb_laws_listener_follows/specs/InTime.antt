@@ -1,14 +1,7 @@
 -- What a listener hears of good RMUs in the windows of a frame that it begins near the good nodes.
 use Rattle.std.specs.Prelude.{ℕ, ◌≡◌, ◌+◌, ◌-◌, ◌*◌, ◌/◌, ◌<◌, ◌≤◌, true, List}
-use Rattle.rb_base.specs.Nodes.{Side}
-use Rattle.rb_base.specs.Nodes.Side.{Rmu}
-use Rattle.rb_rules.specs.Clock.{IsStamp, time_of}
-use Rattle.rb_rules.specs.Goodness.{Scenario, is_good}
-use Rattle.rb_rules.specs.Hearing.{Coming, Sending}
-use Rattle.rb_rules.specs.Moments.{IsGoodBefore, time_in_frame}
-use Rattle.rb_rules.specs.NodeState.{NodeState}
-use Rattle.rb_rules.specs.Ports.{HandIn}
-use Rattle.rb_rules.specs.Rounds.{windows_in}
+use Rattle.rb_base.specs.{Nodes.Side, Nodes.Side.Rmu}
+use Rattle.rb_rules.specs.{Clock.{IsStamp, time_of}, Goodness.{Scenario, is_good}, Hearing.{Coming, Sending}, Moments.{IsGoodBefore, time_in_frame}, NodeState.NodeState, Ports.HandIn, Rounds.windows_in}
 use Rattle.rb_laws_listener_near.specs.Laws.{LieWithin}
 use Rattle.rb_laws_listener_learns.specs.Ears.{Ear, IsHeard, SendsIn, coming_to}
 

@@ -1,16 +1,9 @@
 -- What is proved of a listener beside a run of the bus, from its first frame on.
 use Rattle.std.specs.Prelude.{ℕ, ◌≡◌, ◌+◌, ◌<◌, ◌≤◌, Some, List}
 use Rattle.rb_base.specs.Sizes.{sync_slot_of}
-use Rattle.rb_rules.specs.Goodness.{Scenario}
-use Rattle.rb_rules.specs.Lawful.{IsLawful}
-use Rattle.rb_rules.specs.Moments.{IsRunning, before_stage}
-use Rattle.rb_rules.specs.Ports.{HandIn}
-use Rattle.rb_listen.specs.Lessons.{first_of}
-use Rattle.rb_listen.specs.declared.lesson.First.{First}
-use Rattle.rb_listen.specs.declared.search.Search.{Search}
-use Rattle.rb_laws_listener_learns.specs.Deciding.{DecidesBy}
-use Rattle.rb_laws_listener_learns.specs.Ears.{Ear, HearsTheRun, IsEar}
-use Rattle.rb_laws_listener_learns.specs.Receivers.{IsCalm}
+use Rattle.rb_rules.specs.{Goodness.Scenario, Lawful.IsLawful, Moments.{IsRunning, before_stage}, Ports.HandIn}
+use Rattle.rb_listen.specs.{Lessons.first_of, declared.lesson.First.First, declared.search.Search.Search}
+use Rattle.rb_laws_listener_learns.specs.{Deciding.DecidesBy, Ears.{Ear, HearsTheRun, IsEar}, Receivers.IsCalm}
 use Rattle.rb_laws_listener_follows.specs.InTime.{BeginsNear, HearsTheStage}
 
 -- a listener that begins a frame near the good nodes hears in each window below the sync slot what

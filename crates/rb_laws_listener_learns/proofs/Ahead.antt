@@ -1,51 +1,15 @@
 -- The first frame of a listener begins after the tick at which it decides.
-use Rattle.std.proofs.Common.{◌≡◌, ℕ, ◌+◌, ◌-◌, ◌*◌, ◌<◌, ◌≤◌, ◌==◌, ◌&&◌, not, nat_lt, Bool, true, false, Option, Some, None, is_some, option_map, if◌then◌else◌, List, refl, sym, ◌∙◌, ap, arith}
-use Rattle.std.proofs.lemmas.Bool.{eqb-true, ltb-true}
-use Rattle.rb_base.specs.Counting.{count_if, numbers}
-use Rattle.rb_base.specs.Nodes.{has, set_of, size}
-use Rattle.rb_base.specs.Nodes.Side.{Rmu}
-use Rattle.rb_base.specs.Sizes.{Sizes, sync_slot_of}
-use Rattle.rb_base.proofs.Plain.{and_first, and_second}
-use Rattle.rb_base.proofs.Sets.{has-set_of}
-use Rattle.rb_rules.specs.declared.message.Message.{Message}
-use Rattle.rb_rules.specs.declared.plan.Plan.{Plan}
-use Rattle.rb_rules.specs.Clock.{IsStamp}
-use Rattle.rb_rules.specs.ExactStage.{each_node, present}
-use Rattle.rb_rules.specs.Goodness.{Scenario, is_good}
-use Rattle.rb_rules.specs.Hearing.{Sending}
-use Rattle.rb_rules.specs.Lawful.{IsDelay, IsLawful}
-use Rattle.rb_rules.specs.Plan.{f0_of, shortest_of}
-use Rattle.rb_rules.specs.Ports.{HandIn}
-use Rattle.rb_rules.specs.Rounds.{moment}
-use Rattle.rb_rules.specs.Sense.{stamp_in}
-use Rattle.rb_rules.specs.Slots.{first_diagnosis_of, role_of}
-use Rattle.rb_rules.specs.Middle.{IsMiddle}
-use Rattle.rb_rules.proofs.Middles.{IsBetween}
-use Rattle.rb_rules.proofs.Slots.{sync_role}
-use Rattle.rb_laws_agreement.proofs.Agreement.{IsAgreed, agreement}
-use Rattle.rb_laws_agreement.proofs.Numbers.{how_many, how_many-is}
-use Rattle.rb_laws_synchrony.proofs.Middles.{HasStamp, middle_within, some_middle}
-use Rattle.rb_laws_synchrony.proofs.PlanNumbers.{drift_of, eps_of}
-use Rattle.rb_laws_synchrony.proofs.Synchronous.{from_2, to_2}
-use Rattle.rb_laws_synchrony.proofs.Synchrony.{IsSynchronous, synchrony}
-use Rattle.rb_laws_synchrony.proofs.Times.{lawful_fits, plan_fits}
+use Rattle.std.proofs.{Common.{◌≡◌, ℕ, ◌+◌, ◌-◌, ◌*◌, ◌<◌, ◌≤◌, ◌==◌, ◌&&◌, not, nat_lt, Bool, true, false, Option, Some, None, is_some, option_map, if◌then◌else◌, List, refl, sym, ◌∙◌, ap, arith}, lemmas.Bool.{eqb-true, ltb-true}}
+use Rattle.rb_base.specs.{Counting.{count_if, numbers}, Nodes.{has, set_of, size}, Nodes.Side.Rmu, Sizes.{Sizes, sync_slot_of}}
+use Rattle.rb_base.proofs.{Plain.{and_first, and_second}, Sets.has-set_of}
+use Rattle.rb_rules.specs.{declared.message.Message.Message, declared.plan.Plan.Plan, Clock.IsStamp, ExactStage.{each_node, present}, Goodness.{Scenario, is_good}, Hearing.Sending, Lawful.{IsDelay, IsLawful}, Plan.{f0_of, shortest_of}, Ports.HandIn, Rounds.moment, Sense.stamp_in, Slots.{first_diagnosis_of, role_of}, Middle.IsMiddle}
+use Rattle.rb_rules.proofs.{Middles.IsBetween, Slots.sync_role}
+use Rattle.rb_laws_agreement.proofs.{Agreement.{IsAgreed, agreement}, Numbers.{how_many, how_many-is}}
+use Rattle.rb_laws_synchrony.proofs.{Middles.{HasStamp, middle_within, some_middle}, PlanNumbers.{drift_of, eps_of}, Synchronous.{from_2, to_2}, Synchrony.{IsSynchronous, synchrony}, Times.{lawful_fits, plan_fits}}
 use Rattle.rb_laws_listener_near.proofs.ListenerMiddles.{others_fewer}
-use Rattle.rb_listen.specs.Lessons.{first_by, first_of, middle_in, ones_in, record_of, recorded_of, stage_recorded, trusted_bius, trusted_rmus, trusts_rmu}
-use Rattle.rb_listen.specs.Passes.{are_most, is_call, is_sync, reach_of}
-use Rattle.rb_listen.specs.declared.lesson.First.{First}
-use Rattle.rb_listen.specs.declared.lesson.Lesson.{Lesson}
-use Rattle.rb_listen.specs.declared.search.Search.{Search}
-use Rattle.rb_laws_listener_learns.specs.Calling.{IsHeardToCall}
-use Rattle.rb_laws_listener_learns.specs.Deciding.{DecidesBy}
-use Rattle.rb_laws_listener_learns.specs.Ears.{Ear, HearsTheRun, IsEar, SendsIn, coming_to, is_always_good}
-use Rattle.rb_laws_listener_learns.specs.Records.{IsRecorded}
-use Rattle.rb_laws_listener_learns.proofs.Calling.{heard-to-call}
-use Rattle.rb_laws_listener_learns.proofs.Deciding.{IsHeardCall}
-use Rattle.rb_laws_listener_learns.proofs.Fresh.{always-good-at}
-use Rattle.rb_laws_listener_learns.proofs.Seeks.{always-counts}
-use Rattle.rb_laws_listener_learns.proofs.Together.{call-time, min-either, near-stamps, steady-ear}
-use Rattle.rb_laws_listener_learns.proofs.TrustedSets.{GoodThere, IsIn, KnowsAt, good-there, knows-at}
-use Rattle.rb_laws_listener_learns.proofs.Whole.{HasLesson, has-lesson}
+use Rattle.rb_listen.specs.{Lessons.{first_by, first_of, middle_in, ones_in, record_of, recorded_of, stage_recorded, trusted_bius, trusted_rmus, trusts_rmu}, Passes.{are_most, is_call, is_sync, reach_of}, declared.lesson.First.First, declared.lesson.Lesson.Lesson, declared.search.Search.Search}
+use Rattle.rb_laws_listener_learns.specs.{Calling.IsHeardToCall, Deciding.DecidesBy, Ears.{Ear, HearsTheRun, IsEar, SendsIn, coming_to, is_always_good}, Records.IsRecorded}
+use Rattle.rb_laws_listener_learns.proofs.{Calling.heard-to-call, Deciding.IsHeardCall, Fresh.always-good-at, Seeks.always-counts, Together.{call-time, min-either, near-stamps, steady-ear}, TrustedSets.{GoodThere, IsIn, KnowsAt, good-there, knows-at}, Whole.{HasLesson, has-lesson}}
 
 -- Calls of one frame come with stamps less than the reach apart.
 

@@ -1,30 +1,16 @@
 -- What an RMU says from when the slot of its onset begins by a clock beside the bus is what a
 -- faulty one may say.
 use Rattle.std.proofs.Common.{◌≡◌, ℕ, ◌+◌, ◌-◌, ◌*◌, ◌≤◌, ◌&&◌, true, List, sym, ◌∙◌, ap, subst, arith}
-use Rattle.rb_base.specs.Nodes.{has, set_of}
-use Rattle.rb_base.specs.Nodes.Side.{Rmu}
+use Rattle.rb_base.specs.{Nodes.{has, set_of}, Nodes.Side.Rmu}
 use Rattle.rb_base.proofs.Plain.{and_first}
-use Rattle.rb_rules.specs.Clock.{time_of}
-use Rattle.rb_rules.specs.Goodness.{Scenario, clock_of}
-use Rattle.rb_rules.specs.Lawful.{IsLawful}
-use Rattle.rb_rules.specs.Moments.{IsRunning, before_slot, time_in_frame}
-use Rattle.rb_rules.specs.Plan.{shortest_of}
-use Rattle.rb_rules.specs.Ports.{HandIn}
-use Rattle.rb_rules.specs.Rounds.{moment, windows_in}
-use Rattle.rb_laws_agreement.proofs.Places.{IsPlaced, placed, running_earlier}
-use Rattle.rb_laws_agreement.proofs.Tests.{Passing}
-use Rattle.rb_laws_synchrony.proofs.PlanNumbers.{drift_of}
-use Rattle.rb_laws_synchrony.proofs.StageCalls.{clock_now}
+use Rattle.rb_rules.specs.{Clock.time_of, Goodness.{Scenario, clock_of}, Lawful.IsLawful, Moments.{IsRunning, before_slot, time_in_frame}, Plan.shortest_of, Ports.HandIn, Rounds.{moment, windows_in}}
+use Rattle.rb_laws_agreement.proofs.{Places.{IsPlaced, placed, running_earlier}, Tests.Passing}
+use Rattle.rb_laws_synchrony.proofs.{PlanNumbers.drift_of, StageCalls.clock_now}
 use Rattle.rb_listen.specs.Passes.{are_most}
 use Rattle.rb_laws_listener_near.specs.Laws.{LieWithin}
 use Rattle.rb_laws_listener_near.proofs.FramesNear.{steady_clock}
-use Rattle.rb_laws_listener_learns.specs.Ears.{is_always_good}
-use Rattle.rb_laws_listener_learns.specs.Laws.{FaultyRmusMaySpeakByAnyClock}
-use Rattle.rb_laws_listener_learns.proofs.Apart.{AllWereAt, WasAt, all-were-at}
-use Rattle.rb_laws_listener_learns.proofs.Fresh.{always-good-in}
-use Rattle.rb_laws_listener_learns.proofs.Meeting.{meet}
-use Rattle.rb_laws_listener_learns.proofs.Seeks.{good-inside, good-rmus, good-set}
-use Rattle.rb_laws_listener_learns.proofs.TrustedSets.{GoodThere, SomeGood, good-there}
+use Rattle.rb_laws_listener_learns.specs.{Ears.is_always_good, Laws.FaultyRmusMaySpeakByAnyClock}
+use Rattle.rb_laws_listener_learns.proofs.{Apart.{AllWereAt, WasAt, all-were-at}, Fresh.always-good-in, Meeting.meet, Seeks.{good-inside, good-rmus, good-set}, TrustedSets.{GoodThere, SomeGood, good-there}}
 
 -- if most RMUs are good in the whole run, some RMU is
 some-good : (sc : Scenario) (hands : List HandIn) → IsLawful sc → are_most sc.sizes (set_of (is_always_good sc hands)) ≡ true → SomeGood sc hands

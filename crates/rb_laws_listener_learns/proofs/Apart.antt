@@ -1,38 +1,12 @@
 -- A good node's frame takes all ticks of its windows, so calls of unlike frames come far apart.
-use Rattle.std.proofs.Common.{◌≡◌, ℕ, zero, suc, ◌+◌, ◌-◌, ◌*◌, ◌<◌, ◌≤◌, List, inl, inr, refl, sym, ◌∙◌, ap, subst, arith}
-use Rattle.std.proofs.lemmas.Bool.{cases_lt}
-use Rattle.std.proofs.Math.Nat.{mul-le-mul_right}
-use Rattle.rb_base.specs.Nodes.{Side}
-use Rattle.rb_base.specs.Nodes.Side.{Rmu}
-use Rattle.rb_base.specs.Sizes.{sync_slot_of}
-use Rattle.rb_rules.specs.Clock.{IsStamp, Timeline, time_of}
-use Rattle.rb_rules.specs.Goodness.{Scenario, clock_of, is_good}
-use Rattle.rb_rules.specs.Hearing.{Sending}
-use Rattle.rb_rules.specs.Lawful.{IsDelay, IsLawful}
-use Rattle.rb_rules.specs.Moments.{IsRunning}
-use Rattle.rb_rules.specs.NodeState.{NodeState}
-use Rattle.rb_rules.specs.Plan.{f0_of, shortest_of, tail_start_of}
-use Rattle.rb_rules.specs.Ports.{HandIn}
-use Rattle.rb_rules.specs.Rounds.{Moment, moment, next_frame, windows_in}
+use Rattle.std.proofs.{Common.{◌≡◌, ℕ, zero, suc, ◌+◌, ◌-◌, ◌*◌, ◌<◌, ◌≤◌, List, inl, inr, refl, sym, ◌∙◌, ap, subst, arith}, lemmas.Bool.cases_lt, Math.Nat.mul-le-mul_right}
+use Rattle.rb_base.specs.{Nodes.Side, Nodes.Side.Rmu, Sizes.sync_slot_of}
+use Rattle.rb_rules.specs.{Clock.{IsStamp, Timeline, time_of}, Goodness.{Scenario, clock_of, is_good}, Hearing.Sending, Lawful.{IsDelay, IsLawful}, Moments.IsRunning, NodeState.NodeState, Plan.{f0_of, shortest_of, tail_start_of}, Ports.HandIn, Rounds.{Moment, moment, next_frame, windows_in}}
 use Rattle.rb_rules.proofs.Drift.{times_rise_to}
-use Rattle.rb_laws_agreement.proofs.Agreement.{IsAgreed, agreement, running_before, step_is}
-use Rattle.rb_laws_agreement.proofs.FrameAgrees.{TurnedFrom, turned_from}
-use Rattle.rb_laws_agreement.proofs.FrameTimes.{turned-epoch}
-use Rattle.rb_laws_agreement.proofs.Goodnesses.{slot_last}
-use Rattle.rb_laws_agreement.proofs.Invariant.{IsGoodNode}
-use Rattle.rb_laws_agreement.proofs.NextMoments.{CameFrom, came_from, next}
-use Rattle.rb_laws_agreement.proofs.NodeWindows.{Windows, sync_windows_are}
-use Rattle.rb_laws_agreement.proofs.SlotRuns.{next-frame}
-use Rattle.rb_laws_synchrony.proofs.PlanNumbers.{drift_of, eps_of}
-use Rattle.rb_laws_synchrony.proofs.StageCalls.{clock_now}
-use Rattle.rb_laws_synchrony.proofs.SyncSteps.{epoch_after}
-use Rattle.rb_laws_synchrony.proofs.Synchronous.{KnowNext, KnowsEpoch, from_2, to_2}
-use Rattle.rb_laws_synchrony.proofs.Synchrony.{IsSynchronous, synchrony}
-use Rattle.rb_laws_synchrony.proofs.Times.{Steady, lawful_fits, plan_fits}
+use Rattle.rb_laws_agreement.proofs.{Agreement.{IsAgreed, agreement, running_before, step_is}, FrameAgrees.{TurnedFrom, turned_from}, FrameTimes.turned-epoch, Goodnesses.slot_last, Invariant.IsGoodNode, NextMoments.{CameFrom, came_from, next}, NodeWindows.{Windows, sync_windows_are}, SlotRuns.next-frame}
+use Rattle.rb_laws_synchrony.proofs.{PlanNumbers.{drift_of, eps_of}, StageCalls.clock_now, SyncSteps.epoch_after, Synchronous.{KnowNext, KnowsEpoch, from_2, to_2}, Synchrony.{IsSynchronous, synchrony}, Times.{Steady, lawful_fits, plan_fits}, EpochTicks.turned-frame}
 use Rattle.rb_listen.specs.Passes.{reach_of}
-use Rattle.rb_laws_synchrony.proofs.EpochTicks.{turned-frame}
-use Rattle.rb_laws_listener_learns.specs.Ears.{Ear, IsEar, SendsIn, coming_to}
-use Rattle.rb_laws_listener_learns.specs.Together.{LaterCallsComeLater}
+use Rattle.rb_laws_listener_learns.specs.{Ears.{Ear, IsEar, SendsIn, coming_to}, Together.LaterCallsComeLater}
 use Rattle.rb_laws_listener_learns.proofs.Together.{call-time, steady-ear}
 
 -- Epochs along a run.

@@ -1,36 +1,10 @@
 -- From when on good nodes begin the frame after calls of the sync slot.
-use Rattle.std.proofs.Common.{◌≡◌, ℕ, suc, ◌+◌, ◌*◌, ◌≤◌, List, Some, option_map, refl, sym, ◌∙◌, ap, subst, arith}
-use Rattle.std.proofs.Math.Nat.{mul-le-mul_left, mul-le-mul_right}
-use Rattle.rb_base.specs.Nodes.{Side}
-use Rattle.rb_base.specs.Nodes.Side.{Biu, Rmu}
-use Rattle.rb_base.specs.Sizes.{sync_slot_of}
-use Rattle.rb_rules.specs.Clock.{time_of}
-use Rattle.rb_rules.specs.Goodness.{Scenario, clock_of}
-use Rattle.rb_rules.specs.Headline.{stated_skew}
-use Rattle.rb_rules.specs.Lawful.{IsLawful}
-use Rattle.rb_rules.specs.Moments.{IsRunning}
-use Rattle.rb_rules.specs.NodeState.{NodeState}
-use Rattle.rb_rules.specs.Plan.{f0_of, shortest_of}
-use Rattle.rb_rules.specs.Ports.{HandIn}
-use Rattle.rb_rules.specs.Rounds.{Moment, moment}
-use Rattle.rb_rules.specs.SyncStage.{new_epoch_of}
+use Rattle.std.proofs.{Common.{◌≡◌, ℕ, suc, ◌+◌, ◌*◌, ◌≤◌, List, Some, option_map, refl, sym, ◌∙◌, ap, subst, arith}, Math.Nat.{mul-le-mul_left, mul-le-mul_right}}
+use Rattle.rb_base.specs.{Nodes.Side, Nodes.Side.{Biu, Rmu}, Sizes.sync_slot_of}
+use Rattle.rb_rules.specs.{Clock.time_of, Goodness.{Scenario, clock_of}, Headline.stated_skew, Lawful.IsLawful, Moments.IsRunning, NodeState.NodeState, Plan.{f0_of, shortest_of}, Ports.HandIn, Rounds.{Moment, moment}, SyncStage.new_epoch_of}
 use Rattle.rb_rules.proofs.Drift.{times_rise_to}
-use Rattle.rb_laws_agreement.proofs.Invariant.{IsGoodNode, Shared}
-use Rattle.rb_laws_agreement.proofs.NextMoments.{CameFrom, came_from, next}
-use Rattle.rb_laws_agreement.proofs.Places.{running_earlier}
-use Rattle.rb_laws_agreement.proofs.Settings.{after}
-use Rattle.rb_laws_agreement.proofs.SlotRuns.{next-window}
-use Rattle.rb_laws_synchrony.proofs.KeptMiddles.{Keeps, keeps, keeps_found}
-use Rattle.rb_laws_synchrony.proofs.LaterStages.{near_second}
-use Rattle.rb_laws_synchrony.proofs.PlanNumbers.{drift_of}
-use Rattle.rb_laws_synchrony.proofs.StageCalls.{clock_now, third_calls}
-use Rattle.rb_laws_synchrony.proofs.StageMiddles.{HearsMiddle, IsHeardStage, hears_middle, ws_of}
-use Rattle.rb_laws_synchrony.proofs.SyncSteps.{IsPassedStage, tick_some}
-use Rattle.rb_laws_synchrony.proofs.Synchronous.{Synchronous, from_2, from_3, heard_from, to_3}
-use Rattle.rb_laws_synchrony.proofs.Synchrony.{IsSynchronous}
-use Rattle.rb_laws_synchrony.proofs.TakenCalls.{is_set}
-use Rattle.rb_laws_synchrony.proofs.TimelyWindows.{good_here}
-use Rattle.rb_laws_synchrony.proofs.Times.{Steady, lawful_fits, plan_fits}
+use Rattle.rb_laws_agreement.proofs.{Invariant.{IsGoodNode, Shared}, NextMoments.{CameFrom, came_from, next}, Places.running_earlier, Settings.after, SlotRuns.next-window}
+use Rattle.rb_laws_synchrony.proofs.{KeptMiddles.{Keeps, keeps, keeps_found}, LaterStages.near_second, PlanNumbers.drift_of, StageCalls.{clock_now, third_calls}, StageMiddles.{HearsMiddle, IsHeardStage, hears_middle, ws_of}, SyncSteps.{IsPassedStage, tick_some}, Synchronous.{Synchronous, from_2, from_3, heard_from, to_3}, Synchrony.IsSynchronous, TakenCalls.is_set, TimelyWindows.good_here, Times.{Steady, lawful_fits, plan_fits}}
 use Rattle.rb_laws_listener_learns.proofs.SyncStages.{StageIs, TurnsAt, stage_is, turns_at}
 
 -- the skew stated at the start of a slot is no more than the ticks before a call make up

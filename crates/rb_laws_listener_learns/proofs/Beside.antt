@@ -1,46 +1,15 @@
 -- A listener beside a run, computed: it hears what the RMU sends, and no more.
-use Rattle.std.proofs.Common.{◌≡◌, ℕ, zero, suc, ◌+◌, ◌-◌, ◌*◌, ◌<◌, ◌≤◌, ◌==◌, ◌&&◌, ◌||◌, not, nat_lt, nat_le, Bool, true, false, List, [], ◌∷◌, Option, Some, None, get_or, slice_get, if◌then◌else◌, inl, inr, lit<, lit≤, refl, sym, ◌∙◌, ap, subst, arith, zero-add}
-use Rattle.std.specs.Prelude.{All, is_none, ◌^◌}
-use Rattle.std.specs.List.{list_all}
-use Rattle.std.proofs.lemmas.Bool.{cases_lt, eqb-true, le-leb, lt-ltb, ltb-true, not-false, or_from}
-use Rattle.std.proofs.lemmas.Bool.Decides.{nat_tests}
-use Rattle.std.proofs.lemmas.List.Elements.{All-cons, All-nil}
-use Rattle.std.proofs.lemmas.List.FromFn.{get_or-range_with_len}
-use Rattle.std.proofs.lemmas.List.Sums.{AllPass-from_list_all}
-use Rattle.std.proofs.lemmas.Option.{same_Some}
-use Rattle.rb_base.specs.Counting.{numbers}
-use Rattle.rb_base.specs.Nodes.{set_of, set_below, size}
+use Rattle.std.proofs.{Common.{◌≡◌, ℕ, zero, suc, ◌+◌, ◌-◌, ◌*◌, ◌<◌, ◌≤◌, ◌==◌, ◌&&◌, ◌||◌, not, nat_lt, nat_le, Bool, true, false, List, [], ◌∷◌, Option, Some, None, get_or, slice_get, if◌then◌else◌, inl, inr, lit<, lit≤, refl, sym, ◌∙◌, ap, subst, arith, zero-add}, lemmas.Bool.{cases_lt, eqb-true, le-leb, lt-ltb, ltb-true, not-false, or_from}, lemmas.Bool.Decides.nat_tests, lemmas.List.Elements.{All-cons, All-nil}, lemmas.List.FromFn.get_or-range_with_len, lemmas.List.Sums.AllPass-from_list_all, lemmas.Option.same_Some}
+use Rattle.std.specs.{Prelude.{All, is_none, ◌^◌}, List.list_all}
+use Rattle.rb_base.specs.{Counting.numbers, Nodes.{set_of, set_below, size}}
 use Rattle.rb_base.proofs.Plain.{and_first, and_second}
-use Rattle.rb_rules.specs.declared.cause.Cause.{Cause}
-use Rattle.rb_rules.specs.declared.sense.Sense.{Sense}
-use Rattle.rb_rules.specs.Book.{with_stage, with_frame}
-use Rattle.rb_rules.specs.Clock.{IsClock, IsStamp, tick_length, time_of}
-use Rattle.rb_rules.specs.Conviction.{turn, convicted_by}
-use Rattle.rb_rules.specs.ExactStage.{close_exact, outcome_of}
-use Rattle.rb_rules.specs.Goodness.{is_before}
-use Rattle.rb_rules.specs.Hearing.{Coming, Sending, sending, heard_from, row_of}
-use Rattle.rb_rules.specs.Judging.{classes_of, verdict_of}
-use Rattle.rb_rules.specs.Lawful.{IsLawful, IsOnsetOf, IsRuleOf}
-use Rattle.rb_rules.specs.Links.{delay_of}
-use Rattle.rb_rules.specs.Moments.{IsComplete}
-use Rattle.rb_rules.specs.NodeState.{NodeState}
-use Rattle.rb_rules.specs.Plan.{longest_of, shortest_of}
-use Rattle.rb_rules.specs.Rounds.{Moment, moment, windows_in, sent_in, close_on, go_through, results_of, after_window, begin_frame, step}
-use Rattle.rb_rules.specs.Spelling.{message_in}
-use Rattle.rb_rules.specs.SyncStage.{close_sync, sync_outcome_of}
-use Rattle.rb_listen.specs.Lessons.{first_of, nothing_recorded}
-use Rattle.rb_listen.specs.Listening.{Listening, first_search, hear, heed, is_deciding, search_on, searching, with_message}
-use Rattle.rb_listen.specs.Listening as now
-use Rattle.rb_listen.specs.Passes.{pass_of}
+use Rattle.rb_rules.specs.{declared.cause.Cause.Cause, declared.sense.Sense.Sense, Book.{with_stage, with_frame}, Clock.{IsClock, IsStamp, tick_length, time_of}, Conviction.{turn, convicted_by}, ExactStage.{close_exact, outcome_of}, Goodness.is_before, Hearing.{Coming, Sending, sending, heard_from, row_of}, Judging.{classes_of, verdict_of}, Lawful.{IsLawful, IsOnsetOf, IsRuleOf}, Links.delay_of, Moments.IsComplete, NodeState.NodeState, Plan.{longest_of, shortest_of}, Rounds.{Moment, moment, windows_in, sent_in, close_on, go_through, results_of, after_window, begin_frame, step}, Spelling.message_in, SyncStage.{close_sync, sync_outcome_of}}
+use Rattle.rb_listen.specs.{Lessons.{first_of, nothing_recorded}, Listening.{Listening, first_search, hear, heed, is_deciding, search_on, searching, with_message}, Passes.pass_of}
 use Rattle.rb_laws_listener_near.specs.Judged.{verdict_with}
-use Rattle.rb_rules.proofs.Feasibility.{feasible_exactly}
-use Rattle.rb_rules.proofs.Books.{GoesOn, moments-on}
+use Rattle.rb_rules.proofs.{Feasibility.feasible_exactly, Books.{GoesOn, moments-on}}
 use Rattle.rb_laws_agreement.proofs.Tests.{or_neither_first, or_neither_second}
-use Rattle.rb_laws_listener_learns.specs.Beside.{comes, decided, ear, found_by, heard_with, if_stamped, is_offset, plan, search_in, sends_at, sends_by, steady, two_frames, window_of}
-use Rattle.rb_laws_listener_learns.specs.Deciding.{DecidesBy}
-use Rattle.rb_laws_listener_learns.specs.Receivers.{HoldsTo, IsCalm, seen_in}
-use Rattle.rb_laws_listener_learns.specs.Seeking.{HasCalls}
-use Rattle.rb_laws_listener_learns.specs.Ears.{HearsTheRun, IsEar, IsHeard, IsOfGood, SendsIn, coming_to, listening_at}
+use Rattle.rb_laws_listener_learns.specs.{Beside.{comes, decided, ear, found_by, heard_with, if_stamped, is_offset, plan, search_in, sends_at, sends_by, steady, two_frames, window_of}, Deciding.DecidesBy, Receivers.{HoldsTo, IsCalm, seen_in}, Seeking.HasCalls, Ears.{HearsTheRun, IsEar, IsHeard, IsOfGood, SendsIn, coming_to, listening_at}}
+use Rattle.rb_listen.specs.Listening as now
 
 -- The clock.
 

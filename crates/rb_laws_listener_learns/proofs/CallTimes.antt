@@ -1,36 +1,12 @@
 -- When the calls came that are recorded.
-use Rattle.std.proofs.Common.{◌≡◌, ◌⊎◌, ℕ, zero, suc, ◌%◌, ◌<◌, ◌≤◌, ◌==◌, ◌&&◌, Bool, true, false, Option, Some, None, cond, List, [], ◌∷◌, filter, slice_get, inl, inr, refl, sym, ◌∙◌, ap, subst, arith}
-use Rattle.std.proofs.lemmas.Bool.{and_from, eq-eqb, eqb-true}
-use Rattle.std.proofs.lemmas.Option.{same_Some}
-use Rattle.rb_base.specs.Nodes.Side.{Rmu}
-use Rattle.rb_base.specs.Sizes.{sync_slot_of}
+use Rattle.std.proofs.{Common.{◌≡◌, ◌⊎◌, ℕ, zero, suc, ◌%◌, ◌<◌, ◌≤◌, ◌==◌, ◌&&◌, Bool, true, false, Option, Some, None, cond, List, [], ◌∷◌, filter, slice_get, inl, inr, refl, sym, ◌∙◌, ap, subst, arith}, lemmas.Bool.{and_from, eq-eqb, eqb-true}, lemmas.Option.same_Some}
+use Rattle.rb_base.specs.{Nodes.Side.Rmu, Sizes.sync_slot_of}
 use Rattle.rb_base.proofs.Plain.{and_first, and_second}
-use Rattle.rb_rules.specs.declared.message.Message.{Message}
-use Rattle.rb_rules.specs.declared.message.Tag.{Tag}
-use Rattle.rb_rules.specs.declared.message.Tag.TheVariants.{Word, Fault, Sync as Call}
-use Rattle.rb_rules.specs.declared.sense.Sense.{Sense}
-use Rattle.rb_rules.specs.declared.sense.Sense.TheVariants.{Silent, One, Bad}
-use Rattle.rb_rules.specs.Clock.{IsStamp}
-use Rattle.rb_rules.specs.Goodness.{Scenario, is_good}
-use Rattle.rb_rules.specs.Hearing.{Coming}
-use Rattle.rb_rules.specs.Lawful.{IsLawful}
-use Rattle.rb_rules.specs.Ports.{HandIn}
-use Rattle.rb_rules.specs.Sense.{stamp_in, tag_suits}
-use Rattle.rb_rules.specs.Slots.{role_of}
-use Rattle.rb_rules.specs.Spelling.{message_in}
+use Rattle.rb_rules.specs.{declared.message.Message.Message, declared.message.Tag.Tag, declared.message.Tag.TheVariants.{Word, Fault, Sync as Call}, declared.sense.Sense.Sense, declared.sense.Sense.TheVariants.{Silent, One, Bad}, Clock.IsStamp, Goodness.{Scenario, is_good}, Hearing.Coming, Lawful.IsLawful, Ports.HandIn, Sense.{stamp_in, tag_suits}, Slots.role_of, Spelling.message_in}
 use Rattle.rb_rules.proofs.Slots.{sync_role}
-use Rattle.rb_listen.specs.Lessons.{stage_recorded}
-use Rattle.rb_listen.specs.Passes.{is_call, is_sync}
-use Rattle.rb_listen.specs.declared.search.Search.{Search}
-use Rattle.rb_laws_listener_learns.specs.Ears.{Ear, HearsTheRun, IsEar, IsHeard, IsOfGood}
-use Rattle.rb_laws_listener_learns.specs.Receivers.{call_time, is_call_of, last_time}
-use Rattle.rb_laws_listener_learns.specs.Records.{IsOfPlace}
-use Rattle.rb_laws_listener_learns.proofs.Ahead.{call-place}
-use Rattle.rb_laws_listener_learns.proofs.Deciding.{some-stamp}
-use Rattle.rb_laws_listener_learns.proofs.Latest.{earlier-le}
-use Rattle.rb_laws_listener_learns.proofs.Noting.{IsNotedBy, IsPlacedAt}
-use Rattle.rb_laws_listener_learns.proofs.Recorded.{placed}
-use Rattle.rb_laws_listener_learns.proofs.Whole.{HasLesson, all-good, has-place, same-place-of}
+use Rattle.rb_listen.specs.{Lessons.stage_recorded, Passes.{is_call, is_sync}, declared.search.Search.Search}
+use Rattle.rb_laws_listener_learns.specs.{Ears.{Ear, HearsTheRun, IsEar, IsHeard, IsOfGood}, Receivers.{call_time, is_call_of, last_time}, Records.IsOfPlace}
+use Rattle.rb_laws_listener_learns.proofs.{Ahead.call-place, Deciding.some-stamp, Latest.earlier-le, Noting.{IsNotedBy, IsPlacedAt}, Recorded.placed, Whole.{HasLesson, all-good, has-place, same-place-of}}
 
 -- The last that passes.
 

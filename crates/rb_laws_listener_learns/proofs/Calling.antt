@@ -1,28 +1,11 @@
 -- A good RMU knows the middle of stage 1, so it calls in stage 2.
-use Rattle.std.proofs.Common.{◌≡◌, ℕ, ◌+◌, ◌==◌, true, List, Some, option_map, slice_get, refl, sym, ◌∙◌, ap, subst, arith}
-use Rattle.std.proofs.lemmas.Bool.Decides.{nat_tests}
-use Rattle.rb_base.specs.Nodes.Side.{Rmu}
-use Rattle.rb_base.specs.Sizes.{Sizes, sync_slot_of}
-use Rattle.rb_rules.specs.declared.plan.Plan.{Plan}
-use Rattle.rb_rules.specs.Book.{of_kind}
-use Rattle.rb_rules.specs.Goodness.{Scenario, is_good}
-use Rattle.rb_rules.specs.Hearing.{Sending, sending}
-use Rattle.rb_rules.specs.Lawful.{IsLawful}
-use Rattle.rb_rules.specs.NodeState.{NodeState}
-use Rattle.rb_rules.specs.Plan.{f0_of}
-use Rattle.rb_rules.specs.Ports.{HandIn}
-use Rattle.rb_rules.specs.Rounds.{moment, sending_in}
-use Rattle.rb_rules.specs.SyncStage.{call_of, call_tick_of}
-use Rattle.rb_laws_agreement.proofs.Goodnesses.{slot_last}
-use Rattle.rb_laws_agreement.proofs.Invariant.{is_good_now}
-use Rattle.rb_laws_agreement.proofs.NodeWindows.{Windows, sync_windows_are, word_at}
-use Rattle.rb_laws_agreement.proofs.Settings.{good_state}
-use Rattle.rb_laws_agreement.proofs.Tests.{Present}
-use Rattle.rb_laws_synchrony.proofs.Synchronous.{KnowsMiddle, from_1, heard_from, heard_to, to_1}
-use Rattle.rb_laws_synchrony.proofs.Synchrony.{IsSynchronous, synchrony}
+use Rattle.std.proofs.{Common.{◌≡◌, ℕ, ◌+◌, ◌==◌, true, List, Some, option_map, slice_get, refl, sym, ◌∙◌, ap, subst, arith}, lemmas.Bool.Decides.nat_tests}
+use Rattle.rb_base.specs.{Nodes.Side.Rmu, Sizes.{Sizes, sync_slot_of}}
+use Rattle.rb_rules.specs.{declared.plan.Plan.Plan, Book.of_kind, Goodness.{Scenario, is_good}, Hearing.{Sending, sending}, Lawful.IsLawful, NodeState.NodeState, Plan.f0_of, Ports.HandIn, Rounds.{moment, sending_in}, SyncStage.{call_of, call_tick_of}}
+use Rattle.rb_laws_agreement.proofs.{Goodnesses.slot_last, Invariant.is_good_now, NodeWindows.{Windows, sync_windows_are, word_at}, Settings.good_state, Tests.Present}
+use Rattle.rb_laws_synchrony.proofs.{Synchronous.{KnowsMiddle, from_1, heard_from, heard_to, to_1}, Synchrony.{IsSynchronous, synchrony}}
 use Rattle.rb_listen.specs.Passes.{is_call}
-use Rattle.rb_laws_listener_learns.specs.Calling.{EachIsHeardToCall}
-use Rattle.rb_laws_listener_learns.specs.Ears.{Ear, HearsTheRun, SendsIn}
+use Rattle.rb_laws_listener_learns.specs.{Calling.EachIsHeardToCall, Ears.{Ear, HearsTheRun, SendsIn}}
 
 pub call-sending : (sizes : Sizes) (plan : Plan) (j : ℕ) (st : NodeState) (word tick : ℕ) → call_tick_of sizes plan st 2 ≡ Some tick
     → sending sizes plan Rmu j st (sync_slot_of sizes) 2 word ≡ Some (record { tick = tick; message = call_of sizes st 2 })

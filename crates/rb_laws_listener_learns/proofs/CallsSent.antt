@@ -1,43 +1,16 @@
 -- What the listener hears of a good RMU as a call is the RMU's call of a frame of the bus.
-use Rattle.std.proofs.Common.{◌≡◌, ℕ, ◌+◌, ◌-◌, ◌*◌, ◌/◌, ◌%◌, ◌<◌, ◌==◌, ◌&&◌, nat_le, Bool, true, false, Option, Some, None, option_map, if◌then◌else◌, List, slice_index, slice_range, inl, inr, refl, sym, ◌∙◌, ap, subst, arith}
+use Rattle.std.proofs.{Common.{◌≡◌, ℕ, ◌+◌, ◌-◌, ◌*◌, ◌/◌, ◌%◌, ◌<◌, ◌==◌, ◌&&◌, nat_le, Bool, true, false, Option, Some, None, option_map, if◌then◌else◌, List, slice_index, slice_range, inl, inr, refl, sym, ◌∙◌, ap, subst, arith}, lemmas.Bool.{cases_lt, eqb-true}, lemmas.Bool.Decides.nat_tests, lemmas.Option.same_Some}
 use Rattle.std.specs.Int.{from_be_bytes, w16, w32}
-use Rattle.std.proofs.lemmas.Bool.{cases_lt, eqb-true}
-use Rattle.std.proofs.lemmas.Bool.Decides.{nat_tests}
-use Rattle.std.proofs.lemmas.Option.{same_Some}
-use Rattle.rb_base.specs.Nodes.Side.{Biu, Rmu}
-use Rattle.rb_base.specs.Sizes.{Sizes, sync_slot_of}
-use Rattle.rb_base.specs.declared.values.Heard.{Heard}
-use Rattle.rb_base.specs.declared.values.Heard.TheVariants as heard
+use Rattle.rb_base.specs.{Nodes.Side.{Biu, Rmu}, Sizes.{Sizes, sync_slot_of}, declared.values.Heard.Heard}
 use Rattle.rb_base.proofs.Plain.{and_first}
-use Rattle.rb_rules.specs.declared.message.Message.{Message}
-use Rattle.rb_rules.specs.declared.message.Tag.{Tag}
-use Rattle.rb_rules.specs.declared.message.Tag.TheVariants.{Word, Fault, Sync}
-use Rattle.rb_rules.specs.declared.message.Version.{Version}
-use Rattle.rb_rules.specs.declared.message.Version.TheVariants.{One, Two}
-use Rattle.rb_rules.specs.declared.role.Role.TheVariants as role
-use Rattle.rb_rules.specs.ExactStage.{message_of, says}
-use Rattle.rb_rules.specs.Goodness.{Scenario, is_good}
-use Rattle.rb_rules.specs.Hearing.{Coming, Sending, sending}
-use Rattle.rb_rules.specs.Lawful.{IsLawful}
-use Rattle.rb_rules.specs.Moments.{IsRunning}
-use Rattle.rb_rules.specs.NodeState.{NodeState}
-use Rattle.rb_rules.specs.NodeSteps.{message_said}
-use Rattle.rb_rules.specs.Ports.{HandIn}
-use Rattle.rb_rules.specs.Rounds.{Moment, moment, sending_in, window_in, windows_in}
-use Rattle.rb_rules.specs.Slots.{listens}
-use Rattle.rb_rules.specs.Spelling.{IsMessage, has_form, may_have, message_in, message_with, spelling_of, tag_byte, tag_in}
-use Rattle.rb_rules.specs.SyncStage.{call_of, calls}
-use Rattle.rb_rules.proofs.Slots.{few_slots}
-use Rattle.rb_rules.proofs.Spellings.{read_back}
-use Rattle.rb_laws_agreement.proofs.Agreement.{IsAgreed, agreement}
-use Rattle.rb_laws_agreement.proofs.Goodnesses.{slot_last}
-use Rattle.rb_laws_agreement.proofs.Invariant.{IsGoodNode}
-use Rattle.rb_laws_agreement.proofs.NodeWindows.{Windows, exact_windows, sync_windows_are, tail_windows, word_at}
-use Rattle.rb_laws_synchrony.proofs.TakenCalls.{call_sent}
-use Rattle.rb_laws_synchrony.proofs.TimelyWindows.{IsSent, sent_parts}
+use Rattle.rb_rules.specs.{declared.message.Message.Message, declared.message.Tag.Tag, declared.message.Tag.TheVariants.{Word, Fault, Sync}, declared.message.Version.Version, declared.message.Version.TheVariants.{One, Two}, ExactStage.{message_of, says}, Goodness.{Scenario, is_good}, Hearing.{Coming, Sending, sending}, Lawful.IsLawful, Moments.IsRunning, NodeState.NodeState, NodeSteps.message_said, Ports.HandIn, Rounds.{Moment, moment, sending_in, window_in, windows_in}, Slots.listens, Spelling.{IsMessage, has_form, may_have, message_in, message_with, spelling_of, tag_byte, tag_in}, SyncStage.{call_of, calls}}
+use Rattle.rb_rules.proofs.{Slots.few_slots, Spellings.read_back}
+use Rattle.rb_laws_agreement.proofs.{Agreement.{IsAgreed, agreement}, Goodnesses.slot_last, Invariant.IsGoodNode, NodeWindows.{Windows, exact_windows, sync_windows_are, tail_windows, word_at}}
+use Rattle.rb_laws_synchrony.proofs.{TakenCalls.call_sent, TimelyWindows.{IsSent, sent_parts}}
 use Rattle.rb_listen.specs.Passes.{is_call, is_sync}
-use Rattle.rb_laws_listener_learns.specs.Ears.{Ear, IsOfGood, SendsIn}
-use Rattle.rb_laws_listener_learns.specs.Seeking.{HasCalls}
+use Rattle.rb_laws_listener_learns.specs.{Ears.{Ear, IsOfGood, SendsIn}, Seeking.HasCalls}
+use Rattle.rb_base.specs.declared.values.Heard.TheVariants as heard
+use Rattle.rb_rules.specs.declared.role.Role.TheVariants as role
 
 -- the tag of what is read is that of what was spelled
 

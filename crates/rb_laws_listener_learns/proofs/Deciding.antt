@@ -1,36 +1,13 @@
 -- A decision comes as many ticks after a pass as calls of good RMUs may lie apart, and in a pass
 -- there is such a call.
-use Rattle.std.proofs.Common.{◌≡◌, ℕ, zero, suc, ◌+◌, ◌*◌, ◌%◌, ◌^◌, ◌<◌, ◌≤◌, ◌==◌, ◌&&◌, nat_lt, Bool, true, false, Option, Some, None, is_some, List, get_or, slice_get, if◌then◌else◌, inl, inr, refl, sym, ◌∙◌, ap, subst, arith}
-use Rattle.std.proofs.lemmas.Bool.{cases_lt, eqb-true, ltb-true}
-use Rattle.std.proofs.lemmas.Option.{same_Some}
-use Rattle.rb_base.specs.Nodes.{has, set_of}
-use Rattle.rb_base.specs.Sizes.{IsShape, Sizes, sync_slot_of}
-use Rattle.rb_base.proofs.Plain.{and_first, and_second}
-use Rattle.rb_base.proofs.Sets.{has-set_of}
-use Rattle.rb_rules.specs.declared.message.Message.{Message}
-use Rattle.rb_rules.specs.Clock.{IsStamp}
-use Rattle.rb_rules.specs.Goodness.{Scenario}
-use Rattle.rb_rules.specs.Hearing.{Coming, Sending}
-use Rattle.rb_rules.specs.Lawful.{IsLawful}
-use Rattle.rb_rules.specs.Ports.{HandIn}
-use Rattle.rb_rules.specs.Rounds.{moment}
-use Rattle.rb_rules.specs.Spelling.{message_in}
+use Rattle.std.proofs.{Common.{◌≡◌, ℕ, zero, suc, ◌+◌, ◌*◌, ◌%◌, ◌^◌, ◌<◌, ◌≤◌, ◌==◌, ◌&&◌, nat_lt, Bool, true, false, Option, Some, None, is_some, List, get_or, slice_get, if◌then◌else◌, inl, inr, refl, sym, ◌∙◌, ap, subst, arith}, lemmas.Bool.{cases_lt, eqb-true, ltb-true}, lemmas.Option.same_Some}
+use Rattle.rb_base.specs.{Nodes.{has, set_of}, Sizes.{IsShape, Sizes, sync_slot_of}}
+use Rattle.rb_base.proofs.{Plain.{and_first, and_second}, Sets.has-set_of}
+use Rattle.rb_rules.specs.{declared.message.Message.Message, Clock.IsStamp, Goodness.Scenario, Hearing.{Coming, Sending}, Lawful.IsLawful, Ports.HandIn, Rounds.moment, Spelling.message_in}
 use Rattle.rb_laws_agreement.proofs.Tests.{Passing}
-use Rattle.rb_listen.specs.Lessons.{frame_after, has_place, noted, with_record}
-use Rattle.rb_listen.specs.Listening.{first_search, if_message, if_pass, later, learning, newest_with, passing, recorded, searching, timed, with_message, with_pass}
-use Rattle.rb_listen.specs.Passes.{are_most, calling, falls_in, is_call, is_sync, pass_of, reach_of}
-use Rattle.rb_listen.specs.declared.lesson.Lesson.{Lesson}
-use Rattle.rb_listen.specs.declared.passes.Call.{Call}
-use Rattle.rb_listen.specs.declared.search.Search.{Search}
-use Rattle.rb_laws_listener_learns.specs.Deciding.{CallsHaveCome, DecidesAfterTheCalls}
-use Rattle.rb_laws_listener_learns.specs.Ears.{Ear, HearsTheRun, IsEar, IsHeard, IsOfGood, SendsIn, coming_to, is_always_good, listening_at}
-use Rattle.rb_laws_listener_learns.proofs.Latest.{not-yet}
-use Rattle.rb_laws_listener_learns.proofs.Meeting.{meet}
-use Rattle.rb_laws_listener_learns.proofs.Recorded.{reads-sent}
-use Rattle.rb_laws_listener_learns.proofs.Seeks.{Begins, falls, good-inside, good-rmus, good-set, no-onset, none-there, pass-begins, set-case, set-other}
-use Rattle.rb_laws_listener_learns.proofs.Sendings.{IsInPlace, in-place}
-use Rattle.rb_laws_listener_learns.proofs.Together.{come-together}
-use Rattle.rb_laws_listener_learns.proofs.Walks.{HoldsIn, IsKept, always}
+use Rattle.rb_listen.specs.{Lessons.{frame_after, has_place, noted, with_record}, Listening.{first_search, if_message, if_pass, later, learning, newest_with, passing, recorded, searching, timed, with_message, with_pass}, Passes.{are_most, calling, falls_in, is_call, is_sync, pass_of, reach_of}, declared.lesson.Lesson.Lesson, declared.passes.Call.Call, declared.search.Search.Search}
+use Rattle.rb_laws_listener_learns.specs.{Deciding.{CallsHaveCome, DecidesAfterTheCalls}, Ears.{Ear, HearsTheRun, IsEar, IsHeard, IsOfGood, SendsIn, coming_to, is_always_good, listening_at}}
+use Rattle.rb_laws_listener_learns.proofs.{Latest.not-yet, Meeting.meet, Recorded.reads-sent, Seeks.{Begins, falls, good-inside, good-rmus, good-set, no-onset, none-there, pass-begins, set-case, set-other}, Sendings.{IsInPlace, in-place}, Together.come-together, Walks.{HoldsIn, IsKept, always}}
 
 -- RMU j called in a frame of this number, and the call came with this stamp
 pub record IsHeardCall (sc : Scenario) (hands : List HandIn) (ear : Ear) (j number at : ℕ) : Type 0 where

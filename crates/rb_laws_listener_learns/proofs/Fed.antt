@@ -1,12 +1,9 @@
 -- Events one after another are what a listener hears tick by tick.
 use Rattle.std.proofs.Common.{◌≡◌, ℕ, zero, suc, List, [], ◌∷◌, ◌++◌, refl, ◌∙◌, ap}
-use Rattle.rb_rules.specs.Core.{CoreEvent}
-use Rattle.rb_rules.specs.Goodness.{Scenario}
-use Rattle.rb_rules.specs.Hearing.{Coming}
+use Rattle.rb_rules.specs.{Core.CoreEvent, Goodness.Scenario, Hearing.Coming}
 use Rattle.rb_listen.specs.Listening.{Listening, first_search, hear, heed, told_of}
+use Rattle.rb_laws_listener_learns.specs.{Ears.{Ear, hears, listening_at, told_at}, Feeding.{arrivals_of, events_from, told_from}}
 use Rattle.rb_listen.specs.Listening as now
-use Rattle.rb_laws_listener_learns.specs.Ears.{Ear, hears, listening_at, told_at}
-use Rattle.rb_laws_listener_learns.specs.Feeding.{arrivals_of, events_from, told_from}
 
 -- arrivals tell nothing
 hears-first : (sc : Scenario) (cs : List Coming) (rest : List CoreEvent) (l : Listening)

@@ -1,33 +1,9 @@
 -- The stages of a frame as they are judged: one for each window, the newest first.
-use Rattle.std.proofs.Common.{◌≡◌, ℕ, zero, suc, ◌+◌, ◌-◌, ◌*◌, ◌/◌, ◌%◌, ◌<◌, ◌≤◌, not, Bool, true, false, Option, Some, None, List, [], ◌∷◌, ◌++◌, length, slice_get, inl, inr, refl, sym, ◌∙◌, ap, subst, arith}
+use Rattle.std.proofs.{Common.{◌≡◌, ℕ, zero, suc, ◌+◌, ◌-◌, ◌*◌, ◌/◌, ◌%◌, ◌<◌, ◌≤◌, not, Bool, true, false, Option, Some, None, List, [], ◌∷◌, ◌++◌, length, slice_get, inl, inr, refl, sym, ◌∙◌, ap, subst, arith}, lemmas.Bool.{and_from, cases_lt, not_from_false}}
 use Rattle.std.specs.List.{list_any}
-use Rattle.std.proofs.lemmas.Bool.{and_from, cases_lt, not_from_false}
-use Rattle.rb_base.specs.Nodes.{Side, has}
-use Rattle.rb_base.specs.Nodes.Side.{Biu}
-use Rattle.rb_base.specs.Sizes.{sync_slot_of}
-use Rattle.rb_base.specs.declared.values.Place.{Place}
-use Rattle.rb_base.specs.declared.values.See.{See}
-use Rattle.rb_rules.specs.Book.{Begun, Book, Row, in_order, of_kind, judged_of, trusted_by, with_frame, with_stage}
-use Rattle.rb_rules.specs.ExactStage.{present}
-use Rattle.rb_rules.specs.Goodness.{Scenario, is_good}
-use Rattle.rb_rules.specs.Judging.{JudgedStage, is_suspect, verdict_of}
-use Rattle.rb_rules.specs.Lawful.{IsLawful}
-use Rattle.rb_rules.specs.Moments.{IsComplete, IsRunning, after_slot}
-use Rattle.rb_rules.specs.NodeState.{NodeState, trusted_of}
-use Rattle.rb_rules.specs.Ports.{HandIn}
-use Rattle.rb_rules.specs.Rounds.{Moment, begin_frame, moment, next_frame, step, windows_in}
-use Rattle.rb_laws_agreement.proofs.Agreement.{running_before}
-use Rattle.rb_laws_agreement.proofs.FrameBegins.{IsTurn, frame_turns}
-use Rattle.rb_laws_agreement.proofs.Goodnesses.{slot_last}
-use Rattle.rb_laws_agreement.proofs.Invariant.{IsGoodNode}
-use Rattle.rb_laws_agreement.proofs.JudgedWindows.{IsPassed, first_row_trusts, nobody_trusted, passed, rows_of}
-use Rattle.rb_laws_agreement.proofs.NextMoments.{book_exact, next}
-use Rattle.rb_laws_agreement.proofs.NodeWindows.{Windows, sync_windows_are}
-use Rattle.rb_laws_agreement.proofs.Places.{IsPlaced, placed}
-use Rattle.rb_laws_agreement.proofs.Premises.{Premise, premise_holds}
-use Rattle.rb_laws_agreement.proofs.SlotRuns.{next-frame, next-window, step_through}
-use Rattle.rb_laws_agreement.proofs.SyncAgrees.{book_sync, book_tail}
-use Rattle.rb_laws_agreement.proofs.Tests.{or_neither_second}
+use Rattle.rb_base.specs.{Nodes.{Side, has}, Nodes.Side.Biu, Sizes.sync_slot_of, declared.values.Place.Place, declared.values.See.See}
+use Rattle.rb_rules.specs.{Book.{Begun, Book, Row, in_order, of_kind, judged_of, trusted_by, with_frame, with_stage}, ExactStage.present, Goodness.{Scenario, is_good}, Judging.{JudgedStage, is_suspect, verdict_of}, Lawful.IsLawful, Moments.{IsComplete, IsRunning, after_slot}, NodeState.{NodeState, trusted_of}, Ports.HandIn, Rounds.{Moment, begin_frame, moment, next_frame, step, windows_in}}
+use Rattle.rb_laws_agreement.proofs.{Agreement.running_before, FrameBegins.{IsTurn, frame_turns}, Goodnesses.slot_last, Invariant.IsGoodNode, JudgedWindows.{IsPassed, first_row_trusts, nobody_trusted, passed, rows_of}, NextMoments.{book_exact, next}, NodeWindows.{Windows, sync_windows_are}, Places.{IsPlaced, placed}, Premises.{Premise, premise_holds}, SlotRuns.{next-frame, next-window, step_through}, SyncAgrees.{book_sync, book_tail}, Tests.or_neither_second}
 use Rattle.rb_base.proofs.Sets.{has-set_of}
 use Rattle.rb_laws_listener_near.specs.Judged.{HeardStage, heard_stages}
 

@@ -1,49 +1,17 @@
 -- A search learns soon after calls of good RMUs: what it has recorded it has from soon after some
 -- such call on, and it decides `reach_of` ticks after a tick at which not all such calls of the
 -- learned frame had come.
-use Rattle.std.proofs.Common.{◌≡◌, ◌⊎◌, ℕ, ◌+◌, ◌-◌, ◌*◌, ◌%◌, ◌<◌, ◌≤◌, ◌==◌, ◌&&◌, ◌||◌, not, nat_lt, Bool, true, false, Option, Some, None, List, length, get_or, slice_set, inl, inr, refl, sym, ◌∙◌, ap, subst, arith}
+use Rattle.std.proofs.{Common.{◌≡◌, ◌⊎◌, ℕ, ◌+◌, ◌-◌, ◌*◌, ◌%◌, ◌<◌, ◌≤◌, ◌==◌, ◌&&◌, ◌||◌, not, nat_lt, Bool, true, false, Option, Some, None, List, length, get_or, slice_set, inl, inr, refl, sym, ◌∙◌, ap, subst, arith}, lemmas.Bool.{and_from, cases_lt, cases_order, eq-eqb, eqb-true, false_from_ne_true, not-false, not-true}, lemmas.Bool.Decides.nat_tests, Math.Nat.mul-le-mul_right}
 use Rattle.std.specs.List.{list_any}
-use Rattle.std.proofs.lemmas.Bool.{and_from, cases_lt, cases_order, eq-eqb, eqb-true, false_from_ne_true, not-false, not-true}
-use Rattle.std.proofs.lemmas.Bool.Decides.{nat_tests}
-use Rattle.std.proofs.Math.Nat.{mul-le-mul_right}
-use Rattle.rb_base.specs.Counting.{numbers}
-use Rattle.rb_base.specs.Nodes.{has, set_of, size}
-use Rattle.rb_base.specs.Nodes.Side.{Rmu}
-use Rattle.rb_base.specs.Sizes.{IsShape, sync_slot_of}
-use Rattle.rb_base.proofs.Plain.{and_first, and_second}
-use Rattle.rb_base.proofs.Sets.{has-set_of}
-use Rattle.rb_base.proofs.SetSizes.{size_within}
-use Rattle.rb_rules.specs.Clock.{IsStamp, stamp_of}
-use Rattle.rb_rules.specs.Goodness.{Scenario, is_before, is_good}
-use Rattle.rb_rules.specs.Lawful.{IsLawful, IsOnsetOf}
-use Rattle.rb_rules.specs.Moments.{IsRunning, before_slot}
-use Rattle.rb_rules.specs.Ports.{HandIn}
-use Rattle.rb_rules.specs.Rounds.{moment, windows_in}
-use Rattle.rb_rules.proofs.Spellings.{read_back}
-use Rattle.rb_rules.proofs.Stamps.{stamp_of-is}
-use Rattle.rb_laws_agreement.proofs.Tests.{Passing, passes_at, passing}
-use Rattle.rb_laws_agreement.proofs.Agreement.{agreement}
-use Rattle.rb_laws_agreement.proofs.Places.{running_earlier}
-use Rattle.rb_rules.proofs.Middles.{IsBetween}
-use Rattle.rb_laws_synchrony.proofs.EpochTicks.{within_run}
-use Rattle.rb_laws_synchrony.proofs.Middles.{HasLeast, least_of}
-use Rattle.rb_listen.specs.Lessons.{frame_after}
-use Rattle.rb_listen.specs.Passes.{are_most, calling, falls_in, pass_of, reach_of}
-use Rattle.rb_listen.specs.declared.passes.Call.{Call}
-use Rattle.rb_listen.specs.declared.search.Search.{Search}
-use Rattle.rb_laws_listener_learns.specs.Calling.{IsHeardToCall}
-use Rattle.rb_laws_listener_learns.specs.Ears.{Ear, HearsTheRun, IsEar, IsHeard, SendsIn, comes_to, coming_to, is_always_good}
-use Rattle.rb_laws_listener_learns.proofs.Apart.{come-apart}
-use Rattle.rb_laws_listener_learns.proofs.Calling.{heard-to-call}
-use Rattle.rb_laws_listener_learns.proofs.Deciding.{IsHeardCall, IsWell}
-use Rattle.rb_laws_listener_learns.proofs.Latest.{IsCallAt, IsLate}
-use Rattle.rb_laws_listener_learns.proofs.Meeting.{meet}
-use Rattle.rb_laws_listener_learns.proofs.Moments.{same-frame}
-use Rattle.rb_laws_listener_learns.proofs.PassSets.{AreOfRmus, BeginsAt, FallsIn, FallsThere, all-falls, begins-pass, in-set, more-than, new-or-old, of-rmus, pass-at}
-use Rattle.rb_laws_listener_learns.proofs.Recorded.{IsEarlier}
-use Rattle.rb_laws_listener_learns.proofs.Seeks.{always-counts, good-inside, good-rmus, good-set}
-use Rattle.rb_laws_listener_learns.proofs.Sendings.{in-place}
-use Rattle.rb_laws_listener_learns.proofs.Together.{come-together, steady-ear}
+use Rattle.rb_base.specs.{Counting.numbers, Nodes.{has, set_of, size}, Nodes.Side.Rmu, Sizes.{IsShape, sync_slot_of}}
+use Rattle.rb_base.proofs.{Plain.{and_first, and_second}, Sets.has-set_of, SetSizes.size_within}
+use Rattle.rb_rules.specs.{Clock.{IsStamp, stamp_of}, Goodness.{Scenario, is_before, is_good}, Lawful.{IsLawful, IsOnsetOf}, Moments.{IsRunning, before_slot}, Ports.HandIn, Rounds.{moment, windows_in}}
+use Rattle.rb_rules.proofs.{Spellings.read_back, Stamps.stamp_of-is, Middles.IsBetween}
+use Rattle.rb_laws_agreement.proofs.{Tests.{Passing, passes_at, passing}, Agreement.agreement, Places.running_earlier}
+use Rattle.rb_laws_synchrony.proofs.{EpochTicks.within_run, Middles.{HasLeast, least_of}}
+use Rattle.rb_listen.specs.{Lessons.frame_after, Passes.{are_most, calling, falls_in, pass_of, reach_of}, declared.passes.Call.Call, declared.search.Search.Search}
+use Rattle.rb_laws_listener_learns.specs.{Calling.IsHeardToCall, Ears.{Ear, HearsTheRun, IsEar, IsHeard, SendsIn, comes_to, coming_to, is_always_good}}
+use Rattle.rb_laws_listener_learns.proofs.{Apart.come-apart, Calling.heard-to-call, Deciding.{IsHeardCall, IsWell}, Latest.{IsCallAt, IsLate}, Meeting.meet, Moments.same-frame, PassSets.{AreOfRmus, BeginsAt, FallsIn, FallsThere, all-falls, begins-pass, in-set, more-than, new-or-old, of-rmus, pass-at}, Recorded.IsEarlier, Seeks.{always-counts, good-inside, good-rmus, good-set}, Sendings.in-place, Together.{come-together, steady-ear}}
 
 -- a call of an RMU that is good in the whole run, in a frame of this number, comes with this stamp
 pub record IsGoodCall (sc : Scenario) (hands : List HandIn) (ear : Ear) (number at : ℕ) : Type 0 where

@@ -1,22 +1,10 @@
 -- Nothing is recorded of RMUs that there are not.
-use Rattle.std.proofs.Common.{◌≡◌, ℕ, suc, ◌+◌, ◌^◌, ◌<◌, ◌≤◌, ◌==◌, ◌&&◌, nat_lt, Bool, true, false, Option, Some, None, is_some, if◌then◌else◌, inl, inr, refl, ◌∙◌, arith}
-use Rattle.std.proofs.lemmas.Bool.{ltb-true}
+use Rattle.std.proofs.{Common.{◌≡◌, ℕ, suc, ◌+◌, ◌^◌, ◌<◌, ◌≤◌, ◌==◌, ◌&&◌, nat_lt, Bool, true, false, Option, Some, None, is_some, if◌then◌else◌, inl, inr, refl, ◌∙◌, arith}, lemmas.Bool.ltb-true}
 use Rattle.rb_base.specs.Sizes.{IsShape, Sizes, sync_slot_of}
-use Rattle.rb_rules.specs.declared.message.Message.{Message}
-use Rattle.rb_rules.specs.declared.sense.Sense.TheVariants.{Silent}
-use Rattle.rb_rules.specs.Goodness.{Scenario}
-use Rattle.rb_rules.specs.Hearing.{Coming}
-use Rattle.rb_rules.specs.Spelling.{message_in}
-use Rattle.rb_listen.specs.Lessons.{frame_after, has_place, noted, place_of, record_of, with_message, with_record}
-use Rattle.rb_listen.specs.Listening.{first_search, if_message, if_pass, later, learning, newest_with, passing, recorded, searching, timed, with_pass}
-use Rattle.rb_listen.specs.Listening.{with_message as hearing_of}
-use Rattle.rb_listen.specs.Passes.{is_call, pass_of, reach_of}
-use Rattle.rb_listen.specs.declared.lesson.Lesson.{Lesson}
-use Rattle.rb_listen.specs.declared.search.Search.{Search}
+use Rattle.rb_rules.specs.{declared.message.Message.Message, declared.sense.Sense.TheVariants.Silent, Goodness.Scenario, Hearing.Coming, Spelling.message_in}
+use Rattle.rb_listen.specs.{Lessons.{frame_after, has_place, noted, place_of, record_of, with_message, with_record}, Listening.{first_search, if_message, if_pass, later, learning, newest_with, passing, recorded, searching, timed, with_pass}, Listening.with_message as hearing_of, Passes.{is_call, pass_of, reach_of}, declared.lesson.Lesson.Lesson, declared.search.Search.Search}
 use Rattle.rb_laws_listener_learns.specs.Ears.{Ear, IsEar}
-use Rattle.rb_laws_listener_learns.proofs.Latest.{not-yet}
-use Rattle.rb_laws_listener_learns.proofs.Recorded.{nothing-there, same-place, set-either}
-use Rattle.rb_laws_listener_learns.proofs.Walks.{IsKept}
+use Rattle.rb_laws_listener_learns.proofs.{Latest.not-yet, Recorded.{nothing-there, same-place, set-either}, Walks.IsKept}
 
 abbrev pub AreNone : Sizes → Lesson → Type 0
 AreNone sizes lesson = (j : ℕ) → sizes.rmus ≤ j → j < 16 → (slot : ℕ) → record_of lesson.records slot j ≡ Silent

@@ -1,24 +1,9 @@
 -- In a frame a good node trusts the same nodes, and its votes on finished slots stay.
-use Rattle.std.proofs.Common.{◌≡◌, ℕ, zero, suc, ◌+◌, ◌-◌, ◌*◌, ◌/◌, ◌%◌, ◌<◌, ◌≤◌, false, List, get_or, inl, inr, refl, sym, ◌∙◌, ap, subst, arith}
-use Rattle.std.proofs.lemmas.Bool.{cases_lt}
-use Rattle.rb_base.specs.Nodes.{Side}
-use Rattle.rb_base.specs.Sizes.{sync_slot_of}
-use Rattle.rb_base.specs.declared.values.Heard.TheVariants.{Fault}
-use Rattle.rb_rules.specs.Goodness.{Scenario}
-use Rattle.rb_rules.specs.Lawful.{IsLawful}
-use Rattle.rb_rules.specs.Moments.{IsRunning}
-use Rattle.rb_rules.specs.NodeState.{NodeState, trusted_of}
-use Rattle.rb_rules.specs.Ports.{HandIn}
-use Rattle.rb_rules.specs.Rounds.{moment, sent_in, step, window_in, windows_in}
+use Rattle.std.proofs.{Common.{◌≡◌, ℕ, zero, suc, ◌+◌, ◌-◌, ◌*◌, ◌/◌, ◌%◌, ◌<◌, ◌≤◌, false, List, get_or, inl, inr, refl, sym, ◌∙◌, ap, subst, arith}, lemmas.Bool.cases_lt}
+use Rattle.rb_base.specs.{Nodes.Side, Sizes.sync_slot_of, declared.values.Heard.TheVariants.Fault}
+use Rattle.rb_rules.specs.{Goodness.Scenario, Lawful.IsLawful, Moments.IsRunning, NodeState.{NodeState, trusted_of}, Ports.HandIn, Rounds.{moment, sent_in, step, window_in, windows_in}}
 use Rattle.rb_rules.proofs.RoundStates.{through-stays}
-use Rattle.rb_laws_agreement.proofs.Agreement.{IsAgreed, agreement, exact-setting, running_before, step_is}
-use Rattle.rb_laws_agreement.proofs.Invariant.{IsGoodNode}
-use Rattle.rb_laws_agreement.proofs.JudgedWindows.{passed, rows_of, stays-trusted}
-use Rattle.rb_laws_agreement.proofs.NextMoments.{CameFrom, came_from, next}
-use Rattle.rb_laws_agreement.proofs.NodeWindows.{sync_windows_are, tail_windows}
-use Rattle.rb_laws_agreement.proofs.SlotRuns.{next-frame, next-window}
-use Rattle.rb_laws_agreement.proofs.SyncAgrees.{book_sync, leaves, stage_setting, tail_setting}
-use Rattle.rb_laws_agreement.proofs.ThirdStages.{other_votes_kept}
+use Rattle.rb_laws_agreement.proofs.{Agreement.{IsAgreed, agreement, exact-setting, running_before, step_is}, Invariant.IsGoodNode, JudgedWindows.{passed, rows_of, stays-trusted}, NextMoments.{CameFrom, came_from, next}, NodeWindows.{sync_windows_are, tail_windows}, SlotRuns.{next-frame, next-window}, SyncAgrees.{book_sync, leaves, stage_setting, tail_setting}, ThirdStages.other_votes_kept}
 use Rattle.rb_laws_synchrony.proofs.EpochTicks.{turned-frame}
 
 -- the node was good at moment `n` of the frame, trusted the same nodes, and had the same votes on

@@ -1,24 +1,10 @@
 -- A search has the newest call of each RMU that came.
-use Rattle.std.proofs.Common.{◌≡◌, ◌⊎◌, ℕ, zero, suc, ◌+◌, ◌^◌, ◌<◌, ◌≤◌, nat_lt, true, false, Option, Some, None, List, [], ◌∷◌, length, get_or, slice_get, slice_set, inl, inr, refl, sym, ◌∙◌, ap, subst, arith}
-use Rattle.std.proofs.lemmas.Bool.{cases_lt, lt-ltb}
-use Rattle.std.proofs.lemmas.Bool.Decides.{nat_tests}
-use Rattle.std.proofs.lemmas.List.{get_or-set_same, length-set}
-use Rattle.std.proofs.lemmas.Option.{same_Some}
-use Rattle.rb_rules.specs.declared.message.Message.{Message}
-use Rattle.rb_rules.specs.Goodness.{Scenario}
-use Rattle.rb_rules.specs.Hearing.{Coming}
-use Rattle.rb_rules.specs.Spelling.{message_in}
+use Rattle.std.proofs.{Common.{◌≡◌, ◌⊎◌, ℕ, zero, suc, ◌+◌, ◌^◌, ◌<◌, ◌≤◌, nat_lt, true, false, Option, Some, None, List, [], ◌∷◌, length, get_or, slice_get, slice_set, inl, inr, refl, sym, ◌∙◌, ap, subst, arith}, lemmas.Bool.{cases_lt, lt-ltb}, lemmas.Bool.Decides.nat_tests, lemmas.List.{get_or-set_same, length-set}, lemmas.Option.same_Some}
+use Rattle.rb_rules.specs.{declared.message.Message.Message, Goodness.Scenario, Hearing.Coming, Spelling.message_in}
 use Rattle.rb_base.specs.Sizes.{IsShape}
-use Rattle.rb_listen.specs.Lessons.{frame_after}
-use Rattle.rb_listen.specs.Listening.{first_search, if_pass, is_over, later, learning, recorded, searching}
-use Rattle.rb_listen.specs.Passes.{is_call}
-use Rattle.rb_listen.specs.declared.passes.Call.{Call}
-use Rattle.rb_listen.specs.declared.search.Search.{Search}
+use Rattle.rb_listen.specs.{Lessons.frame_after, Listening.{first_search, if_pass, is_over, later, learning, recorded, searching}, Passes.is_call, declared.passes.Call.Call, declared.search.Search.Search}
 use Rattle.rb_laws_listener_learns.specs.Ears.{Ear, IsEar}
-use Rattle.rb_laws_listener_learns.proofs.Recorded.{IsEarlier}
-use Rattle.rb_laws_listener_learns.proofs.Searchings.{RecordsOnly, SameCalls, pass-calls, recorded-only, search-by, with_call}
-use Rattle.rb_laws_listener_learns.proofs.Seeks.{set-other}
-use Rattle.rb_laws_listener_learns.proofs.Walks.{IsKept}
+use Rattle.rb_laws_listener_learns.proofs.{Recorded.IsEarlier, Searchings.{RecordsOnly, SameCalls, pass-calls, recorded-only, search-by, with_call}, Seeks.set-other, Walks.IsKept}
 
 -- Places among what comes.
 

@@ -1,55 +1,15 @@
 -- The votes of a listener on the vectors of the learned frame are those of the bus.
-use Rattle.std.proofs.Common.{◌≡◌, ℕ, suc, ◌+◌, ◌-◌, ◌*◌, ◌<◌, ◌≤◌, nat_lt, Bool, true, false, Option, Some, None, is_some, if◌then◌else◌, List, refl, sym, ◌∙◌, ap, subst, arith}
-use Rattle.std.proofs.lemmas.Bool.{ltb-true}
-use Rattle.rb_base.specs.Counting.{numbers}
-use Rattle.rb_base.specs.Nodes.{Side, has, set_of, size}
-use Rattle.rb_base.specs.Nodes.Side.{Biu, Rmu}
-use Rattle.rb_base.specs.Sizes.{sync_slot_of}
-use Rattle.rb_base.specs.declared.values.Heard.{Heard}
-use Rattle.rb_base.proofs.Plain.{and_first}
-use Rattle.rb_base.proofs.Sets.{has-set_of}
-use Rattle.rb_rules.specs.declared.role.Role.TheVariants.{DiagRmu}
-use Rattle.rb_rules.specs.declared.sense.Sense.{Sense}
-use Rattle.rb_rules.specs.ExactStage.{says}
-use Rattle.rb_rules.specs.Goodness.{Scenario, is_good}
-use Rattle.rb_rules.specs.Lawful.{IsLawful}
-use Rattle.rb_rules.specs.Moments.{IsComplete, IsRunning}
-use Rattle.rb_rules.specs.NodeState.{NodeState, sender_at, trusted_of}
-use Rattle.rb_rules.specs.Ports.{HandIn}
-use Rattle.rb_rules.specs.Rounds.{Moment, moment, windows_in}
-use Rattle.rb_rules.specs.Sense.{value_in}
-use Rattle.rb_rules.specs.Slots.{count_of, listens, role_of, sender_in, sender_kind}
-use Rattle.rb_rules.specs.Slots.Sender.{Node}
+use Rattle.std.proofs.{Common.{◌≡◌, ℕ, suc, ◌+◌, ◌-◌, ◌*◌, ◌<◌, ◌≤◌, nat_lt, Bool, true, false, Option, Some, None, is_some, if◌then◌else◌, List, refl, sym, ◌∙◌, ap, subst, arith}, lemmas.Bool.ltb-true}
+use Rattle.rb_base.specs.{Counting.numbers, Nodes.{Side, has, set_of, size}, Nodes.Side.{Biu, Rmu}, Sizes.sync_slot_of, declared.values.Heard.Heard}
+use Rattle.rb_base.proofs.{Plain.and_first, Sets.has-set_of}
+use Rattle.rb_rules.specs.{declared.role.Role.TheVariants.DiagRmu, declared.sense.Sense.Sense, ExactStage.says, Goodness.{Scenario, is_good}, Lawful.IsLawful, Moments.{IsComplete, IsRunning}, NodeState.{NodeState, sender_at, trusted_of}, Ports.HandIn, Rounds.{Moment, moment, windows_in}, Sense.value_in, Slots.{count_of, listens, role_of, sender_in, sender_kind}, Slots.Sender.Node}
 use Rattle.rb_rules.proofs.Votes.{vote_is}
-use Rattle.rb_laws_agreement.proofs.Agreement.{IsAgreed, agreement, exact-setting}
-use Rattle.rb_laws_agreement.proofs.Convicting.{vector-votes}
-use Rattle.rb_laws_agreement.proofs.Exchanges.{sender-held}
-use Rattle.rb_laws_agreement.proofs.FrameTurns.{role-sender}
-use Rattle.rb_laws_agreement.proofs.Invariant.{HasVoted, IsFinished, IsGoodNode, Shared, kind_in}
-use Rattle.rb_laws_agreement.proofs.NextMoments.{CameFrom, came_from}
-use Rattle.rb_laws_agreement.proofs.NodeWindows.{word_at}
-use Rattle.rb_laws_agreement.proofs.Numbers.{how_many-is}
-use Rattle.rb_laws_agreement.proofs.Places.{running_earlier}
-use Rattle.rb_laws_agreement.proofs.SlotRuns.{next-frame, next-window}
-use Rattle.rb_laws_agreement.proofs.Settings.{Setting}
-use Rattle.rb_laws_agreement.proofs.Speaking.{vote_is_said}
-use Rattle.rb_laws_agreement.proofs.ThirdStages.{held_3, voted}
-use Rattle.rb_laws_agreement.proofs.Vectors.{vector_slot, vector_slot-lt, vector_slot-role}
-use Rattle.rb_listen.specs.Lessons.{ones_in, record_of, recorded_of, stage_recorded, trusted_rmus, trusts_rmu, vote_on}
-use Rattle.rb_listen.specs.Passes.{are_most}
+use Rattle.rb_laws_agreement.proofs.{Agreement.{IsAgreed, agreement, exact-setting}, Convicting.vector-votes, Exchanges.sender-held, FrameTurns.role-sender, Invariant.{HasVoted, IsFinished, IsGoodNode, Shared, kind_in}, NextMoments.{CameFrom, came_from}, NodeWindows.word_at, Numbers.how_many-is, Places.running_earlier, SlotRuns.{next-frame, next-window}, Settings.Setting, Speaking.vote_is_said, ThirdStages.{held_3, voted}, Vectors.{vector_slot, vector_slot-lt, vector_slot-role}}
+use Rattle.rb_listen.specs.{Lessons.{ones_in, record_of, recorded_of, stage_recorded, trusted_rmus, trusts_rmu, vote_on}, Passes.are_most}
 use Rattle.rb_laws_listener_near.specs.Judged.{verdict_with}
 use Rattle.rb_laws_listener_near.proofs.ListenerMiddles.{others_fewer}
-use Rattle.rb_laws_listener_learns.specs.Ears.{Ear, is_always_good}
-use Rattle.rb_laws_listener_learns.specs.Receivers.{seen_learned}
-use Rattle.rb_laws_listener_learns.specs.Records.{RecordsAreWhole}
-use Rattle.rb_laws_listener_learns.proofs.Fresh.{always-good-in}
-use Rattle.rb_laws_listener_learns.proofs.FrameStages.{IsAtWindow, IsStepped, at-window, first_of_frame, stepped}
-use Rattle.rb_laws_listener_learns.proofs.Lasting.{LastsFrom, lasts-to}
-use Rattle.rb_laws_listener_learns.proofs.Seeks.{always-counts}
-use Rattle.rb_laws_listener_learns.proofs.Spoken.{recorded-value}
-use Rattle.rb_laws_listener_learns.proofs.TrustedSets.{GoodThere, IsIn, all-trust, good-there, same-trust}
-use Rattle.rb_laws_listener_learns.proofs.Turning.{EndOf}
-use Rattle.rb_laws_listener_learns.proofs.Within.{IsExactAt}
+use Rattle.rb_laws_listener_learns.specs.{Ears.{Ear, is_always_good}, Receivers.seen_learned, Records.RecordsAreWhole}
+use Rattle.rb_laws_listener_learns.proofs.{Fresh.always-good-in, FrameStages.{IsAtWindow, IsStepped, at-window, first_of_frame, stepped}, Lasting.{LastsFrom, lasts-to}, Seeks.always-counts, Spoken.recorded-value, TrustedSets.{GoodThere, IsIn, all-trust, good-there, same-trust}, Turning.EndOf, Within.IsExactAt}
 
 -- What a listener knows when it decides by a frame after the first, and what the premise with it
 -- says when that frame is over.

@@ -1,39 +1,13 @@
 -- What holds of a search at each tick: what it has recorded it has since soon after calls of good
 -- RMUs, and when it decides.
-use Rattle.std.proofs.Common.{◌≡◌, ◌⊎◌, ℕ, suc, ◌+◌, ◌*◌, ◌<◌, ◌≤◌, ◌==◌, ◌&&◌, Bool, true, false, Option, Some, None, is_some, List, length, get_or, replicate, slice_get, if◌then◌else◌, inl, inr, refl, sym, ◌∙◌, ap, subst, arith}
-use Rattle.std.proofs.lemmas.Bool.{eq-eqb, eqb-true}
-use Rattle.std.proofs.lemmas.List.{length-replicate, length-set}
-use Rattle.std.proofs.lemmas.Option.{same_Some}
+use Rattle.std.proofs.{Common.{◌≡◌, ◌⊎◌, ℕ, suc, ◌+◌, ◌*◌, ◌<◌, ◌≤◌, ◌==◌, ◌&&◌, Bool, true, false, Option, Some, None, is_some, List, length, get_or, replicate, slice_get, if◌then◌else◌, inl, inr, refl, sym, ◌∙◌, ap, subst, arith}, lemmas.Bool.{eq-eqb, eqb-true}, lemmas.List.{length-replicate, length-set}, lemmas.Option.same_Some}
 use Rattle.rb_base.specs.Sizes.{IsShape, Sizes, sync_slot_of}
 use Rattle.rb_base.proofs.Plain.{and_first, and_second}
-use Rattle.rb_rules.specs.declared.message.Message.{Message}
-use Rattle.rb_rules.specs.declared.sense.Sense.TheVariants.{Silent}
-use Rattle.rb_rules.specs.Core.{is_tick}
-use Rattle.rb_rules.specs.Goodness.{Scenario}
-use Rattle.rb_rules.specs.Hearing.{Coming}
-use Rattle.rb_rules.specs.Lawful.{IsLawful}
-use Rattle.rb_rules.specs.Ports.{HandIn}
-use Rattle.rb_rules.specs.Rounds.{moment}
-use Rattle.rb_rules.specs.Spelling.{message_in}
+use Rattle.rb_rules.specs.{declared.message.Message.Message, declared.sense.Sense.TheVariants.Silent, Core.is_tick, Goodness.Scenario, Hearing.Coming, Lawful.IsLawful, Ports.HandIn, Rounds.moment, Spelling.message_in}
 use Rattle.rb_rules.proofs.Spellings.{read_back}
-use Rattle.rb_listen.specs.Lessons.{frame_after, has_place, lesson_on, noted, nothing_recorded, record_of, with_message, with_record}
-use Rattle.rb_listen.specs.Listening.{first_search, if_pass, is_deciding, later, learning, recorded, searching, timed}
-use Rattle.rb_listen.specs.Passes.{is_call, pass_of, reach_of}
-use Rattle.rb_listen.specs.declared.lesson.Lesson.{Lesson}
-use Rattle.rb_listen.specs.declared.passes.Call.{Call}
-use Rattle.rb_listen.specs.declared.search.Search.{Search}
+use Rattle.rb_listen.specs.{Lessons.{frame_after, has_place, lesson_on, noted, nothing_recorded, record_of, with_message, with_record}, Listening.{first_search, if_pass, is_deciding, later, learning, recorded, searching, timed}, Passes.{is_call, pass_of, reach_of}, declared.lesson.Lesson.Lesson, declared.passes.Call.Call, declared.search.Search.Search}
 use Rattle.rb_laws_listener_learns.specs.Ears.{Ear, HearsTheRun, IsEar, IsHeard, coming_to, is_always_good, listening_at}
-use Rattle.rb_laws_listener_learns.proofs.Apart.{come-apart}
-use Rattle.rb_laws_listener_learns.proofs.Deciding.{IsAfterCall, IsHeardCall, IsWell, heard-call, kept-well, newest-well, recorded-well}
-use Rattle.rb_laws_listener_learns.proofs.Fresh.{CallsToo, GoodInPass, IsGoodCall, IsSoon, IsStillToCome, as-call, call-at, calls-together, good-in-pass, next-frame-number, pass-is-soon, same-frame-number, still-to-come, well-known}
-use Rattle.rb_laws_listener_learns.proofs.Latest.{IsCallAt, IsLate, IsLatest, earlier-by, earlier-le, going, kept-latest, not-yet, recorded-latest, whole-earlier}
-use Rattle.rb_laws_listener_learns.proofs.Noting.{AreNotedBy, HasRoom, begun-noted, none-noted, noted-noted, tick-noted}
-use Rattle.rb_laws_listener_learns.proofs.PassSets.{BeginsAt, pass-at}
-use Rattle.rb_laws_listener_learns.proofs.Recorded.{IsEarlier}
-use Rattle.rb_laws_listener_learns.proofs.Searchings.{RecordsOnly, pass-by, recorded-only, search-by, with_call}
-use Rattle.rb_laws_listener_learns.proofs.Seeks.{always-counts, no-onset, none-there, timed-frame}
-use Rattle.rb_laws_listener_learns.proofs.Sendings.{in-place}
-use Rattle.rb_laws_listener_learns.proofs.Walks.{HoldsAt, IsKept, always-at}
+use Rattle.rb_laws_listener_learns.proofs.{Apart.come-apart, Deciding.{IsAfterCall, IsHeardCall, IsWell, heard-call, kept-well, newest-well, recorded-well}, Fresh.{CallsToo, GoodInPass, IsGoodCall, IsSoon, IsStillToCome, as-call, call-at, calls-together, good-in-pass, next-frame-number, pass-is-soon, same-frame-number, still-to-come, well-known}, Latest.{IsCallAt, IsLate, IsLatest, earlier-by, earlier-le, going, kept-latest, not-yet, recorded-latest, whole-earlier}, Noting.{AreNotedBy, HasRoom, begun-noted, none-noted, noted-noted, tick-noted}, PassSets.{BeginsAt, pass-at}, Recorded.IsEarlier, Searchings.{RecordsOnly, pass-by, recorded-only, search-by, with_call}, Seeks.{always-counts, no-onset, none-there, timed-frame}, Sendings.in-place, Walks.{HoldsAt, IsKept, always-at}}
 
 -- What holds.
 

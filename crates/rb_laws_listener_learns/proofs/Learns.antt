@@ -1,52 +1,15 @@
 -- What a listener has learned when it decides by a frame that comes to its end before the first
 -- breach of the premise with it.
-use Rattle.std.proofs.Common.{◌≡◌, ℕ, zero, suc, ◌+◌, ◌-◌, ◌*◌, ◌%◌, ◌≤◌, ◌==◌, ◌&&◌, Bool, true, Some, None, if◌then◌else◌, List, refl, sym, ◌∙◌, ap, subst, arith}
-use Rattle.std.proofs.lemmas.Bool.{and_from, eq-eqb}
-use Rattle.rb_base.specs.Nodes.{Side, has}
-use Rattle.rb_base.specs.Nodes.Side.{Biu, Rmu}
-use Rattle.rb_base.specs.Sizes.{sync_slot_of}
+use Rattle.std.proofs.{Common.{◌≡◌, ℕ, zero, suc, ◌+◌, ◌-◌, ◌*◌, ◌%◌, ◌≤◌, ◌==◌, ◌&&◌, Bool, true, Some, None, if◌then◌else◌, List, refl, sym, ◌∙◌, ap, subst, arith}, lemmas.Bool.{and_from, eq-eqb}}
+use Rattle.rb_base.specs.{Nodes.{Side, has}, Nodes.Side.{Biu, Rmu}, Sizes.sync_slot_of}
 use Rattle.rb_base.proofs.Plain.{eq_self}
-use Rattle.rb_rules.specs.declared.sense.Sense.{Sense}
-use Rattle.rb_rules.specs.Clock.{IsStamp}
-use Rattle.rb_rules.specs.Conviction.{convicted_by}
-use Rattle.rb_rules.specs.Goodness.{Scenario, is_good}
-use Rattle.rb_rules.specs.Judging.{JudgedStage}
-use Rattle.rb_rules.specs.Lawful.{IsLawful}
-use Rattle.rb_rules.specs.Moments.{IsComplete, IsGoodBefore}
-use Rattle.rb_rules.specs.NodeState.{NodeState, trusted_of}
-use Rattle.rb_rules.specs.Ports.{HandIn}
-use Rattle.rb_rules.specs.Rounds.{moment, windows_in}
-use Rattle.rb_rules.specs.Sense.{stamp_in}
-use Rattle.rb_rules.specs.Slots.{first_diagnosis_of, role_of}
-use Rattle.rb_rules.specs.Standing.{without}
-use Rattle.rb_rules.proofs.Slots.{sync_role}
-use Rattle.rb_rules.proofs.Spellings.{read_back}
-use Rattle.rb_laws_agreement.proofs.Agreement.{agreement}
-use Rattle.rb_laws_agreement.proofs.FrameTurns.{convicted_all}
-use Rattle.rb_laws_agreement.proofs.Places.{running_earlier}
-use Rattle.rb_laws_agreement.proofs.Vectors.{convicted_same, vector_slot}
-use Rattle.rb_listen.specs.Lessons.{convicted_bius, convicted_rmus, first_by, first_of, record_of, stage_recorded, trusted_bius, trusted_rmus, vote_on}
-use Rattle.rb_listen.specs.Passes.{is_call}
-use Rattle.rb_listen.specs.declared.lesson.First.{First}
-use Rattle.rb_listen.specs.declared.search.Search.{Search}
+use Rattle.rb_rules.specs.{declared.sense.Sense.Sense, Clock.IsStamp, Conviction.convicted_by, Goodness.{Scenario, is_good}, Judging.JudgedStage, Lawful.IsLawful, Moments.{IsComplete, IsGoodBefore}, NodeState.{NodeState, trusted_of}, Ports.HandIn, Rounds.{moment, windows_in}, Sense.stamp_in, Slots.{first_diagnosis_of, role_of}, Standing.without}
+use Rattle.rb_rules.proofs.{Slots.sync_role, Spellings.read_back}
+use Rattle.rb_laws_agreement.proofs.{Agreement.agreement, FrameTurns.convicted_all, Places.running_earlier, Vectors.{convicted_same, vector_slot}}
+use Rattle.rb_listen.specs.{Lessons.{convicted_bius, convicted_rmus, first_by, first_of, record_of, stage_recorded, trusted_bius, trusted_rmus, vote_on}, Passes.is_call, declared.lesson.First.First, declared.search.Search.Search}
 use Rattle.rb_laws_listener_near.specs.Judged.{verdict_with}
-use Rattle.rb_laws_listener_learns.specs.Calling.{IsHeardToCall}
-use Rattle.rb_laws_listener_learns.specs.Deciding.{DecidesBy}
-use Rattle.rb_laws_listener_learns.specs.Ears.{Ear, HearsTheRun, IsEar, IsHeard, SendsIn, coming_to}
-use Rattle.rb_laws_listener_learns.specs.Learned.{HasCall, HasLearned}
-use Rattle.rb_laws_listener_learns.specs.Receivers.{IsCalm, is_call_of, seen_closed, seen_by, seen_in, seen_learned}
-use Rattle.rb_laws_listener_learns.specs.Records.{IsRecorded}
-use Rattle.rb_laws_listener_learns.proofs.Ahead.{FindsFirst, call-place, finds-first}
-use Rattle.rb_laws_listener_learns.proofs.Calling.{heard-to-call}
-use Rattle.rb_laws_listener_learns.proofs.CallTimes.{finds-call, found-call, stamped-call}
-use Rattle.rb_laws_listener_learns.proofs.FrameStages.{IsAtWindow, at-window, first_of_frame}
-use Rattle.rb_laws_listener_learns.proofs.LearnedVotes.{Learner, rmu-vote}
-use Rattle.rb_laws_listener_learns.proofs.Noting.{IsNotedBy}
-use Rattle.rb_laws_listener_learns.proofs.RelayedVotes.{biu-vote}
-use Rattle.rb_laws_listener_learns.proofs.Sendings.{IsInPlace, in-place}
-use Rattle.rb_laws_listener_learns.proofs.TrustedSets.{GoodThere, IsIn, KnowsAt, good-there, in-run, knows-at, trusted-in-sync}
-use Rattle.rb_laws_listener_learns.proofs.Turning.{EndOf, end-of}
-use Rattle.rb_laws_listener_learns.proofs.Whole.{HasLesson, come-by, has-lesson}
+use Rattle.rb_laws_listener_learns.specs.{Calling.IsHeardToCall, Deciding.DecidesBy, Ears.{Ear, HearsTheRun, IsEar, IsHeard, SendsIn, coming_to}, Learned.{HasCall, HasLearned}, Receivers.{IsCalm, is_call_of, seen_closed, seen_by, seen_in, seen_learned}, Records.IsRecorded}
+use Rattle.rb_laws_listener_learns.proofs.{Ahead.{FindsFirst, call-place, finds-first}, Calling.heard-to-call, CallTimes.{finds-call, found-call, stamped-call}, FrameStages.{IsAtWindow, at-window, first_of_frame}, LearnedVotes.{Learner, rmu-vote}, Noting.IsNotedBy, RelayedVotes.biu-vote, Sendings.{IsInPlace, in-place}, TrustedSets.{GoodThere, IsIn, KnowsAt, good-there, in-run, knows-at, trusted-in-sync}, Turning.{EndOf, end-of}, Whole.{HasLesson, come-by, has-lesson}}
 
 -- The premise, by what is recorded.
 

@@ -1,12 +1,8 @@
 -- Two sets of more than half of all RMUs have one in common.
-use Rattle.std.proofs.Common.{◌≡◌, ℕ, ◌+◌, ◌*◌, ◌<◌, ◌≤◌, ◌&&◌, nat_lt, true, false, sym, ◌∙◌, inl, inr, arith}
+use Rattle.std.proofs.{Common.{◌≡◌, ℕ, ◌+◌, ◌*◌, ◌<◌, ◌≤◌, ◌&&◌, nat_lt, true, false, sym, ◌∙◌, inl, inr, arith}, lemmas.Bool.{and_from, false_from_ne_true, lt-ltb, ltb-true}}
 use Rattle.std.specs.List.{list_any}
-use Rattle.std.proofs.lemmas.Bool.{and_from, false_from_ne_true, lt-ltb, ltb-true}
-use Rattle.rb_base.specs.Counting.{numbers}
-use Rattle.rb_base.specs.Nodes.{has, set_of, size}
-use Rattle.rb_base.specs.Sizes.{Sizes}
-use Rattle.rb_base.proofs.Sets.{has-set_of}
-use Rattle.rb_base.proofs.SetSizes.{size_apart, size_first}
+use Rattle.rb_base.specs.{Counting.numbers, Nodes.{has, set_of, size}, Sizes.Sizes}
+use Rattle.rb_base.proofs.{Sets.has-set_of, SetSizes.{size_apart, size_first}}
 use Rattle.rb_listen.specs.Passes.{are_most}
 use Rattle.rb_laws_agreement.proofs.Tests.{Passing, passes_at, passing, true_or_false}
 

@@ -1,13 +1,8 @@
 -- A good RMU's message tells the window in which it was sent, so no two of its messages have one
 -- place.
-use Rattle.std.proofs.Common.{◌≡◌, ℕ, ◌+◌, ◌*◌, ◌%◌, ◌≤◌, List, sym, ◌∙◌, ap, subst, arith}
-use Rattle.std.proofs.lemmas.Option.{same_Some}
+use Rattle.std.proofs.{Common.{◌≡◌, ℕ, ◌+◌, ◌*◌, ◌%◌, ◌≤◌, List, sym, ◌∙◌, ap, subst, arith}, lemmas.Option.same_Some}
 use Rattle.rb_base.specs.Nodes.Side.{Rmu}
-use Rattle.rb_rules.specs.Goodness.{Scenario}
-use Rattle.rb_rules.specs.Hearing.{Coming, Sending}
-use Rattle.rb_rules.specs.Lawful.{IsLawful}
-use Rattle.rb_rules.specs.Ports.{HandIn}
-use Rattle.rb_rules.specs.Rounds.{moment, sending_in, window_in, windows_in}
+use Rattle.rb_rules.specs.{Goodness.Scenario, Hearing.{Coming, Sending}, Lawful.IsLawful, Ports.HandIn, Rounds.{moment, sending_in, window_in, windows_in}}
 use Rattle.rb_laws_agreement.proofs.Agreement.{IsAgreed, agreement}
 use Rattle.rb_laws_synchrony.proofs.EpochTicks.{within_run}
 use Rattle.rb_laws_listener_learns.specs.Ears.{Ear, IsOfGood, SendsIn, coming_to}

@@ -1,20 +1,11 @@
 -- What a lesson has recorded of each RMU in a slot is what came of it since the lesson began.
-use Rattle.std.proofs.Common.{◌≡◌, ◌⊎◌, ℕ, zero, suc, ◌+◌, ◌*◌, ◌<◌, ◌≤◌, ◌==◌, Bool, true, false, Some, None, List, [], ◌∷◌, length, get_or, slice_get, slice_set, if◌then◌else◌, inl, inr, refl, sym, ◌∙◌, ap, subst, arith}
-use Rattle.std.proofs.lemmas.Option.{same_Some}
+use Rattle.std.proofs.{Common.{◌≡◌, ◌⊎◌, ℕ, zero, suc, ◌+◌, ◌*◌, ◌<◌, ◌≤◌, ◌==◌, Bool, true, false, Some, None, List, [], ◌∷◌, length, get_or, slice_get, slice_set, if◌then◌else◌, inl, inr, refl, sym, ◌∙◌, ap, subst, arith}, lemmas.Option.same_Some}
 use Rattle.rb_base.specs.Sizes.{IsShape, Sizes, sync_slot_of}
-use Rattle.rb_rules.specs.declared.message.Message.{Message}
-use Rattle.rb_rules.specs.declared.sense.Sense.{Sense}
-use Rattle.rb_rules.specs.declared.sense.Sense.TheVariants.{Silent, One, Bad}
-use Rattle.rb_rules.specs.Goodness.{Scenario}
-use Rattle.rb_rules.specs.Hearing.{Coming}
-use Rattle.rb_rules.specs.Sense.{tag_suits}
-use Rattle.rb_rules.specs.Spelling.{message_in}
-use Rattle.rb_listen.specs.Lessons.{has_place, noted, nothing_recorded, place_of, record_of, with_message, with_record}
-use Rattle.rb_listen.specs.declared.lesson.Lesson.{Lesson}
+use Rattle.rb_rules.specs.{declared.message.Message.Message, declared.sense.Sense.Sense, declared.sense.Sense.TheVariants.{Silent, One, Bad}, Goodness.Scenario, Hearing.Coming, Sense.tag_suits, Spelling.message_in}
+use Rattle.rb_listen.specs.{Lessons.{has_place, noted, nothing_recorded, place_of, record_of, with_message, with_record}, declared.lesson.Lesson.Lesson}
 use Rattle.rb_listen.proofs.Passing.{in-a-slot}
 use Rattle.rb_laws_listener_learns.specs.Ears.{Ear}
-use Rattle.rb_laws_listener_learns.proofs.Latest.{earlier-by, earlier-split, whole-earlier}
-use Rattle.rb_laws_listener_learns.proofs.Recorded.{IsEarlier, nothing-there, same-place}
+use Rattle.rb_laws_listener_learns.proofs.{Latest.{earlier-by, earlier-split, whole-earlier}, Recorded.{IsEarlier, nothing-there, same-place}}
 
 -- message `i` of stamp `at` is from RMU `j`, and has a place in this slot of the lesson on a frame
 pub record IsPlacedAt (sc : Scenario) (ear : Ear) (frame slot j at i : ℕ) (m : Message) : Type 0 where

@@ -1,21 +1,12 @@
 -- A pass by the newest calls: if one more call makes a pass that was not there, it is one of the
 -- pass.
-use Rattle.std.proofs.Common.{◌≡◌, ◌⊎◌, ℕ, zero, suc, ◌+◌, ◌-◌, ◌*◌, ◌<◌, ◌≤◌, ◌==◌, ◌&&◌, nat_le, nat_lt, Bool, true, false, Option, Some, None, List, [], ◌∷◌, length, get_or, slice_set, inl, inr, refl, sym, ◌∙◌, ap, arith}
-use Rattle.std.proofs.lemmas.Bool.{cases_lt, eqb-true, leb-true, lt-ltb, ltb-true}
-use Rattle.std.proofs.lemmas.Bool.Decides.{nat_tests}
-use Rattle.std.proofs.lemmas.List.{get_or-set_same}
-use Rattle.std.proofs.lemmas.Option.{same_Some}
-use Rattle.rb_base.specs.Nodes.{has, size}
-use Rattle.rb_base.specs.Sizes.{Sizes}
-use Rattle.rb_base.proofs.Plain.{and_first, and_second}
-use Rattle.rb_base.proofs.Sets.{has-set_of}
-use Rattle.rb_base.proofs.SetSizes.{size_within}
+use Rattle.std.proofs.{Common.{◌≡◌, ◌⊎◌, ℕ, zero, suc, ◌+◌, ◌-◌, ◌*◌, ◌<◌, ◌≤◌, ◌==◌, ◌&&◌, nat_le, nat_lt, Bool, true, false, Option, Some, None, List, [], ◌∷◌, length, get_or, slice_set, inl, inr, refl, sym, ◌∙◌, ap, arith}, lemmas.Bool.{cases_lt, eqb-true, leb-true, lt-ltb, ltb-true}, lemmas.Bool.Decides.nat_tests, lemmas.List.get_or-set_same, lemmas.Option.same_Some}
+use Rattle.rb_base.specs.{Nodes.{has, size}, Sizes.Sizes}
+use Rattle.rb_base.proofs.{Plain.{and_first, and_second}, Sets.has-set_of, SetSizes.size_within}
 use Rattle.rb_rules.specs.declared.plan.Plan.{Plan}
 use Rattle.rb_laws_agreement.proofs.Tests.{Passing}
-use Rattle.rb_listen.specs.Passes.{are_most, begins_pass, calling, falls_in, frame_in, pass_among, pass_of, reach_of}
-use Rattle.rb_listen.specs.declared.passes.Call.{Call}
-use Rattle.rb_laws_listener_learns.proofs.Meeting.{AreRmus, meet}
-use Rattle.rb_laws_listener_learns.proofs.Seeks.{set-other}
+use Rattle.rb_listen.specs.{Passes.{are_most, begins_pass, calling, falls_in, frame_in, pass_among, pass_of, reach_of}, declared.passes.Call.Call}
+use Rattle.rb_laws_listener_learns.proofs.{Meeting.{AreRmus, meet}, Seeks.set-other}
 
 -- a pass of `frame` begins with the call of RMU `i`
 pub record BeginsAt (sizes : Sizes) (plan : Plan) (newest : List (Option Call)) (frame : ℕ) : Type 0 where

@@ -1,26 +1,11 @@
 -- What a search has recorded of good RMUs, message by message.
-use Rattle.std.proofs.Common.{◌≡◌, ◌⊎◌, ℕ, zero, suc, ◌+◌, ◌*◌, ◌<◌, ◌==◌, ◌&&◌, nat_le, Bool, true, false, Some, List, [], ◌∷◌, get_or, slice_get, slice_set, replicate, if◌then◌else◌, inl, inr, refl, sym, ◌∙◌, ap, subst, arith}
-use Rattle.std.proofs.lemmas.Bool.{eqb-true}
-use Rattle.std.proofs.lemmas.Option.{same_Some}
+use Rattle.std.proofs.{Common.{◌≡◌, ◌⊎◌, ℕ, zero, suc, ◌+◌, ◌*◌, ◌<◌, ◌==◌, ◌&&◌, nat_le, Bool, true, false, Some, List, [], ◌∷◌, get_or, slice_get, slice_set, replicate, if◌then◌else◌, inl, inr, refl, sym, ◌∙◌, ap, subst, arith}, lemmas.Bool.eqb-true, lemmas.Option.same_Some}
 use Rattle.rb_base.specs.Sizes.{sync_slot_of}
-use Rattle.rb_rules.specs.declared.message.Message.{Message}
-use Rattle.rb_rules.specs.declared.sense.Sense.{Sense}
-use Rattle.rb_rules.specs.declared.sense.Sense.TheVariants.{Silent, One, Bad}
-use Rattle.rb_rules.specs.Goodness.{Scenario}
-use Rattle.rb_rules.specs.Hearing.{Coming}
-use Rattle.rb_rules.specs.Lawful.{IsLawful}
-use Rattle.rb_rules.specs.Ports.{HandIn}
-use Rattle.rb_rules.specs.Sense.{tag_suits}
-use Rattle.rb_rules.specs.Slots.{role_of}
-use Rattle.rb_rules.specs.Spelling.{message_in}
-use Rattle.rb_rules.proofs.Spellings.{read_back}
-use Rattle.rb_rules.proofs.Stamps.{one_stamp}
-use Rattle.rb_listen.specs.Lessons.{has_place, nothing_recorded, noted, place_of, record_of, stage_recorded, with_message, with_record}
-use Rattle.rb_listen.specs.declared.lesson.Lesson.{Lesson}
-use Rattle.rb_laws_listener_learns.specs.Ears.{Ear, HearsTheRun, IsEar, IsOfGood, is_always_good}
-use Rattle.rb_laws_listener_learns.specs.Records.{IsOfPlace}
-use Rattle.rb_laws_listener_learns.proofs.Moments.{same-coming}
-use Rattle.rb_laws_listener_learns.proofs.Sendings.{in-place}
+use Rattle.rb_rules.specs.{declared.message.Message.Message, declared.sense.Sense.Sense, declared.sense.Sense.TheVariants.{Silent, One, Bad}, Goodness.Scenario, Hearing.Coming, Lawful.IsLawful, Ports.HandIn, Sense.tag_suits, Slots.role_of, Spelling.message_in}
+use Rattle.rb_rules.proofs.{Spellings.read_back, Stamps.one_stamp}
+use Rattle.rb_listen.specs.{Lessons.{has_place, nothing_recorded, noted, place_of, record_of, stage_recorded, with_message, with_record}, declared.lesson.Lesson.Lesson}
+use Rattle.rb_laws_listener_learns.specs.{Ears.{Ear, HearsTheRun, IsEar, IsOfGood, is_always_good}, Records.IsOfPlace}
+use Rattle.rb_laws_listener_learns.proofs.{Moments.same-coming, Sendings.in-place}
 
 -- message `nth` of stamp `at` is heard before message `n` of stamp `k`
 abbrev pub IsEarlier : ℕ → ℕ → ℕ → ℕ → Type 0

@@ -1,54 +1,16 @@
 -- The votes of a listener on the vectors of BIUs, which the RMUs relay in stage 2, are those of the
 -- bus.
-use Rattle.std.proofs.Common.{◌≡◌, ◌⊎◌, ℕ, zero, suc, ◌+◌, ◌-◌, ◌*◌, ◌/◌, ◌%◌, ◌<◌, ◌==◌, true, false, Option, Some, None, unwrap_or, if◌then◌else◌, List, [], ◌∷◌, length, map, get_or, slice_get, inl, inr, refl, sym, ◌∙◌, ap, subst, arith}
+use Rattle.std.proofs.{Common.{◌≡◌, ◌⊎◌, ℕ, zero, suc, ◌+◌, ◌-◌, ◌*◌, ◌/◌, ◌%◌, ◌<◌, ◌==◌, true, false, Option, Some, None, unwrap_or, if◌then◌else◌, List, [], ◌∷◌, length, map, get_or, slice_get, inl, inr, refl, sym, ◌∙◌, ap, subst, arith}, lemmas.Bool.false_from_ne_true, lemmas.Bool.Decides.nat_tests}
 use Rattle.std.specs.List.{list_any, range_with_len}
-use Rattle.std.proofs.lemmas.Bool.{false_from_ne_true}
-use Rattle.std.proofs.lemmas.Bool.Decides.{nat_tests}
-use Rattle.rb_base.specs.Nodes.{Side, has, other}
-use Rattle.rb_base.specs.Nodes.Side.{Biu, Rmu}
-use Rattle.rb_base.specs.Sizes.{sync_slot_of}
-use Rattle.rb_base.specs.declared.values.Heard.{Heard}
-use Rattle.rb_base.specs.declared.values.Heard.TheVariants.{Fault}
-use Rattle.rb_base.specs.declared.values.See.{See}
-use Rattle.rb_base.specs.declared.values.See.TheVariants.{Nothing}
-use Rattle.rb_base.proofs.Plain.{less-differs, none-if}
-use Rattle.rb_base.proofs.Sets.{has-set_of}
-use Rattle.rb_rules.specs.declared.role.Role.TheVariants.{DiagBiu}
-use Rattle.rb_rules.specs.declared.sense.Sense.{Sense}
-use Rattle.rb_rules.specs.Book.{judged_of, of_kind}
-use Rattle.rb_rules.specs.ExactStage.{present, says, see_value, votes_in}
-use Rattle.rb_rules.specs.Goodness.{Scenario, is_good}
-use Rattle.rb_rules.specs.Judging.{JudgedStage, are_alike, is_suspect, was_unlike}
-use Rattle.rb_rules.specs.Majority.{majority_of}
-use Rattle.rb_rules.specs.NodeState.{NodeState}
-use Rattle.rb_rules.specs.Ports.{HandIn}
-use Rattle.rb_rules.specs.Rounds.{Moment, moment}
-use Rattle.rb_rules.specs.Sense.{stamp_in, value_in}
-use Rattle.rb_rules.specs.SyncStage.{see_time}
-use Rattle.rb_rules.specs.Slots.{role_of, sender_in, sender_kind}
-use Rattle.rb_rules.specs.Slots.Sender.{Nobody, Node}
-use Rattle.rb_laws_agreement.proofs.Exchanges.{sender-held, shows_taken}
-use Rattle.rb_laws_agreement.proofs.FrameTurns.{role-sender}
-use Rattle.rb_laws_agreement.proofs.Goodnesses.{good_below_16, good_earlier}
-use Rattle.rb_laws_agreement.proofs.Invariant.{GoodSent, HasRelays, HasVoted, IsGoodNode, is_good_now, kind_in, sender_of}
-use Rattle.rb_laws_agreement.proofs.JudgedWindows.{alike_values, rows_of}
-use Rattle.rb_laws_agreement.proofs.NextMoments.{CameFrom, came_from, next}
-use Rattle.rb_laws_agreement.proofs.NodeWindows.{word_at}
-use Rattle.rb_laws_agreement.proofs.SecondStages.{GoodOne, all_vote, carried_2, relays, some_good, vote-held, vote_of}
-use Rattle.rb_laws_agreement.proofs.Settings.{all_heard, all_seen, good_here, good_state, taken, ticks, windows}
-use Rattle.rb_laws_agreement.proofs.Speaking.{got_is_said}
-use Rattle.rb_laws_agreement.proofs.Tests.{Present, or_neither_second, true_or_false}
-use Rattle.rb_laws_agreement.proofs.ThirdStages.{voted}
-use Rattle.rb_laws_agreement.proofs.Vectors.{vector_slot, vector_slot-lt, vector_slot-role}
+use Rattle.rb_base.specs.{Nodes.{Side, has, other}, Nodes.Side.{Biu, Rmu}, Sizes.sync_slot_of, declared.values.Heard.Heard, declared.values.Heard.TheVariants.Fault, declared.values.See.See, declared.values.See.TheVariants.Nothing}
+use Rattle.rb_base.proofs.{Plain.{less-differs, none-if}, Sets.has-set_of}
+use Rattle.rb_rules.specs.{declared.role.Role.TheVariants.DiagBiu, declared.sense.Sense.Sense, Book.{judged_of, of_kind}, ExactStage.{present, says, see_value, votes_in}, Goodness.{Scenario, is_good}, Judging.{JudgedStage, are_alike, is_suspect, was_unlike}, Majority.majority_of, NodeState.NodeState, Ports.HandIn, Rounds.{Moment, moment}, Sense.{stamp_in, value_in}, SyncStage.see_time, Slots.{role_of, sender_in, sender_kind}, Slots.Sender.{Nobody, Node}}
+use Rattle.rb_laws_agreement.proofs.{Exchanges.{sender-held, shows_taken}, FrameTurns.role-sender, Goodnesses.{good_below_16, good_earlier}, Invariant.{GoodSent, HasRelays, HasVoted, IsGoodNode, is_good_now, kind_in, sender_of}, JudgedWindows.{alike_values, rows_of}, NextMoments.{CameFrom, came_from, next}, NodeWindows.word_at, SecondStages.{GoodOne, all_vote, carried_2, relays, some_good, vote-held, vote_of}, Settings.{all_heard, all_seen, good_here, good_state, taken, ticks, windows}, Speaking.got_is_said, Tests.{Present, or_neither_second, true_or_false}, ThirdStages.voted, Vectors.{vector_slot, vector_slot-lt, vector_slot-role}}
 use Rattle.rb_listen.specs.Lessons.{record_of, recorded_of, stage_recorded, trusted_rmus, vote_on}
 use Rattle.rb_laws_listener_near.specs.Judged.{heard_stages, was_unlike_with}
 use Rattle.rb_laws_listener_near.proofs.Sides.{SideAlike, bius_alike, rmus_alike, side_alike}
-use Rattle.rb_laws_listener_learns.specs.Ears.{Ear}
-use Rattle.rb_laws_listener_learns.specs.Receivers.{is_idle, is_nobody, see_learned, see_recorded, seen_learned, timed_see}
-use Rattle.rb_laws_listener_learns.proofs.FrameStages.{Grows, IsAtWindow, at-window, fewer-none, first_of_frame, grows, last-suspects, place_at, told-now}
-use Rattle.rb_laws_listener_learns.proofs.LearnedVotes.{AtStage, Learner, at-stage, before-end, good-in-sync, good-trusted, same-shared, trust-end, value-at-end, votes-for}
-use Rattle.rb_laws_listener_learns.proofs.Spoken.{recorded-value}
-use Rattle.rb_laws_listener_learns.proofs.TrustedSets.{GoodThere, IsIn, good-there}
+use Rattle.rb_laws_listener_learns.specs.{Ears.Ear, Receivers.{is_idle, is_nobody, see_learned, see_recorded, seen_learned, timed_see}}
+use Rattle.rb_laws_listener_learns.proofs.{FrameStages.{Grows, IsAtWindow, at-window, fewer-none, first_of_frame, grows, last-suspects, place_at, told-now}, LearnedVotes.{AtStage, Learner, at-stage, before-end, good-in-sync, good-trusted, same-shared, trust-end, value-at-end, votes-for}, Spoken.recorded-value, TrustedSets.{GoodThere, IsIn, good-there}}
 
 -- Lists.
 

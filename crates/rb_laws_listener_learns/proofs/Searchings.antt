@@ -1,15 +1,9 @@
 -- What a message makes of a search, case by case.
-use Rattle.std.proofs.Common.{◌≡◌, ℕ, ◌+◌, ◌^◌, ◌<◌, ◌==◌, ◌&&◌, nat_lt, Bool, true, false, Option, Some, None, List, if◌then◌else◌, refl, sym, ◌∙◌}
-use Rattle.std.proofs.lemmas.Bool.{eqb-true, lt-ltb, ltb-true}
+use Rattle.std.proofs.{Common.{◌≡◌, ℕ, ◌+◌, ◌^◌, ◌<◌, ◌==◌, ◌&&◌, nat_lt, Bool, true, false, Option, Some, None, List, if◌then◌else◌, refl, sym, ◌∙◌}, lemmas.Bool.{eqb-true, lt-ltb, ltb-true}}
 use Rattle.rb_base.specs.Sizes.{Sizes}
 use Rattle.rb_base.proofs.Plain.{and_first, and_second}
-use Rattle.rb_rules.specs.declared.message.Message.{Message}
-use Rattle.rb_rules.specs.declared.plan.Plan.{Plan}
-use Rattle.rb_rules.specs.Spelling.{message_in}
-use Rattle.rb_listen.specs.Lessons.{frame_after, has_place, with_record}
-use Rattle.rb_listen.specs.Listening.{if_message, if_pass, learning, newest_with, passing, recorded, searching, timed, with_message, with_pass}
-use Rattle.rb_listen.specs.Passes.{is_call, pass_of, reach_of}
-use Rattle.rb_listen.specs.declared.search.Search.{Search}
+use Rattle.rb_rules.specs.{declared.message.Message.Message, declared.plan.Plan.Plan, Spelling.message_in}
+use Rattle.rb_listen.specs.{Lessons.{frame_after, has_place, with_record}, Listening.{if_message, if_pass, learning, newest_with, passing, recorded, searching, timed, with_message, with_pass}, Passes.{is_call, pass_of, reach_of}, declared.search.Search.Search}
 
 -- A pass.
 

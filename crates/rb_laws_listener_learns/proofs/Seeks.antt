@@ -1,34 +1,15 @@
 -- What a listener learns is the frame after one in which the RMUs called: most of all RMUs are
 -- good, so one of them is in each pass.
-use Rattle.std.proofs.Common.{◌≡◌, ◌⊎◌, ℕ, zero, suc, ◌+◌, ◌-◌, ◌^◌, ◌<◌, ◌≤◌, ◌==◌, ◌&&◌, not, nat_lt, nat_le, Bool, true, false, Option, Some, None, is_some, List, [], ◌∷◌, get_or, slice_get, slice_set, replicate, if◌then◌else◌, inl, inr, refl, sym, ◌∙◌, ap, subst, arith}
-use Rattle.std.proofs.lemmas.Bool.{cases_lt, eqb-true, ltb-true, not-true}
-use Rattle.rb_base.specs.Nodes.{has, set_of}
-use Rattle.rb_base.specs.Sizes.{IsShape, Sizes}
-use Rattle.rb_base.proofs.Plain.{and_first, and_second}
-use Rattle.rb_base.proofs.Sets.{has-set_of}
-use Rattle.rb_rules.specs.declared.message.Message.{Message}
-use Rattle.rb_rules.specs.declared.plan.Plan.{Plan}
-use Rattle.rb_rules.specs.Core.{is_tick}
-use Rattle.rb_rules.specs.Goodness.{Scenario}
-use Rattle.rb_rules.specs.Hearing.{Coming}
-use Rattle.rb_rules.specs.Lawful.{IsLawful}
-use Rattle.rb_rules.specs.Moments.{before_slot}
-use Rattle.rb_rules.specs.Ports.{HandIn}
-use Rattle.rb_rules.specs.Spelling.{message_in}
+use Rattle.std.proofs.{Common.{◌≡◌, ◌⊎◌, ℕ, zero, suc, ◌+◌, ◌-◌, ◌^◌, ◌<◌, ◌≤◌, ◌==◌, ◌&&◌, not, nat_lt, nat_le, Bool, true, false, Option, Some, None, is_some, List, [], ◌∷◌, get_or, slice_get, slice_set, replicate, if◌then◌else◌, inl, inr, refl, sym, ◌∙◌, ap, subst, arith}, lemmas.Bool.{cases_lt, eqb-true, ltb-true, not-true}}
+use Rattle.rb_base.specs.{Nodes.{has, set_of}, Sizes.{IsShape, Sizes}}
+use Rattle.rb_base.proofs.{Plain.{and_first, and_second}, Sets.has-set_of}
+use Rattle.rb_rules.specs.{declared.message.Message.Message, declared.plan.Plan.Plan, Core.is_tick, Goodness.Scenario, Hearing.Coming, Lawful.IsLawful, Moments.before_slot, Ports.HandIn, Spelling.message_in}
 use Rattle.rb_laws_agreement.proofs.Tests.{Passing}
-use Rattle.rb_listen.specs.Lessons.{first_of, frame_after, has_place, noted, with_record}
-use Rattle.rb_listen.specs.Listening.{Heeding, Listening, decided, first_search, hear, heed, if_after, if_call, if_message, if_pass, is_deciding, is_over, later, learning, newest_with, passing, recorded, search_on, searching, timed, untold, wait_on, with_message, with_pass}
-use Rattle.rb_listen.specs.Listening as now
-use Rattle.rb_listen.specs.Passes.{begins_pass, calling, falls_in, frame_in, is_call, pass_among, pass_of, reach_of, are_most}
-use Rattle.rb_listen.specs.declared.lesson.First.{First}
-use Rattle.rb_listen.specs.declared.lesson.Lesson.{Lesson}
-use Rattle.rb_listen.specs.declared.passes.Call.{Call}
-use Rattle.rb_listen.specs.declared.search.Search.{Search}
+use Rattle.rb_listen.specs.{Lessons.{first_of, frame_after, has_place, noted, with_record}, Listening.{Heeding, Listening, decided, first_search, hear, heed, if_after, if_call, if_message, if_pass, is_deciding, is_over, later, learning, newest_with, passing, recorded, search_on, searching, timed, untold, wait_on, with_message, with_pass}, Passes.{begins_pass, calling, falls_in, frame_in, is_call, pass_among, pass_of, reach_of, are_most}, declared.lesson.First.First, declared.lesson.Lesson.Lesson, declared.passes.Call.Call, declared.search.Search.Search}
 use Rattle.rb_listen.proofs.Searches.{noted-decides}
-use Rattle.rb_laws_listener_learns.specs.Ears.{Ear, HearsTheRun, IsHeard, IsOfFaulty, comes_to, hears, is_always_good, listening_at}
-use Rattle.rb_laws_listener_learns.specs.Seeking.{SeeksAFrame}
-use Rattle.rb_laws_listener_learns.proofs.CallsSent.{IsCalled, called}
-use Rattle.rb_laws_listener_learns.proofs.Meeting.{meet}
+use Rattle.rb_laws_listener_learns.specs.{Ears.{Ear, HearsTheRun, IsHeard, IsOfFaulty, comes_to, hears, is_always_good, listening_at}, Seeking.SeeksAFrame}
+use Rattle.rb_laws_listener_learns.proofs.{CallsSent.{IsCalled, called}, Meeting.meet}
+use Rattle.rb_listen.specs.Listening as now
 
 -- Lists.
 

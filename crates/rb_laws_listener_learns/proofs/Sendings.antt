@@ -1,40 +1,13 @@
 -- What a good RMU sends in a window is one message of the window's place, with a tag that suits it.
-use Rattle.std.proofs.Common.{◌≡◌, ℕ, zero, suc, ◌+◌, ◌-◌, ◌*◌, ◌/◌, ◌%◌, ◌<◌, ◌≤◌, ◌==◌, true, false, Option, Some, None, List, option_map, unwrap_or, get_or, inl, inr, refl, sym, ◌∙◌, ap, subst, arith}
-use Rattle.std.proofs.lemmas.Bool.{cases_lt}
-use Rattle.std.proofs.lemmas.Bool.Decides.{nat_tests}
-use Rattle.std.proofs.lemmas.Option.{same_Some}
-use Rattle.rb_base.specs.Nodes.{Side, other}
-use Rattle.rb_base.specs.Nodes.Side.{Biu, Rmu}
-use Rattle.rb_base.specs.Sizes.{Sizes, sync_slot_of}
-use Rattle.rb_base.specs.declared.values.Heard.{Heard}
-use Rattle.rb_base.specs.declared.values.Heard.TheVariants.{Word, Fault}
-use Rattle.rb_rules.specs.declared.message.Message.{Message}
-use Rattle.rb_rules.specs.declared.role.Role.TheVariants as role
-use Rattle.rb_rules.specs.ExactStage.{message_of, own_value, says}
-use Rattle.rb_rules.specs.Goodness.{Scenario, is_good}
-use Rattle.rb_rules.specs.Hearing.{Sending, sending}
-use Rattle.rb_rules.specs.Lawful.{IsLawful}
-use Rattle.rb_rules.specs.NodeState.{NodeState}
-use Rattle.rb_rules.specs.NodeSteps.{message_said}
-use Rattle.rb_rules.specs.Ports.{HandIn}
-use Rattle.rb_rules.specs.Rounds.{Moment, moment}
-use Rattle.rb_rules.specs.Sense.{tag_suits}
-use Rattle.rb_rules.specs.Slots.{listens, role_of, sender_kind}
-use Rattle.rb_rules.specs.Spelling.{IsMessage}
-use Rattle.rb_rules.specs.SyncStage.{call_of}
-use Rattle.rb_rules.proofs.Senses.{IsCarried, value_is_message}
-use Rattle.rb_rules.proofs.Slots.{few_slots}
-use Rattle.rb_laws_agreement.proofs.Agreement.{IsAgreed, agreement}
-use Rattle.rb_laws_agreement.proofs.Goodnesses.{slot_here, slot_last}
-use Rattle.rb_laws_agreement.proofs.Invariant.{Agree, HasRelays, HasVoted, IsGoodNode, Shared, slot_numbered}
-use Rattle.rb_laws_agreement.proofs.NodeWindows.{Windows, exact_windows, sync_windows_are, tail_windows, word_at}
-use Rattle.rb_laws_agreement.proofs.SecondStages.{unwrap-fits}
-use Rattle.rb_laws_agreement.proofs.Speaking.{listens_second, listens_third, only-some, own_fits, says_got, says_nothing, says_own, says_vote, word_fits}
-use Rattle.rb_laws_agreement.proofs.Tests.{true_or_false}
-use Rattle.rb_laws_synchrony.proofs.TakenCalls.{call_sent}
-use Rattle.rb_laws_synchrony.proofs.TimelyWindows.{IsSent, sent_parts}
+use Rattle.std.proofs.{Common.{◌≡◌, ℕ, zero, suc, ◌+◌, ◌-◌, ◌*◌, ◌/◌, ◌%◌, ◌<◌, ◌≤◌, ◌==◌, true, false, Option, Some, None, List, option_map, unwrap_or, get_or, inl, inr, refl, sym, ◌∙◌, ap, subst, arith}, lemmas.Bool.cases_lt, lemmas.Bool.Decides.nat_tests, lemmas.Option.same_Some}
+use Rattle.rb_base.specs.{Nodes.{Side, other}, Nodes.Side.{Biu, Rmu}, Sizes.{Sizes, sync_slot_of}, declared.values.Heard.Heard, declared.values.Heard.TheVariants.{Word, Fault}}
+use Rattle.rb_rules.specs.{declared.message.Message.Message, ExactStage.{message_of, own_value, says}, Goodness.{Scenario, is_good}, Hearing.{Sending, sending}, Lawful.IsLawful, NodeState.NodeState, NodeSteps.message_said, Ports.HandIn, Rounds.{Moment, moment}, Sense.tag_suits, Slots.{listens, role_of, sender_kind}, Spelling.IsMessage, SyncStage.call_of}
+use Rattle.rb_rules.proofs.{Senses.{IsCarried, value_is_message}, Slots.few_slots}
+use Rattle.rb_laws_agreement.proofs.{Agreement.{IsAgreed, agreement}, Goodnesses.{slot_here, slot_last}, Invariant.{Agree, HasRelays, HasVoted, IsGoodNode, Shared, slot_numbered}, NodeWindows.{Windows, exact_windows, sync_windows_are, tail_windows, word_at}, SecondStages.unwrap-fits, Speaking.{listens_second, listens_third, only-some, own_fits, says_got, says_nothing, says_own, says_vote, word_fits}, Tests.true_or_false}
+use Rattle.rb_laws_synchrony.proofs.{TakenCalls.call_sent, TimelyWindows.{IsSent, sent_parts}}
 use Rattle.rb_laws_listener_learns.specs.Ears.{SendsIn}
 use Rattle.rb_laws_listener_learns.proofs.CallsSent.{call-is, sends-at}
+use Rattle.rb_rules.specs.declared.role.Role.TheVariants as role
 
 -- `x` is a message for the place of the moment's window
 pub record IsInPlace (sc : Scenario) (m : Moment) (x : Message) : Type 0 where

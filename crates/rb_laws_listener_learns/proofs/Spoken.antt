@@ -1,30 +1,12 @@
 -- What a good RMU says in a stage that is recorded, and what is recorded of it.
 use Rattle.std.proofs.Common.{◌≡◌, ℕ, ◌+◌, ◌<◌, ◌==◌, true, false, Some, List, refl, sym, ◌∙◌, ap, subst, arith}
-use Rattle.rb_base.specs.Nodes.Side.{Rmu}
-use Rattle.rb_base.specs.Sizes.{Sizes, sync_slot_of}
-use Rattle.rb_base.specs.declared.values.Heard.{Heard}
-use Rattle.rb_base.specs.declared.values.Heard.TheVariants.{Word, Fault}
+use Rattle.rb_base.specs.{Nodes.Side.Rmu, Sizes.{Sizes, sync_slot_of}, declared.values.Heard.Heard, declared.values.Heard.TheVariants.{Word, Fault}}
 use Rattle.rb_base.proofs.Plain.{less-differs}
-use Rattle.rb_rules.specs.declared.plan.Plan.{Plan}
-use Rattle.rb_rules.specs.declared.sense.Sense.{Sense}
-use Rattle.rb_rules.specs.declared.sense.Sense.TheVariants.{One}
-use Rattle.rb_rules.specs.ExactStage.{message_of, says}
-use Rattle.rb_rules.specs.Goodness.{Scenario, is_good}
-use Rattle.rb_rules.specs.Hearing.{sending}
-use Rattle.rb_rules.specs.Moments.{IsRunning}
-use Rattle.rb_rules.specs.NodeState.{NodeState}
-use Rattle.rb_rules.specs.Ports.{HandIn}
-use Rattle.rb_rules.specs.Rounds.{moment, sending_in}
-use Rattle.rb_rules.specs.Sense.{is_one, value_in}
-use Rattle.rb_rules.specs.Slots.{role_of}
-use Rattle.rb_rules.specs.Windows.{send_offset_of}
+use Rattle.rb_rules.specs.{declared.plan.Plan.Plan, declared.sense.Sense.Sense, declared.sense.Sense.TheVariants.One, ExactStage.{message_of, says}, Goodness.{Scenario, is_good}, Hearing.sending, Moments.IsRunning, NodeState.NodeState, Ports.HandIn, Rounds.{moment, sending_in}, Sense.{is_one, value_in}, Slots.role_of, Windows.send_offset_of}
 use Rattle.rb_rules.proofs.Senses.{value_is_in}
-use Rattle.rb_laws_agreement.proofs.Goodnesses.{slot_here}
-use Rattle.rb_laws_agreement.proofs.Invariant.{IsGoodNode}
-use Rattle.rb_laws_agreement.proofs.NodeWindows.{Windows, exact_windows, word_at}
+use Rattle.rb_laws_agreement.proofs.{Goodnesses.slot_here, Invariant.IsGoodNode, NodeWindows.{Windows, exact_windows, word_at}}
 use Rattle.rb_listen.specs.Lessons.{record_of, stage_recorded}
-use Rattle.rb_laws_listener_learns.specs.Ears.{Ear, SendsIn}
-use Rattle.rb_laws_listener_learns.specs.Records.{IsRecorded, RecordsAreWhole}
+use Rattle.rb_laws_listener_learns.specs.{Ears.{Ear, SendsIn}, Records.{IsRecorded, RecordsAreWhole}}
 use Rattle.rb_laws_listener_learns.proofs.Within.{IsExactAt}
 
 said-sending : (sizes : Sizes) (plan : Plan) (j : ℕ) (st : NodeState) (slot stage word : ℕ) (v : Heard) → slot < sync_slot_of sizes → says sizes Rmu j st slot stage word ≡ Some v

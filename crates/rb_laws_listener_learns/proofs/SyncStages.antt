@@ -1,27 +1,9 @@
 -- A stage of the sync slot that passes, and the start of the next frame by those that were good in
 -- it.
 use Rattle.std.proofs.Common.{◌≡◌, ℕ, suc, ◌+◌, ◌*◌, ◌<◌, ◌≤◌, true, false, Some, List, inl, inr, sym, ◌∙◌, ap, subst, arith}
-use Rattle.rb_base.specs.Nodes.{Side}
-use Rattle.rb_base.specs.Sizes.{sync_slot_of}
-use Rattle.rb_rules.specs.Goodness.{Scenario, is_good}
-use Rattle.rb_rules.specs.Lawful.{IsLawful}
-use Rattle.rb_rules.specs.Moments.{IsRunning}
-use Rattle.rb_rules.specs.NodeState.{NodeState}
-use Rattle.rb_rules.specs.Ports.{HandIn}
-use Rattle.rb_rules.specs.Rounds.{moment, next_frame, windows_in}
-use Rattle.rb_rules.specs.SyncStage.{new_epoch_of}
-use Rattle.rb_laws_agreement.proofs.Agreement.{step_is}
-use Rattle.rb_laws_agreement.proofs.FrameAgrees.{TurnedFrom, turned_from}
-use Rattle.rb_laws_agreement.proofs.FrameTimes.{turned-epoch}
-use Rattle.rb_laws_agreement.proofs.Goodnesses.{slot_last}
-use Rattle.rb_laws_agreement.proofs.Invariant.{Agree, IsGoodNode, Shared}
-use Rattle.rb_laws_agreement.proofs.JudgedWindows.{IsPassed, passed, rows_of}
-use Rattle.rb_laws_agreement.proofs.NextMoments.{CameFrom, came_from, next}
-use Rattle.rb_laws_agreement.proofs.NodeWindows.{sync_windows_are, tail_windows}
-use Rattle.rb_laws_agreement.proofs.Places.{running_earlier}
-use Rattle.rb_laws_agreement.proofs.SlotRuns.{next-window}
-use Rattle.rb_laws_agreement.proofs.SyncAgrees.{SyncSetting, agree_sync, book_sync, stage_setting, tail_setting}
-use Rattle.rb_laws_agreement.proofs.SyncWindows.{tail_keeps_epoch}
+use Rattle.rb_base.specs.{Nodes.Side, Sizes.sync_slot_of}
+use Rattle.rb_rules.specs.{Goodness.{Scenario, is_good}, Lawful.IsLawful, Moments.IsRunning, NodeState.NodeState, Ports.HandIn, Rounds.{moment, next_frame, windows_in}, SyncStage.new_epoch_of}
+use Rattle.rb_laws_agreement.proofs.{Agreement.step_is, FrameAgrees.{TurnedFrom, turned_from}, FrameTimes.turned-epoch, Goodnesses.slot_last, Invariant.{Agree, IsGoodNode, Shared}, JudgedWindows.{IsPassed, passed, rows_of}, NextMoments.{CameFrom, came_from, next}, NodeWindows.{sync_windows_are, tail_windows}, Places.running_earlier, SlotRuns.next-window, SyncAgrees.{SyncSetting, agree_sync, book_sync, stage_setting, tail_setting}, SyncWindows.tail_keeps_epoch}
 use Rattle.rb_laws_synchrony.proofs.SyncSteps.{IsPassedStage, passed_stage}
 
 -- moment `k` is before a stage of the sync slot that passes

@@ -1,14 +1,9 @@
 -- An RMU is good in the whole run if and only if it is good in each slot to which the run comes.
-use Rattle.std.proofs.Common.{◌≡◌, ℕ, ◌==◌, ◌&&◌, ◌||◌, not, nat_lt, Bool, true, false, Option, Some, None, get_or, refl, sym, ◌∙◌, ap, arith}
-use Rattle.std.proofs.lemmas.Bool.{and_from, lt-ltb}
-use Rattle.std.proofs.lemmas.Bool.Decides.{nat_tests}
+use Rattle.std.proofs.{Common.{◌≡◌, ℕ, ◌==◌, ◌&&◌, ◌||◌, not, nat_lt, Bool, true, false, Option, Some, None, get_or, refl, sym, ◌∙◌, ap, arith}, lemmas.Bool.{and_from, lt-ltb}, lemmas.Bool.Decides.nat_tests}
 use Rattle.rb_base.specs.Nodes.Side.{Rmu}
 use Rattle.rb_base.proofs.Plain.{and_second}
-use Rattle.rb_rules.specs.Goodness.{is_before, is_good}
-use Rattle.rb_rules.specs.Moments.{before_slot}
-use Rattle.rb_laws_listener_learns.specs.Ears.{comes_to}
-use Rattle.rb_laws_listener_learns.specs.Laws.{AlwaysGoodIsGoodInEachSlot}
-use Rattle.rb_laws_listener_learns.specs.Onsets.{IsGoodThroughout}
+use Rattle.rb_rules.specs.{Goodness.{is_before, is_good}, Moments.before_slot}
+use Rattle.rb_laws_listener_learns.specs.{Ears.comes_to, Laws.AlwaysGoodIsGoodInEachSlot, Onsets.IsGoodThroughout}
 use Rattle.rb_laws_listener_learns.proofs.Fresh.{always-good-in, onset-in}
 
 never-before : (f s : ℕ) → (nat_lt f f || ((f == f) && nat_lt s s)) ≡ true → ⊥

@@ -1,30 +1,13 @@
 -- Good RMUs call at nearly one time, and their calls come at nearly one time.
-use Rattle.std.proofs.Common.{◌≡◌, ℕ, ◌+◌, ◌*◌, ◌<◌, ◌≤◌, min, Some, List, inl, inr, sym, ◌∙◌, ap, subst, arith}
-use Rattle.std.proofs.lemmas.Bool.{cases_lt}
-use Rattle.rb_base.specs.Nodes.Side.{Rmu}
-use Rattle.rb_base.specs.Sizes.{sync_slot_of}
-use Rattle.rb_rules.specs.Clock.{IsStamp, Timeline, time_of}
-use Rattle.rb_rules.specs.Goodness.{Scenario, clock_of, is_good}
-use Rattle.rb_rules.specs.Hearing.{Sending, sending}
-use Rattle.rb_rules.specs.Lawful.{IsDelay, IsLawful}
-use Rattle.rb_rules.specs.Plan.{f0_of, shortest_of}
-use Rattle.rb_rules.specs.Ports.{HandIn}
-use Rattle.rb_rules.specs.Rounds.{moment}
-use Rattle.rb_rules.specs.SyncStage.{call_tick_of}
+use Rattle.std.proofs.{Common.{◌≡◌, ℕ, ◌+◌, ◌*◌, ◌<◌, ◌≤◌, min, Some, List, inl, inr, sym, ◌∙◌, ap, subst, arith}, lemmas.Bool.cases_lt}
+use Rattle.rb_base.specs.{Nodes.Side.Rmu, Sizes.sync_slot_of}
+use Rattle.rb_rules.specs.{Clock.{IsStamp, Timeline, time_of}, Goodness.{Scenario, clock_of, is_good}, Hearing.{Sending, sending}, Lawful.{IsDelay, IsLawful}, Plan.{f0_of, shortest_of}, Ports.HandIn, Rounds.moment, SyncStage.call_tick_of}
 use Rattle.rb_rules.proofs.Middles.{IsBetween}
-use Rattle.rb_laws_agreement.proofs.Goodnesses.{slot_last}
-use Rattle.rb_laws_agreement.proofs.Invariant.{IsGoodNode}
-use Rattle.rb_laws_agreement.proofs.NodeWindows.{Windows, sync_windows_are, word_at}
-use Rattle.rb_laws_synchrony.proofs.PlanNumbers.{drift_of, eps_of}
-use Rattle.rb_laws_synchrony.proofs.StageCalls.{second_calls}
-use Rattle.rb_laws_synchrony.proofs.Synchronous.{from_2, to_2}
-use Rattle.rb_laws_synchrony.proofs.Synchrony.{IsSynchronous, synchrony}
-use Rattle.rb_laws_synchrony.proofs.TakenCalls.{call_sent}
-use Rattle.rb_laws_synchrony.proofs.Times.{Steady, lawful_fits, plan_fits}
+use Rattle.rb_laws_agreement.proofs.{Goodnesses.slot_last, Invariant.IsGoodNode, NodeWindows.{Windows, sync_windows_are, word_at}}
+use Rattle.rb_laws_synchrony.proofs.{PlanNumbers.{drift_of, eps_of}, StageCalls.second_calls, Synchronous.{from_2, to_2}, Synchrony.{IsSynchronous, synchrony}, TakenCalls.call_sent, Times.{Steady, lawful_fits, plan_fits}}
 use Rattle.rb_listen.specs.Passes.{reach_of}
 use Rattle.rb_laws_listener_near.proofs.FramesNear.{steady_clock}
-use Rattle.rb_laws_listener_learns.specs.Ears.{Ear, IsEar, SendsIn, coming_to}
-use Rattle.rb_laws_listener_learns.specs.Together.{CallsComeTogether}
+use Rattle.rb_laws_listener_learns.specs.{Ears.{Ear, IsEar, SendsIn, coming_to}, Together.CallsComeTogether}
 use Rattle.rb_laws_listener_learns.proofs.CallsSent.{sends-at}
 
 -- the listener's clock is steady

@@ -1,25 +1,9 @@
 -- What a listener has recorded of good RMUs at each tick.
-use Rattle.std.proofs.Common.{◌≡◌, ℕ, suc, ◌+◌, ◌^◌, ◌<◌, ◌==◌, ◌&&◌, nat_lt, Bool, true, false, Option, Some, None, is_some, List, slice_get, inl, inr, refl, sym, subst, arith}
-use Rattle.std.proofs.lemmas.Bool.{ltb-true}
-use Rattle.std.proofs.lemmas.Bool.Decides.{nat_tests}
-use Rattle.rb_rules.specs.declared.message.Message.{Message}
-use Rattle.rb_rules.specs.declared.sense.Sense.{Sense}
-use Rattle.rb_rules.specs.declared.sense.Sense.TheVariants.{Silent, One, Bad}
-use Rattle.rb_rules.specs.Goodness.{Scenario}
-use Rattle.rb_rules.specs.Hearing.{Coming}
-use Rattle.rb_rules.specs.Lawful.{IsLawful}
-use Rattle.rb_rules.specs.Ports.{HandIn}
-use Rattle.rb_rules.specs.Spelling.{message_in}
-use Rattle.rb_listen.specs.Lessons.{frame_after, noted, record_of}
-use Rattle.rb_listen.specs.Listening.{first_search, if_message, if_pass, is_over, later, learning, newest_with, passing, recorded, searching, timed, with_message, with_pass}
-use Rattle.rb_listen.specs.Passes.{is_call, pass_of, reach_of}
-use Rattle.rb_listen.specs.declared.lesson.Lesson.{Lesson}
-use Rattle.rb_listen.specs.declared.search.Search.{Search}
-use Rattle.rb_laws_listener_learns.specs.Ears.{Ear, HearsTheRun, IsEar, is_always_good, listening_at}
-use Rattle.rb_laws_listener_learns.specs.Records.{IsTrueRecord, RecordsAreTrue}
-use Rattle.rb_laws_listener_learns.proofs.Recorded.{AreTrueBy, IsNext, IsTrueBy, all-next, all-tick, begun-true, noted-true}
-use Rattle.rb_laws_listener_learns.proofs.Seeks.{always-counts, no-onset}
-use Rattle.rb_laws_listener_learns.proofs.Walks.{HoldsIn, IsKept, always}
+use Rattle.std.proofs.{Common.{◌≡◌, ℕ, suc, ◌+◌, ◌^◌, ◌<◌, ◌==◌, ◌&&◌, nat_lt, Bool, true, false, Option, Some, None, is_some, List, slice_get, inl, inr, refl, sym, subst, arith}, lemmas.Bool.ltb-true, lemmas.Bool.Decides.nat_tests}
+use Rattle.rb_rules.specs.{declared.message.Message.Message, declared.sense.Sense.Sense, declared.sense.Sense.TheVariants.{Silent, One, Bad}, Goodness.Scenario, Hearing.Coming, Lawful.IsLawful, Ports.HandIn, Spelling.message_in}
+use Rattle.rb_listen.specs.{Lessons.{frame_after, noted, record_of}, Listening.{first_search, if_message, if_pass, is_over, later, learning, newest_with, passing, recorded, searching, timed, with_message, with_pass}, Passes.{is_call, pass_of, reach_of}, declared.lesson.Lesson.Lesson, declared.search.Search.Search}
+use Rattle.rb_laws_listener_learns.specs.{Ears.{Ear, HearsTheRun, IsEar, is_always_good, listening_at}, Records.{IsTrueRecord, RecordsAreTrue}}
+use Rattle.rb_laws_listener_learns.proofs.{Recorded.{AreTrueBy, IsNext, IsTrueBy, all-next, all-tick, begun-true, noted-true}, Seeks.{always-counts, no-onset}, Walks.{HoldsIn, IsKept, always}}
 
 pub record IsTrue (sc : Scenario) (hands : List HandIn) (ear : Ear) (k n : ℕ) (s : Search) : Type 0 where
   pub had : s.had ≡ k

@@ -1,56 +1,14 @@
 -- If a listener decides, it knows whom all good nodes trust in the learned frame.
-use Rattle.std.proofs.Common.{◌≡◌, ℕ, suc, ◌+◌, ◌-◌, ◌*◌, ◌%◌, ◌^◌, ◌<◌, ◌≤◌, ◌&&◌, not, nat_lt, Bool, true, Some, if◌then◌else◌, unwrap_or, List, get_or, slice_get, inl, inr, refl, sym, ◌∙◌, ap, subst, arith}
-use Rattle.std.proofs.lemmas.Bool.{and_from, cases_lt, lt-ltb, ltb-true}
-use Rattle.std.proofs.lemmas.Option.{same_Some}
-use Rattle.rb_base.specs.Nodes.{Side, has, set_of, size}
-use Rattle.rb_base.specs.Nodes.Side.{Biu, Rmu}
-use Rattle.rb_base.specs.Sizes.{Sizes, sync_slot_of}
-use Rattle.rb_base.specs.declared.values.Heard.{Heard}
-use Rattle.rb_base.specs.declared.values.Heard.TheVariants.{Fault}
-use Rattle.rb_base.proofs.Plain.{and_first, same_bool}
-use Rattle.rb_base.proofs.Sets.{has-set_of, is_set_of, set_of-lt}
-use Rattle.rb_base.proofs.SetSizes.{size_within}
-use Rattle.rb_rules.specs.declared.sense.Sense.{Sense}
-use Rattle.rb_rules.specs.Book.{of_kind}
-use Rattle.rb_rules.specs.Core.{is_tick}
-use Rattle.rb_rules.specs.ExactStage.{says}
-use Rattle.rb_rules.specs.Goodness.{Scenario}
-use Rattle.rb_rules.specs.Lawful.{IsLawful}
-use Rattle.rb_rules.specs.Moments.{IsComplete, IsGoodBefore, IsRunning, before_slot, before_stage}
-use Rattle.rb_rules.specs.NodeState.{NodeState, sender_at, trusted_of}
-use Rattle.rb_rules.specs.Ports.{HandIn}
-use Rattle.rb_rules.specs.Rounds.{moment, windows_in}
-use Rattle.rb_rules.specs.Sense.{is_one}
-use Rattle.rb_rules.specs.Slots.{count_of, first_diagnosis_of, listens, role_of, sender_in, sender_kind}
-use Rattle.rb_rules.specs.Slots.Sender.{Nobody, Node}
-use Rattle.rb_rules.specs.Standing.{without}
+use Rattle.std.proofs.{Common.{◌≡◌, ℕ, suc, ◌+◌, ◌-◌, ◌*◌, ◌%◌, ◌^◌, ◌<◌, ◌≤◌, ◌&&◌, not, nat_lt, Bool, true, Some, if◌then◌else◌, unwrap_or, List, get_or, slice_get, inl, inr, refl, sym, ◌∙◌, ap, subst, arith}, lemmas.Bool.{and_from, cases_lt, lt-ltb, ltb-true}, lemmas.Option.same_Some}
+use Rattle.rb_base.specs.{Nodes.{Side, has, set_of, size}, Nodes.Side.{Biu, Rmu}, Sizes.{Sizes, sync_slot_of}, declared.values.Heard.Heard, declared.values.Heard.TheVariants.Fault}
+use Rattle.rb_base.proofs.{Plain.{and_first, same_bool}, Sets.{has-set_of, is_set_of, set_of-lt}, SetSizes.size_within}
+use Rattle.rb_rules.specs.{declared.sense.Sense.Sense, Book.of_kind, Core.is_tick, ExactStage.says, Goodness.Scenario, Lawful.IsLawful, Moments.{IsComplete, IsGoodBefore, IsRunning, before_slot, before_stage}, NodeState.{NodeState, sender_at, trusted_of}, Ports.HandIn, Rounds.{moment, windows_in}, Sense.is_one, Slots.{count_of, first_diagnosis_of, listens, role_of, sender_in, sender_kind}, Slots.Sender.{Nobody, Node}, Standing.without}
 use Rattle.rb_rules.proofs.Slots.{schedule_role}
-use Rattle.rb_laws_agreement.proofs.Agreement.{IsAgreed, agreement}
-use Rattle.rb_laws_agreement.proofs.FrameTurns.{convicted_all}
-use Rattle.rb_laws_agreement.proofs.Invariant.{IsGoodNode, is_good_now, slot_numbered}
-use Rattle.rb_laws_agreement.proofs.NodeWindows.{word_at}
-use Rattle.rb_laws_agreement.proofs.Places.{IsPlaced, good_before_slot, placed, running_earlier}
-use Rattle.rb_laws_agreement.proofs.Settings.{good_state}
-use Rattle.rb_laws_agreement.proofs.Speaking.{got_is_said, vote_is_said}
-use Rattle.rb_laws_agreement.proofs.Tests.{Present}
+use Rattle.rb_laws_agreement.proofs.{Agreement.{IsAgreed, agreement}, FrameTurns.convicted_all, Invariant.{IsGoodNode, is_good_now, slot_numbered}, NodeWindows.word_at, Places.{IsPlaced, good_before_slot, placed, running_earlier}, Settings.good_state, Speaking.{got_is_said, vote_is_said}, Tests.Present}
 use Rattle.rb_laws_synchrony.proofs.EpochTicks.{within_run}
-use Rattle.rb_listen.specs.Lessons.{ones_in, record_of, stage_recorded, trusted_bius, trusted_rmus, trusts_biu, trusts_rmu}
-use Rattle.rb_listen.specs.Passes.{are_most}
-use Rattle.rb_listen.specs.declared.search.Search.{Search}
-use Rattle.rb_laws_listener_learns.specs.Deciding.{DecidesBy}
-use Rattle.rb_laws_listener_learns.specs.Ears.{Ear, HearsTheRun, IsEar, is_always_good}
-use Rattle.rb_laws_listener_learns.specs.Learned.{AreTrusted, IsTrustedIn, TrustsTheTrusted}
-use Rattle.rb_laws_listener_learns.specs.Records.{RecordsAreWhole}
-use Rattle.rb_laws_listener_learns.proofs.Fresh.{always-good-at, always-good-in}
-use Rattle.rb_laws_listener_learns.proofs.Lasting.{LastsFrom, lasts-to}
-use Rattle.rb_laws_listener_learns.proofs.Moments.{same-frame}
-use Rattle.rb_laws_listener_learns.proofs.PassSets.{more-than}
-use Rattle.rb_laws_listener_learns.proofs.Seeks.{good-set}
-use Rattle.rb_laws_listener_learns.proofs.Spoken.{recorded-value}
-use Rattle.rb_laws_listener_learns.proofs.Trusting.{diagnosis-role, trusts-the-trusted}
-use Rattle.rb_laws_listener_learns.proofs.Turning.{EndOf, end-of}
-use Rattle.rb_laws_listener_learns.proofs.Whole.{HasLesson, has-lesson, records-whole}
-use Rattle.rb_laws_listener_learns.proofs.Within.{IsExactAt}
+use Rattle.rb_listen.specs.{Lessons.{ones_in, record_of, stage_recorded, trusted_bius, trusted_rmus, trusts_biu, trusts_rmu}, Passes.are_most, declared.search.Search.Search}
+use Rattle.rb_laws_listener_learns.specs.{Deciding.DecidesBy, Ears.{Ear, HearsTheRun, IsEar, is_always_good}, Learned.{AreTrusted, IsTrustedIn, TrustsTheTrusted}, Records.RecordsAreWhole}
+use Rattle.rb_laws_listener_learns.proofs.{Fresh.{always-good-at, always-good-in}, Lasting.{LastsFrom, lasts-to}, Moments.same-frame, PassSets.more-than, Seeks.good-set, Spoken.recorded-value, Trusting.{diagnosis-role, trusts-the-trusted}, Turning.{EndOf, end-of}, Whole.{HasLesson, has-lesson, records-whole}, Within.IsExactAt}
 
 -- Moments of the learned frame.
 

@@ -1,50 +1,16 @@
 -- Whom a listener trusts by its records a good RMU trusts on the bus: it sent something in that
 -- node's slot.
-use Rattle.std.proofs.Common.{◌≡◌, ℕ, ◌+◌, ◌-◌, ◌*◌, ◌<◌, ◌≤◌, ◌==◌, ◌&&◌, nat_lt, Bool, true, false, Option, Some, None, option_map, List, slice_get, if◌then◌else◌, inl, inr, refl, sym, ◌∙◌, ap, subst, arith}
-use Rattle.std.proofs.lemmas.Bool.{cases_lt, ltb-true}
-use Rattle.std.proofs.lemmas.Bool.Decides.{nat_tests}
-use Rattle.rb_base.specs.Nodes.{Side, has, set_of}
-use Rattle.rb_base.specs.Nodes.Side.{Biu, Rmu}
-use Rattle.rb_base.specs.Sizes.{Sizes, sync_slot_of}
-use Rattle.rb_base.specs.declared.values.Heard.{Heard}
-use Rattle.rb_base.proofs.Plain.{and_first, and_second}
-use Rattle.rb_base.proofs.Sets.{has-set_of}
-use Rattle.rb_rules.specs.declared.message.Message.{Message}
-use Rattle.rb_rules.specs.declared.role.Role.TheVariants.{Schedule, DiagRmu}
-use Rattle.rb_rules.specs.declared.sense.Sense.{Sense}
-use Rattle.rb_rules.specs.declared.sense.Sense.TheVariants.{Silent, One, Bad}
-use Rattle.rb_rules.specs.Book.{of_kind}
-use Rattle.rb_rules.specs.ExactStage.{message_of, says, says_of}
-use Rattle.rb_rules.specs.Goodness.{Scenario, is_good}
-use Rattle.rb_rules.specs.Lawful.{IsLawful}
-use Rattle.rb_rules.specs.Moments.{IsRunning}
-use Rattle.rb_rules.specs.NodeState.{NodeState, sender_at, trusted_of}
-use Rattle.rb_rules.specs.NodeSteps.{message_said}
-use Rattle.rb_rules.specs.Ports.{HandIn}
-use Rattle.rb_rules.specs.Rounds.{Moment, moment, windows_in}
-use Rattle.rb_rules.specs.Sense.{is_one}
-use Rattle.rb_rules.specs.Slots.{first_diagnosis_of, if_trusted, role_of, sender_in}
-use Rattle.rb_rules.specs.Slots.Sender.{Nobody, Node}
+use Rattle.std.proofs.{Common.{◌≡◌, ℕ, ◌+◌, ◌-◌, ◌*◌, ◌<◌, ◌≤◌, ◌==◌, ◌&&◌, nat_lt, Bool, true, false, Option, Some, None, option_map, List, slice_get, if◌then◌else◌, inl, inr, refl, sym, ◌∙◌, ap, subst, arith}, lemmas.Bool.{cases_lt, ltb-true}, lemmas.Bool.Decides.nat_tests}
+use Rattle.rb_base.specs.{Nodes.{Side, has, set_of}, Nodes.Side.{Biu, Rmu}, Sizes.{Sizes, sync_slot_of}, declared.values.Heard.Heard}
+use Rattle.rb_base.proofs.{Plain.{and_first, and_second}, Sets.has-set_of}
+use Rattle.rb_rules.specs.{declared.message.Message.Message, declared.role.Role.TheVariants.{Schedule, DiagRmu}, declared.sense.Sense.Sense, declared.sense.Sense.TheVariants.{Silent, One, Bad}, Book.of_kind, ExactStage.{message_of, says, says_of}, Goodness.{Scenario, is_good}, Lawful.IsLawful, Moments.IsRunning, NodeState.{NodeState, sender_at, trusted_of}, NodeSteps.message_said, Ports.HandIn, Rounds.{Moment, moment, windows_in}, Sense.is_one, Slots.{first_diagnosis_of, if_trusted, role_of, sender_in}, Slots.Sender.{Nobody, Node}}
 use Rattle.rb_rules.proofs.Slots.{schedule_role}
-use Rattle.rb_laws_agreement.proofs.Agreement.{IsAgreed, agreement}
-use Rattle.rb_laws_agreement.proofs.Goodnesses.{slot_here}
-use Rattle.rb_laws_agreement.proofs.NodeWindows.{Windows, exact_windows, word_at}
-use Rattle.rb_laws_agreement.proofs.Tests.{Passing}
+use Rattle.rb_laws_agreement.proofs.{Agreement.{IsAgreed, agreement}, Goodnesses.slot_here, NodeWindows.{Windows, exact_windows, word_at}, Tests.Passing}
 use Rattle.rb_laws_synchrony.proofs.TimelyWindows.{IsSent, sent_parts}
-use Rattle.rb_listen.specs.Lessons.{ones_in, record_of, stage_recorded, trusts_biu, trusts_rmu}
+use Rattle.rb_listen.specs.{Lessons.{ones_in, record_of, stage_recorded, trusts_biu, trusts_rmu}, Passes.are_most, declared.search.Search.Search}
+use Rattle.rb_laws_listener_learns.specs.{Ears.{Ear, HearsTheRun, IsEar, SendsIn, is_always_good, listening_at}, Learned.{IsTrustedIn, TrustsTheTrusted}, Records.{CameOf, IsOfPlace, IsTrueRecord}}
+use Rattle.rb_laws_listener_learns.proofs.{CallsSent.sends-at, Inside.{IsInside, kept-inside}, Meeting.meet, Seeks.always-counts, Sendings.{IsInPlace, in-place}, TrueRecords.records-true, Walks.{HoldsIn, always}}
 use Rattle.rb_listen.specs.Listening as now
-use Rattle.rb_listen.specs.Passes.{are_most}
-use Rattle.rb_listen.specs.declared.search.Search.{Search}
-use Rattle.rb_laws_listener_learns.specs.Ears.{Ear, HearsTheRun, IsEar, SendsIn, is_always_good, listening_at}
-use Rattle.rb_laws_listener_learns.specs.Learned.{IsTrustedIn, TrustsTheTrusted}
-use Rattle.rb_laws_listener_learns.specs.Records.{CameOf, IsOfPlace, IsTrueRecord}
-use Rattle.rb_laws_listener_learns.proofs.CallsSent.{sends-at}
-use Rattle.rb_laws_listener_learns.proofs.Inside.{IsInside, kept-inside}
-use Rattle.rb_laws_listener_learns.proofs.Meeting.{meet}
-use Rattle.rb_laws_listener_learns.proofs.Seeks.{always-counts}
-use Rattle.rb_laws_listener_learns.proofs.Sendings.{IsInPlace, in-place}
-use Rattle.rb_laws_listener_learns.proofs.TrueRecords.{records-true}
-use Rattle.rb_laws_listener_learns.proofs.Walks.{HoldsIn, always}
 
 -- Who sends something holds the slot's node trusted.
 

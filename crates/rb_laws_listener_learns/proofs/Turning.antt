@@ -1,21 +1,8 @@
 -- The end of a frame, and whom all trust in the next.
 use Rattle.std.proofs.Common.{◌≡◌, ℕ, suc, ◌+◌, ◌-◌, ◌*◌, List, sym, ◌∙◌, ap, subst, arith}
-use Rattle.rb_base.specs.Nodes.{Side}
-use Rattle.rb_base.specs.Sizes.{sync_slot_of}
-use Rattle.rb_rules.specs.Goodness.{Scenario}
-use Rattle.rb_rules.specs.Lawful.{IsLawful}
-use Rattle.rb_rules.specs.Moments.{IsComplete, IsGoodBefore, IsRunning, after_slot}
-use Rattle.rb_rules.specs.NodeState.{NodeState, trusted_of}
-use Rattle.rb_rules.specs.Ports.{HandIn}
-use Rattle.rb_rules.specs.Rounds.{moment, next_frame, windows_in}
-use Rattle.rb_rules.specs.Standing.{without}
-use Rattle.rb_laws_agreement.proofs.Agreement.{IsAgreed, agreement}
-use Rattle.rb_laws_agreement.proofs.FrameAgrees.{holds-turned, next-trusted}
-use Rattle.rb_laws_agreement.proofs.FrameBegins.{IsTurn, frame_turns, turn-index}
-use Rattle.rb_laws_agreement.proofs.FrameTurns.{AtEnd, convicted_all}
-use Rattle.rb_laws_agreement.proofs.Invariant.{IsGoodNode, Shared}
-use Rattle.rb_laws_agreement.proofs.Places.{IsPlaced, good_before_slot, placed, running_earlier}
-use Rattle.rb_laws_agreement.proofs.SlotRuns.{next-frame, next-window}
+use Rattle.rb_base.specs.{Nodes.Side, Sizes.sync_slot_of}
+use Rattle.rb_rules.specs.{Goodness.Scenario, Lawful.IsLawful, Moments.{IsComplete, IsGoodBefore, IsRunning, after_slot}, NodeState.{NodeState, trusted_of}, Ports.HandIn, Rounds.{moment, next_frame, windows_in}, Standing.without}
+use Rattle.rb_laws_agreement.proofs.{Agreement.{IsAgreed, agreement}, FrameAgrees.{holds-turned, next-trusted}, FrameBegins.{IsTurn, frame_turns, turn-index}, FrameTurns.{AtEnd, convicted_all}, Invariant.{IsGoodNode, Shared}, Places.{IsPlaced, good_before_slot, placed, running_earlier}, SlotRuns.{next-frame, next-window}}
 
 -- moment `n` is the one before the turn of the frame
 pub record EndOf (sc : Scenario) (hands : List HandIn) (frame : ℕ) : Type 0 where

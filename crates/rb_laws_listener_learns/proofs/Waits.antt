@@ -1,22 +1,11 @@
 -- A listener that has decided waits for its first frame.
-use Rattle.std.proofs.Common.{◌≡◌, ℕ, zero, suc, ◌+◌, ◌-◌, ◌<◌, ◌≤◌, ◌==◌, nat_lt, Bool, true, false, Option, Some, List, [], ◌∷◌, refl, ◌∙◌, ap, subst, arith}
-use Rattle.std.proofs.lemmas.Bool.{lt-ltb}
+use Rattle.std.proofs.{Common.{◌≡◌, ℕ, zero, suc, ◌+◌, ◌-◌, ◌<◌, ◌≤◌, ◌==◌, nat_lt, Bool, true, false, Option, Some, List, [], ◌∷◌, refl, ◌∙◌, ap, subst, arith}, lemmas.Bool.lt-ltb}
 use Rattle.rb_base.proofs.Plain.{eq_self, more-differs}
-use Rattle.rb_rules.specs.Goodness.{Scenario}
-use Rattle.rb_rules.specs.Hearing.{Coming}
-use Rattle.rb_rules.specs.Lawful.{IsLawful}
-use Rattle.rb_rules.specs.Ports.{HandIn}
-use Rattle.rb_listen.specs.Lessons.{first_of}
-use Rattle.rb_listen.specs.Listening.{Heeding, Listening, decided, first_core, followed, hear, heed, if_after, is_deciding, is_over, later, search_on, untold, wait_on}
+use Rattle.rb_rules.specs.{Goodness.Scenario, Hearing.Coming, Lawful.IsLawful, Ports.HandIn}
+use Rattle.rb_listen.specs.{Lessons.first_of, Listening.{Heeding, Listening, decided, first_core, followed, hear, heed, if_after, is_deciding, is_over, later, search_on, untold, wait_on}, declared.lesson.First.First, declared.search.Search.Search}
+use Rattle.rb_laws_listener_learns.specs.{Deciding.DecidesBy, Ears.{Ear, HearsTheRun, IsEar, hears, listening_at}, Waiting.WaitsFor}
+use Rattle.rb_laws_listener_learns.proofs.{Latest.not-yet, Learning.{IsFresh, fresh-at}, Walks.{HoldsAt, HoldsIn}}
 use Rattle.rb_listen.specs.Listening as now
-use Rattle.rb_listen.specs.declared.lesson.First.{First}
-use Rattle.rb_listen.specs.declared.search.Search.{Search}
-use Rattle.rb_laws_listener_learns.specs.Deciding.{DecidesBy}
-use Rattle.rb_laws_listener_learns.specs.Ears.{Ear, HearsTheRun, IsEar, hears, listening_at}
-use Rattle.rb_laws_listener_learns.specs.Waiting.{WaitsFor}
-use Rattle.rb_laws_listener_learns.proofs.Latest.{not-yet}
-use Rattle.rb_laws_listener_learns.proofs.Learning.{IsFresh, fresh-at}
-use Rattle.rb_laws_listener_learns.proofs.Walks.{HoldsAt, HoldsIn}
 
 -- what a waiting listener hears changes nothing
 hears-nothing : (sc : Scenario) (cs : List Coming) (had : ℕ) (first : First) → hears sc cs (now.Waiting had first) ≡ now.Waiting had first

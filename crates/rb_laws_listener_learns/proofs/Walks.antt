@@ -1,13 +1,9 @@
 -- What holds of a search at first, and stays with each message and each tick, holds of it always.
 use Rattle.std.proofs.Common.{◌≡◌, ℕ, zero, suc, ◌+◌, ◌<◌, ◌==◌, nat_lt, Bool, true, false, Option, Some, None, List, [], ◌∷◌, slice_get, refl, ◌∙◌, ap, arith}
-use Rattle.rb_rules.specs.Goodness.{Scenario}
-use Rattle.rb_rules.specs.Hearing.{Coming}
-use Rattle.rb_listen.specs.Lessons.{first_of, frame_after}
-use Rattle.rb_listen.specs.Listening.{Heeding, Listening, decided, first_search, hear, heed, if_after, is_deciding, is_over, later, learning, search_on, searching, untold, wait_on}
-use Rattle.rb_listen.specs.Listening as now
-use Rattle.rb_listen.specs.declared.lesson.First.{First}
-use Rattle.rb_listen.specs.declared.search.Search.{Search}
+use Rattle.rb_rules.specs.{Goodness.Scenario, Hearing.Coming}
+use Rattle.rb_listen.specs.{Lessons.{first_of, frame_after}, Listening.{Heeding, Listening, decided, first_search, hear, heed, if_after, is_deciding, is_over, later, learning, search_on, searching, untold, wait_on}, declared.lesson.First.First, declared.search.Search.Search}
 use Rattle.rb_laws_listener_learns.specs.Ears.{Ear, hears, listening_at}
+use Rattle.rb_listen.specs.Listening as now
 
 -- `P` holds before the first message and is kept by each step, where `P k n` is about the search
 -- before message `n` of stamp `k`. At the tick no message of its stamp is left

@@ -1,64 +1,15 @@
 -- At a decision all is recorded that the RMUs sent which were good up to the calls of the learned
 -- frame.
-use Rattle.std.proofs.Common.{◌≡◌, ℕ, zero, suc, ◌+◌, ◌-◌, ◌*◌, ◌%◌, ◌<◌, ◌≤◌, ◌==◌, ◌&&◌, ◌||◌, nat_lt, true, false, Some, None, List, get_or, slice_get, inl, inr, refl, sym, ◌∙◌, ap, subst, arith}
-use Rattle.std.proofs.lemmas.Bool.{cases_lt, eq-eqb, le-leb, ltb-true, or_cases}
-use Rattle.std.proofs.lemmas.Option.{same_Some}
-use Rattle.std.proofs.Math.Nat.{mul-le-mul_right}
-use Rattle.rb_base.specs.Nodes.Side.{Rmu}
-use Rattle.rb_base.specs.Sizes.{sync_slot_of}
-use Rattle.rb_rules.specs.declared.message.Message.{Message}
-use Rattle.rb_rules.specs.declared.role.Role.{Role}
-use Rattle.rb_rules.specs.declared.role.Role.TheVariants.{Schedule, Data, DiagBiu, DiagRmu, Sync}
+use Rattle.std.proofs.{Common.{◌≡◌, ℕ, zero, suc, ◌+◌, ◌-◌, ◌*◌, ◌%◌, ◌<◌, ◌≤◌, ◌==◌, ◌&&◌, ◌||◌, nat_lt, true, false, Some, None, List, get_or, slice_get, inl, inr, refl, sym, ◌∙◌, ap, subst, arith}, lemmas.Bool.{cases_lt, eq-eqb, le-leb, ltb-true, or_cases}, lemmas.Option.same_Some, Math.Nat.mul-le-mul_right}
+use Rattle.rb_base.specs.{Nodes.Side.Rmu, Sizes.sync_slot_of}
+use Rattle.rb_rules.specs.{declared.message.Message.Message, declared.role.Role.Role, declared.role.Role.TheVariants.{Schedule, Data, DiagBiu, DiagRmu, Sync}, Core.is_tick, declared.sense.Sense.Sense, declared.sense.Sense.TheVariants.{Silent, One, Bad}, Clock.{IsStamp, stamp_of, time_of}, Goodness.{Scenario, clock_of, is_before, is_good}, Headline.stated_skew, Hearing.{Coming, Sending}, Lawful.{IsDelay, IsLawful}, Moments.{IsRunning, before_slot, time_in_frame}, Plan.{f0_of, shortest_of}, Ports.HandIn, Rounds.{moment, windows_in}, Sense.tag_suits, Slots.role_of, Spelling.message_in}
 use Rattle.rb_base.proofs.Plain.{and_first, and_second}
-use Rattle.rb_rules.specs.Core.{is_tick}
-use Rattle.rb_rules.specs.declared.sense.Sense.{Sense}
-use Rattle.rb_rules.specs.declared.sense.Sense.TheVariants.{Silent, One, Bad}
-use Rattle.rb_rules.specs.Clock.{IsStamp, stamp_of, time_of}
-use Rattle.rb_rules.specs.Goodness.{Scenario, clock_of, is_before, is_good}
-use Rattle.rb_rules.specs.Headline.{stated_skew}
-use Rattle.rb_rules.specs.Hearing.{Coming, Sending}
-use Rattle.rb_rules.specs.Lawful.{IsDelay, IsLawful}
-use Rattle.rb_rules.specs.Moments.{IsRunning, before_slot, time_in_frame}
-use Rattle.rb_rules.specs.Plan.{f0_of, shortest_of}
-use Rattle.rb_rules.specs.Ports.{HandIn}
-use Rattle.rb_rules.specs.Rounds.{moment, windows_in}
-use Rattle.rb_rules.specs.Sense.{tag_suits}
-use Rattle.rb_rules.specs.Slots.{role_of}
-use Rattle.rb_rules.specs.Spelling.{message_in}
-use Rattle.rb_rules.proofs.Drift.{times_rise_to}
-use Rattle.rb_rules.proofs.Slots.{sync_role}
-use Rattle.rb_rules.proofs.Spellings.{read_back}
-use Rattle.rb_rules.proofs.Stamps.{one_stamp, stamp_of-is}
-use Rattle.rb_laws_agreement.proofs.Agreement.{agreement}
-use Rattle.rb_laws_agreement.proofs.Invariant.{IsGoodNode}
-use Rattle.rb_laws_agreement.proofs.Places.{IsPlaced, good_before_slot, running_earlier}
-use Rattle.rb_laws_agreement.proofs.Places.{placed as place-of}
-use Rattle.rb_laws_synchrony.proofs.EpochTicks.{within_run}
-use Rattle.rb_laws_synchrony.proofs.PlanNumbers.{drift_of, eps_of}
-use Rattle.rb_laws_synchrony.proofs.Synchronous.{to_2}
-use Rattle.rb_laws_synchrony.proofs.Synchrony.{IsSynchronous, synchrony}
-use Rattle.rb_laws_synchrony.proofs.Times.{lawful_fits, plan_fits}
-use Rattle.rb_listen.specs.Lessons.{has_place, record_of, stage_recorded}
-use Rattle.rb_listen.specs.Passes.{reach_of}
-use Rattle.rb_listen.specs.declared.search.Search.{Search}
-use Rattle.rb_laws_listener_learns.specs.Calling.{IsHeardToCall}
-use Rattle.rb_laws_listener_learns.specs.Deciding.{DecidesBy}
-use Rattle.rb_laws_listener_learns.specs.Ears.{Ear, HearsTheRun, IsEar, IsHeard, IsOfFaulty, IsOfGood, SendsIn, coming_to, listening_at}
-use Rattle.rb_laws_listener_learns.specs.Records.{IsOfPlace, RecordsAreWhole}
-use Rattle.rb_laws_listener_learns.proofs.Apart.{AllWereAt, WasAt, all-were-at, come-apart}
-use Rattle.rb_laws_listener_learns.proofs.Begins.{begins-later, begins_from, skew-fits}
-use Rattle.rb_laws_listener_learns.proofs.Calling.{heard-to-call}
-use Rattle.rb_laws_listener_learns.proofs.Deciding.{IsAfterCall, IsHeardCall}
-use Rattle.rb_laws_listener_learns.proofs.Fresh.{next-frame-number, onset-in, same-frame-number, same-moment}
-use Rattle.rb_laws_listener_learns.proofs.Latest.{earlier-le, whole-earlier}
-use Rattle.rb_laws_listener_learns.proofs.Learning.{IsFixed, IsFresh, LearnsFrom, fresh-at, ticked}
-use Rattle.rb_laws_listener_learns.proofs.Moments.{same-coming, same-frame}
-use Rattle.rb_laws_listener_learns.proofs.Noting.{IsNotedBy, IsPlacedAt, IsSpoilt, IsSpoiltBy}
-use Rattle.rb_laws_listener_learns.proofs.Recorded.{IsEarlier, placed, reads-sent}
-use Rattle.rb_laws_listener_learns.proofs.Sendings.{IsInPlace, in-place}
-use Rattle.rb_laws_listener_learns.proofs.Together.{call-time, come-together, steady-ear}
-use Rattle.rb_laws_listener_learns.proofs.Walks.{HoldsAt, HoldsIn}
-use Rattle.rb_laws_listener_learns.proofs.Within.{IsExactAt, after-calls, before-call}
+use Rattle.rb_rules.proofs.{Drift.times_rise_to, Slots.sync_role, Spellings.read_back, Stamps.{one_stamp, stamp_of-is}}
+use Rattle.rb_laws_agreement.proofs.{Agreement.agreement, Invariant.IsGoodNode, Places.{IsPlaced, good_before_slot, running_earlier}, Places.placed as place-of}
+use Rattle.rb_laws_synchrony.proofs.{EpochTicks.within_run, PlanNumbers.{drift_of, eps_of}, Synchronous.to_2, Synchrony.{IsSynchronous, synchrony}, Times.{lawful_fits, plan_fits}}
+use Rattle.rb_listen.specs.{Lessons.{has_place, record_of, stage_recorded}, Passes.reach_of, declared.search.Search.Search}
+use Rattle.rb_laws_listener_learns.specs.{Calling.IsHeardToCall, Deciding.DecidesBy, Ears.{Ear, HearsTheRun, IsEar, IsHeard, IsOfFaulty, IsOfGood, SendsIn, coming_to, listening_at}, Records.{IsOfPlace, RecordsAreWhole}}
+use Rattle.rb_laws_listener_learns.proofs.{Apart.{AllWereAt, WasAt, all-were-at, come-apart}, Begins.{begins-later, begins_from, skew-fits}, Calling.heard-to-call, Deciding.{IsAfterCall, IsHeardCall}, Fresh.{next-frame-number, onset-in, same-frame-number, same-moment}, Latest.{earlier-le, whole-earlier}, Learning.{IsFixed, IsFresh, LearnsFrom, fresh-at, ticked}, Moments.{same-coming, same-frame}, Noting.{IsNotedBy, IsPlacedAt, IsSpoilt, IsSpoiltBy}, Recorded.{IsEarlier, placed, reads-sent}, Sendings.{IsInPlace, in-place}, Together.{call-time, come-together, steady-ear}, Walks.{HoldsAt, HoldsIn}, Within.{IsExactAt, after-calls, before-call}}
 
 -- What an RMU sends that turns faulty in a later frame comes after the decision.
 

@@ -1,40 +1,14 @@
 -- What good RMUs send in a frame below the sync slot comes between the calls of the frame before
 -- and their own calls.
-use Rattle.std.proofs.Common.{◌≡◌, ℕ, ◌+◌, ◌-◌, ◌*◌, ◌<◌, ◌≤◌, ◌==◌, false, Some, option_map, List, refl, sym, ◌∙◌, ap, subst, arith}
-use Rattle.std.proofs.lemmas.Bool.Decides.{nat_tests}
-use Rattle.std.proofs.lemmas.Option.{same_Some}
-use Rattle.std.proofs.Math.Nat.{mul-le-mul_right}
-use Rattle.rb_base.specs.Nodes.Side.{Rmu}
-use Rattle.rb_base.specs.Sizes.{sync_slot_of}
-use Rattle.rb_rules.specs.Clock.{IsStamp, time_of}
-use Rattle.rb_rules.specs.Goodness.{Scenario, clock_of, is_good}
-use Rattle.rb_rules.specs.Hearing.{Sending}
-use Rattle.rb_rules.specs.Lawful.{IsDelay, IsLawful}
-use Rattle.rb_rules.specs.Moments.{IsRunning}
-use Rattle.rb_rules.specs.Plan.{f0_of, shortest_of, tail_start_of}
-use Rattle.rb_rules.specs.Ports.{HandIn}
-use Rattle.rb_rules.specs.Rounds.{moment, windows_in}
-use Rattle.rb_rules.specs.SyncStage.{call_tick_of, send_tick_of}
-use Rattle.rb_rules.specs.Windows.{send_offset_of}
-use Rattle.rb_rules.proofs.Drift.{times_rise_to}
-use Rattle.rb_rules.proofs.Stamps.{stamps_rise}
-use Rattle.rb_laws_agreement.proofs.Agreement.{agreement}
-use Rattle.rb_laws_agreement.proofs.Goodnesses.{slot_here, slot_last}
-use Rattle.rb_laws_agreement.proofs.Invariant.{IsGoodNode}
-use Rattle.rb_laws_agreement.proofs.NodeWindows.{Windows, exact_windows, sync_windows_are, word_at}
-use Rattle.rb_laws_synchrony.proofs.PlanNumbers.{drift_of, eps_of}
-use Rattle.rb_laws_synchrony.proofs.StageCalls.{clock_now}
-use Rattle.rb_laws_synchrony.proofs.Synchronous.{KnowsMiddle, from_1, heard_from, heard_to, to_1, to_2}
-use Rattle.rb_laws_synchrony.proofs.Synchrony.{IsSynchronous, synchrony}
-use Rattle.rb_laws_synchrony.proofs.TakenCalls.{call_sent}
-use Rattle.rb_laws_synchrony.proofs.Times.{Steady, lawful_fits, plan_fits}
-use Rattle.rb_laws_synchrony.proofs.TimelyWindows.{IsSent, sent_parts}
+use Rattle.std.proofs.{Common.{◌≡◌, ℕ, ◌+◌, ◌-◌, ◌*◌, ◌<◌, ◌≤◌, ◌==◌, false, Some, option_map, List, refl, sym, ◌∙◌, ap, subst, arith}, lemmas.Bool.Decides.nat_tests, lemmas.Option.same_Some, Math.Nat.mul-le-mul_right}
+use Rattle.rb_base.specs.{Nodes.Side.Rmu, Sizes.sync_slot_of}
+use Rattle.rb_rules.specs.{Clock.{IsStamp, time_of}, Goodness.{Scenario, clock_of, is_good}, Hearing.Sending, Lawful.{IsDelay, IsLawful}, Moments.IsRunning, Plan.{f0_of, shortest_of, tail_start_of}, Ports.HandIn, Rounds.{moment, windows_in}, SyncStage.{call_tick_of, send_tick_of}, Windows.send_offset_of}
+use Rattle.rb_rules.proofs.{Drift.times_rise_to, Stamps.stamps_rise}
+use Rattle.rb_laws_agreement.proofs.{Agreement.agreement, Goodnesses.{slot_here, slot_last}, Invariant.IsGoodNode, NodeWindows.{Windows, exact_windows, sync_windows_are, word_at}}
+use Rattle.rb_laws_synchrony.proofs.{PlanNumbers.{drift_of, eps_of}, StageCalls.clock_now, Synchronous.{KnowsMiddle, from_1, heard_from, heard_to, to_1, to_2}, Synchrony.{IsSynchronous, synchrony}, TakenCalls.call_sent, Times.{Steady, lawful_fits, plan_fits}, TimelyWindows.{IsSent, sent_parts}}
 use Rattle.rb_listen.specs.Passes.{reach_of}
 use Rattle.rb_laws_listener_learns.specs.Ears.{Ear, IsEar, SendsIn, coming_to}
-use Rattle.rb_laws_listener_learns.proofs.Apart.{AllWereAt, WasAt, all-were-at, far-stamps, later-moment}
-use Rattle.rb_laws_listener_learns.proofs.CallsSent.{sends-at}
-use Rattle.rb_laws_listener_learns.proofs.Deciding.{IsHeardCall}
-use Rattle.rb_laws_listener_learns.proofs.Together.{call-time, steady-ear}
+use Rattle.rb_laws_listener_learns.proofs.{Apart.{AllWereAt, WasAt, all-were-at, far-stamps, later-moment}, CallsSent.sends-at, Deciding.IsHeardCall, Together.{call-time, steady-ear}}
 
 -- The sender, and when it sends.
 

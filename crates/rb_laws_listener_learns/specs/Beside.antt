@@ -1,20 +1,11 @@
 -- A listener beside a run, computed: of the bus with one BIU, one RMU and one data slot, over two
 -- frames. It meets all that the laws ask.
-use Rattle.std.specs.Prelude.{ℕ, suc, ◌+◌, ◌*◌, ◌/◌, ◌%◌, ◌==◌, ◌||◌, not, nat_lt, Bool, true, false, Option, Some, None, List, [], ◌∷◌, if◌then◌else◌, replicate, slice_get}
-use Rattle.std.specs.List.{list_any}
+use Rattle.std.specs.{Prelude.{ℕ, suc, ◌+◌, ◌*◌, ◌/◌, ◌%◌, ◌==◌, ◌||◌, not, nat_lt, Bool, true, false, Option, Some, None, List, [], ◌∷◌, if◌then◌else◌, replicate, slice_get}, List.list_any}
 use Rattle.rb_base.specs.Nodes.Side.{Rmu}
-use Rattle.rb_rules.specs.declared.message.Version.TheVariants.{One}
-use Rattle.rb_rules.specs.declared.plan.Plan.{Plan}
-use Rattle.rb_rules.specs.Clock.{Timeline, time_of}
-use Rattle.rb_rules.specs.Goodness.{Scenario}
-use Rattle.rb_rules.specs.Hearing.{Coming, Sending}
-use Rattle.rb_rules.specs.NodeState.{NodeState}
-use Rattle.rb_rules.specs.Rounds.{Moment, moment, sending_in, window_in, windows_in}
-use Rattle.rb_rules.specs.Spelling.{spelling_of}
-use Rattle.rb_listen.specs.Listening.{Listening, first_search}
-use Rattle.rb_listen.specs.Listening as now
-use Rattle.rb_listen.specs.declared.search.Search.{Search}
+use Rattle.rb_rules.specs.{declared.message.Version.TheVariants.One, declared.plan.Plan.Plan, Clock.{Timeline, time_of}, Goodness.Scenario, Hearing.{Coming, Sending}, NodeState.NodeState, Rounds.{Moment, moment, sending_in, window_in, windows_in}, Spelling.spelling_of}
+use Rattle.rb_listen.specs.{Listening.{Listening, first_search}, declared.search.Search.Search}
 use Rattle.rb_laws_listener_learns.specs.Ears.{Ear, listening_at}
+use Rattle.rb_listen.specs.Listening as now
 
 -- ticks of 10000 units, give or take one; calls are sent at offset 6 of windows of 15, 18 and 20
 -- ticks

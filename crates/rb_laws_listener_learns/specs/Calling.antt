@@ -1,13 +1,7 @@
 -- Good RMUs call, and the listener hears it.
 use Rattle.std.specs.Prelude.{ℕ, ◌≡◌, ◌+◌, ◌*◌, ◌≤◌, ◌<◌, true, List}
-use Rattle.rb_base.specs.Nodes.Side.{Rmu}
-use Rattle.rb_base.specs.Sizes.{sync_slot_of}
-use Rattle.rb_rules.specs.Clock.{IsStamp}
-use Rattle.rb_rules.specs.Goodness.{Scenario, is_good}
-use Rattle.rb_rules.specs.Hearing.{Sending}
-use Rattle.rb_rules.specs.Moments.{IsRunning}
-use Rattle.rb_rules.specs.Ports.{HandIn}
-use Rattle.rb_rules.specs.Rounds.{moment}
+use Rattle.rb_base.specs.{Nodes.Side.Rmu, Sizes.sync_slot_of}
+use Rattle.rb_rules.specs.{Clock.IsStamp, Goodness.{Scenario, is_good}, Hearing.Sending, Moments.IsRunning, Ports.HandIn, Rounds.moment}
 use Rattle.rb_listen.specs.Passes.{is_call}
 use Rattle.rb_laws_listener_learns.specs.Ears.{Ear, IsHeard, SendsIn, coming_to}
 

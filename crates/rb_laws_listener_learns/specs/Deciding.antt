@@ -1,16 +1,10 @@
 -- When a listener decides.
 use Rattle.std.specs.Prelude.{ℕ, ◌≡◌, ◌+◌, ◌*◌, ◌%◌, ◌≤◌, ◌<◌, true, Some, List}
 use Rattle.rb_base.specs.Sizes.{sync_slot_of}
-use Rattle.rb_rules.specs.Clock.{IsStamp}
-use Rattle.rb_rules.specs.Goodness.{Scenario}
-use Rattle.rb_rules.specs.Hearing.{Sending}
-use Rattle.rb_rules.specs.Ports.{HandIn}
-use Rattle.rb_rules.specs.Rounds.{moment}
-use Rattle.rb_listen.specs.Listening.{is_deciding}
+use Rattle.rb_rules.specs.{Clock.IsStamp, Goodness.Scenario, Hearing.Sending, Ports.HandIn, Rounds.moment}
+use Rattle.rb_listen.specs.{Listening.is_deciding, declared.search.Search.Search}
+use Rattle.rb_laws_listener_learns.specs.{Ears.{Ear, SendsIn, coming_to, listening_at}, Seeking.HasCalls}
 use Rattle.rb_listen.specs.Listening as now
-use Rattle.rb_listen.specs.declared.search.Search.{Search}
-use Rattle.rb_laws_listener_learns.specs.Ears.{Ear, SendsIn, coming_to, listening_at}
-use Rattle.rb_laws_listener_learns.specs.Seeking.{HasCalls}
 
 -- by this tick all calls of good RMUs in a frame of this number in messages have come
 pub record CallsHaveCome (sc : Scenario) (hands : List HandIn) (ear : Ear) (number tick : ℕ) : Type 0 where

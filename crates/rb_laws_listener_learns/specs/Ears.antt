@@ -1,24 +1,10 @@
 -- A listener beside a run of the bus: a clock of its own, links on which the RMUs reach it, and
 -- what it hears on them.
 use Rattle.std.specs.Prelude.{ℕ, zero, suc, ◌≡◌, ◌⊎◌, ◌+◌, ◌*◌, ◌^◌, ◌<◌, ◌≤◌, nat_lt, ◌&&◌, not, Bool, true, false, Option, Some, None, List, [], ◌∷◌, get_or, slice_get}
-use Rattle.rb_base.specs.Nodes.{Side, set_of}
-use Rattle.rb_base.specs.Nodes.Side.{Rmu}
-use Rattle.rb_base.specs.declared.values.Place.{Place}
-use Rattle.rb_rules.specs.Clock.{IsClock, IsStamp, Timeline, time_of}
-use Rattle.rb_rules.specs.Goodness.{Scenario, clock_of}
-use Rattle.rb_rules.specs.Headline.{stated_skew}
-use Rattle.rb_rules.specs.Hearing.{Coming, Sending}
-use Rattle.rb_rules.specs.Lawful.{IsDelay}
-use Rattle.rb_rules.specs.Moments.{IsGoodBefore, IsRunning, before_slot, time_in_frame}
-use Rattle.rb_rules.specs.NodeState.{NodeState}
-use Rattle.rb_rules.specs.Plan.{longest_of, shortest_of}
-use Rattle.rb_rules.specs.Ports.{HandIn}
-use Rattle.rb_rules.specs.Rounds.{IsGoodIn, moment, sending_in, window_in, windows_in}
-use Rattle.rb_rules.specs.Spelling.{spelling_of}
-use Rattle.rb_listen.specs.Listening.{Listening, first_search, hear, heed}
+use Rattle.rb_base.specs.{Nodes.{Side, set_of}, Nodes.Side.Rmu, declared.values.Place.Place}
+use Rattle.rb_rules.specs.{Clock.{IsClock, IsStamp, Timeline, time_of}, Goodness.{Scenario, clock_of}, Headline.stated_skew, Hearing.{Coming, Sending}, Lawful.IsDelay, Moments.{IsGoodBefore, IsRunning, before_slot, time_in_frame}, NodeState.NodeState, Plan.{longest_of, shortest_of}, Ports.HandIn, Rounds.{IsGoodIn, moment, sending_in, window_in, windows_in}, Spelling.spelling_of}
+use Rattle.rb_listen.specs.{Listening.{Listening, first_search, hear, heed}, Passes.are_most, declared.heed.Heed.Heed}
 use Rattle.rb_listen.specs.Listening as now
-use Rattle.rb_listen.specs.Passes.{are_most}
-use Rattle.rb_listen.specs.declared.heed.Heed.{Heed}
 
 -- a listener's clock, how long a message of a place is on its way to it from each RMU, what comes
 -- to it with each stamp, in order, and how many of its ticks are spoken of

@@ -1,9 +1,6 @@
 -- What a listener hears beside a run, as events one after another.
 use Rattle.std.specs.Prelude.{ℕ, zero, suc, List, [], ◌∷◌, ◌++◌}
-use Rattle.rb_rules.specs.Core.{CoreEvent}
-use Rattle.rb_rules.specs.Core.CoreEvent.{Arrive, Tick}
-use Rattle.rb_rules.specs.Goodness.{Scenario}
-use Rattle.rb_rules.specs.Hearing.{Coming}
+use Rattle.rb_rules.specs.{Core.CoreEvent, Core.CoreEvent.{Arrive, Tick}, Goodness.Scenario, Hearing.Coming}
 use Rattle.rb_listen.specs.declared.heed.Heed.{Heed}
 use Rattle.rb_laws_listener_learns.specs.Ears.{Ear, told_at}
 

@@ -1,31 +1,10 @@
 -- What is proved of a listener beside a run of the bus.
 use Rattle.std.specs.Prelude.{ℕ, ◌≡◌, ◌+◌, ◌*◌, ◌<◌, ◌≤◌, ◌↔◌, true, None, Some, List, get_or}
-use Rattle.rb_base.specs.Nodes.{set_of}
-use Rattle.rb_base.specs.Sizes.{sync_slot_of}
-use Rattle.rb_listen.specs.Lessons.{first_of, trusted_bius, trusted_rmus}
-use Rattle.rb_listen.specs.Listening.{first_search, told_of}
+use Rattle.rb_base.specs.{Nodes.set_of, Sizes.sync_slot_of}
+use Rattle.rb_listen.specs.{Lessons.{first_of, trusted_bius, trusted_rmus}, Listening.{first_search, told_of}, Passes.are_most, declared.lesson.First.First, declared.search.Search.Search}
+use Rattle.rb_rules.specs.{Clock.{Timeline, time_of}, Goodness.Scenario, Hearing.Coming, Lawful.IsLawful, Moments.{IsRunning, before_slot}, Plan.shortest_of, Ports.HandIn}
+use Rattle.rb_laws_listener_learns.specs.{Calling.EachIsHeardToCall, Deciding.{DecidesAfterTheCalls, DecidesBy}, Ears.{Ear, HearsTheRun, IsEar, IsOfFaulty, is_always_good}, Feeding.{events_from, told_from}, Learned.{AreTrusted, HasLearned, TrustsTheTrusted}, Onsets.{BeginsBeside, IsGoodThroughout}, Receivers.IsCalm, Records.{RecordsAreTrue, RecordsAreWhole}, Seeking.SeeksAFrame, Waiting.WaitsFor, Together.{CallsComeTogether, LaterCallsComeLater}}
 use Rattle.rb_listen.specs.Listening as now
-use Rattle.rb_listen.specs.Passes.{are_most}
-use Rattle.rb_listen.specs.declared.lesson.First.{First}
-use Rattle.rb_listen.specs.declared.search.Search.{Search}
-use Rattle.rb_rules.specs.Clock.{Timeline, time_of}
-use Rattle.rb_rules.specs.Goodness.{Scenario}
-use Rattle.rb_rules.specs.Hearing.{Coming}
-use Rattle.rb_rules.specs.Lawful.{IsLawful}
-use Rattle.rb_rules.specs.Moments.{IsRunning, before_slot}
-use Rattle.rb_rules.specs.Plan.{shortest_of}
-use Rattle.rb_rules.specs.Ports.{HandIn}
-use Rattle.rb_laws_listener_learns.specs.Calling.{EachIsHeardToCall}
-use Rattle.rb_laws_listener_learns.specs.Deciding.{DecidesAfterTheCalls, DecidesBy}
-use Rattle.rb_laws_listener_learns.specs.Ears.{Ear, HearsTheRun, IsEar, IsOfFaulty, is_always_good}
-use Rattle.rb_laws_listener_learns.specs.Feeding.{events_from, told_from}
-use Rattle.rb_laws_listener_learns.specs.Learned.{AreTrusted, HasLearned, TrustsTheTrusted}
-use Rattle.rb_laws_listener_learns.specs.Onsets.{BeginsBeside, IsGoodThroughout}
-use Rattle.rb_laws_listener_learns.specs.Receivers.{IsCalm}
-use Rattle.rb_laws_listener_learns.specs.Records.{RecordsAreTrue, RecordsAreWhole}
-use Rattle.rb_laws_listener_learns.specs.Seeking.{SeeksAFrame}
-use Rattle.rb_laws_listener_learns.specs.Waiting.{WaitsFor}
-use Rattle.rb_laws_listener_learns.specs.Together.{CallsComeTogether, LaterCallsComeLater}
 
 -- an RMU is good in the whole run if and only if it is good in each slot to which the run comes
 abbrev pub AlwaysGoodIsGoodInEachSlot : Type 0

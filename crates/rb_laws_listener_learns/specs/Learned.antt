@@ -1,25 +1,10 @@
 -- Whom a listener that learns trusts, and what it has learned when it decides.
 use Rattle.std.specs.Prelude.{ℕ, ◌≡◌, ◌+◌, ◌*◌, ◌%◌, ◌<◌, ◌≤◌, true, Some, slice_get, List}
-use Rattle.rb_base.specs.Nodes.{Side, has}
-use Rattle.rb_base.specs.Nodes.Side.{Biu, Rmu}
-use Rattle.rb_base.specs.Sizes.{sync_slot_of}
-use Rattle.rb_rules.specs.declared.sense.Sense.{Sense}
-use Rattle.rb_rules.specs.Book.{of_kind}
-use Rattle.rb_rules.specs.Clock.{IsStamp}
-use Rattle.rb_rules.specs.Goodness.{Scenario, is_good}
-use Rattle.rb_rules.specs.Hearing.{Sending}
-use Rattle.rb_rules.specs.Moments.{IsGoodBefore, IsRunning, before_stage}
-use Rattle.rb_rules.specs.NodeState.{NodeState, trusted_of}
-use Rattle.rb_rules.specs.Ports.{HandIn}
-use Rattle.rb_rules.specs.Rounds.{windows_in}
-use Rattle.rb_rules.specs.Sense.{stamp_in}
-use Rattle.rb_rules.specs.Slots.{first_diagnosis_of}
-use Rattle.rb_listen.specs.Lessons.{middle_in, record_of, trusted_bius, trusted_rmus, trusts_biu, trusts_rmu}
+use Rattle.rb_base.specs.{Nodes.{Side, has}, Nodes.Side.{Biu, Rmu}, Sizes.sync_slot_of}
+use Rattle.rb_rules.specs.{declared.sense.Sense.Sense, Book.of_kind, Clock.IsStamp, Goodness.{Scenario, is_good}, Hearing.Sending, Moments.{IsGoodBefore, IsRunning, before_stage}, NodeState.{NodeState, trusted_of}, Ports.HandIn, Rounds.windows_in, Sense.stamp_in, Slots.first_diagnosis_of}
+use Rattle.rb_listen.specs.{Lessons.{middle_in, record_of, trusted_bius, trusted_rmus, trusts_biu, trusts_rmu}, declared.lesson.First.First, declared.search.Search.Search}
+use Rattle.rb_laws_listener_learns.specs.{Ears.{Ear, SendsIn, coming_to, listening_at}, Receivers.call_time}
 use Rattle.rb_listen.specs.Listening as now
-use Rattle.rb_listen.specs.declared.lesson.First.{First}
-use Rattle.rb_listen.specs.declared.search.Search.{Search}
-use Rattle.rb_laws_listener_learns.specs.Ears.{Ear, SendsIn, coming_to, listening_at}
-use Rattle.rb_laws_listener_learns.specs.Receivers.{call_time}
 
 -- in a frame of this number in messages the run comes to this stage of the slot before its end,
 -- some RMU is good there, and all good nodes hold node i of a kind trusted

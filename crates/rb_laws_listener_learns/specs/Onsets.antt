@@ -1,14 +1,7 @@
 -- Slots to which the run comes, and when the slot of an onset begins by a clock beside the bus.
 use Rattle.std.specs.Prelude.{ℕ, ◌≡◌, ◌≤◌, true, List}
-use Rattle.rb_base.specs.Nodes.{Side}
-use Rattle.rb_base.specs.Nodes.Side.{Rmu}
-use Rattle.rb_base.specs.Sizes.{sync_slot_of}
-use Rattle.rb_rules.specs.Clock.{IsClock, Timeline, time_of}
-use Rattle.rb_rules.specs.Goodness.{Scenario, is_good}
-use Rattle.rb_rules.specs.Moments.{IsGoodBefore, IsRunning, before_slot, time_in_frame}
-use Rattle.rb_rules.specs.NodeState.{NodeState}
-use Rattle.rb_rules.specs.Plan.{longest_of, shortest_of}
-use Rattle.rb_rules.specs.Ports.{HandIn}
+use Rattle.rb_base.specs.{Nodes.Side, Nodes.Side.Rmu, Sizes.sync_slot_of}
+use Rattle.rb_rules.specs.{Clock.{IsClock, Timeline, time_of}, Goodness.{Scenario, is_good}, Moments.{IsGoodBefore, IsRunning, before_slot, time_in_frame}, NodeState.NodeState, Plan.{longest_of, shortest_of}, Ports.HandIn}
 use Rattle.rb_laws_listener_near.specs.Laws.{LieWithin}
 
 -- RMU j is good in each slot to which the run comes before its end

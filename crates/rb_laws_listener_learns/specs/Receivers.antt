@@ -1,33 +1,12 @@
 -- What a listener sees of the RMUs as one more good receiver, and how far the premise on faults
 -- holds with it.
-use Rattle.std.specs.Prelude.{ℕ, zero, suc, ◌≡◌, ◌+◌, ◌*◌, ◌/◌, ◌%◌, ◌≤◌, ◌==◌, ◌&&◌, if◌then◌else◌, Bool, true, false, Option, Some, None, List, [], ◌∷◌, filter, get_or}
-use Rattle.std.specs.Option.{option_or}
-use Rattle.rb_base.specs.Nodes.Side.{Biu, Rmu}
-use Rattle.rb_base.specs.Sizes.{Sizes, sync_slot_of}
-use Rattle.rb_base.specs.declared.values.See.{See}
-use Rattle.rb_base.specs.declared.values.See.TheVariants.{Nothing, Value, Time}
-use Rattle.rb_rules.specs.declared.closing.Closed.{Closed}
-use Rattle.rb_rules.specs.declared.message.Message.{Message}
-use Rattle.rb_rules.specs.declared.sense.Sense.{Sense}
-use Rattle.rb_rules.specs.ExactStage.{see_value}
-use Rattle.rb_rules.specs.Goodness.{Scenario}
-use Rattle.rb_rules.specs.Hearing.{Coming, judged_see}
-use Rattle.rb_rules.specs.Judging.{JudgedStage}
-use Rattle.rb_rules.specs.Moments.{IsComplete}
-use Rattle.rb_rules.specs.Ports.{HandIn}
-use Rattle.rb_rules.specs.Rounds.{moment, windows_in}
-use Rattle.rb_rules.specs.Sense.{stamp_in, value_in}
-use Rattle.rb_rules.specs.Slots.{Sender, role_of, sender_in}
-use Rattle.rb_rules.specs.Slots.Sender.{Nobody, Node, EachTrusted}
-use Rattle.rb_rules.specs.Spelling.{message_in}
-use Rattle.rb_rules.specs.SyncStage.{see_time}
-use Rattle.rb_listen.specs.Following.{follow}
-use Rattle.rb_listen.specs.Lessons.{record_of, stage_recorded}
-use Rattle.rb_listen.specs.Listening.{Listening}
-use Rattle.rb_listen.specs.Listening as now
-use Rattle.rb_listen.specs.Passes.{is_call}
+use Rattle.std.specs.{Prelude.{ℕ, zero, suc, ◌≡◌, ◌+◌, ◌*◌, ◌/◌, ◌%◌, ◌≤◌, ◌==◌, ◌&&◌, if◌then◌else◌, Bool, true, false, Option, Some, None, List, [], ◌∷◌, filter, get_or}, Option.option_or}
+use Rattle.rb_base.specs.{Nodes.Side.{Biu, Rmu}, Sizes.{Sizes, sync_slot_of}, declared.values.See.See, declared.values.See.TheVariants.{Nothing, Value, Time}}
+use Rattle.rb_rules.specs.{declared.closing.Closed.Closed, declared.message.Message.Message, declared.sense.Sense.Sense, ExactStage.see_value, Goodness.Scenario, Hearing.{Coming, judged_see}, Judging.JudgedStage, Moments.IsComplete, Ports.HandIn, Rounds.{moment, windows_in}, Sense.{stamp_in, value_in}, Slots.{Sender, role_of, sender_in}, Slots.Sender.{Nobody, Node, EachTrusted}, Spelling.message_in, SyncStage.see_time}
+use Rattle.rb_listen.specs.{Following.follow, Lessons.{record_of, stage_recorded}, Listening.Listening, Passes.is_call}
 use Rattle.rb_laws_listener_near.specs.Judged.{verdict_with}
 use Rattle.rb_laws_listener_learns.specs.Ears.{Ear, listening_at}
+use Rattle.rb_listen.specs.Listening as now
 
 -- What the listener sees.
 

@@ -1,20 +1,10 @@
 -- What a listener records of good RMUs.
 use Rattle.std.specs.Prelude.{⊤, ℕ, ◌≡◌, ◌≤◌, true, List}
-use Rattle.rb_base.specs.Nodes.Side.{Rmu}
-use Rattle.rb_base.specs.Sizes.{sync_slot_of}
-use Rattle.rb_rules.specs.declared.message.Message.{Message}
-use Rattle.rb_rules.specs.declared.sense.Sense.{Sense}
-use Rattle.rb_rules.specs.declared.sense.Sense.TheVariants.{Silent, One, Bad}
-use Rattle.rb_rules.specs.Clock.{IsStamp}
-use Rattle.rb_rules.specs.Goodness.{Scenario, is_good}
-use Rattle.rb_rules.specs.Hearing.{Coming, Sending}
-use Rattle.rb_rules.specs.Ports.{HandIn}
-use Rattle.rb_rules.specs.Rounds.{moment}
-use Rattle.rb_rules.specs.Slots.{role_of}
-use Rattle.rb_listen.specs.Lessons.{record_of, stage_recorded}
-use Rattle.rb_listen.specs.Listening as now
-use Rattle.rb_listen.specs.declared.search.Search.{Search}
+use Rattle.rb_base.specs.{Nodes.Side.Rmu, Sizes.sync_slot_of}
+use Rattle.rb_rules.specs.{declared.message.Message.Message, declared.sense.Sense.Sense, declared.sense.Sense.TheVariants.{Silent, One, Bad}, Clock.IsStamp, Goodness.{Scenario, is_good}, Hearing.{Coming, Sending}, Ports.HandIn, Rounds.moment, Slots.role_of}
+use Rattle.rb_listen.specs.{Lessons.{record_of, stage_recorded}, declared.search.Search.Search}
 use Rattle.rb_laws_listener_learns.specs.Ears.{Ear, IsHeard, IsOfGood, SendsIn, coming_to, is_always_good, listening_at}
+use Rattle.rb_listen.specs.Listening as now
 
 -- RMU j sent this message in the run while it was good, and the listener heard it with this stamp
 pub record CameOf (sc : Scenario) (hands : List HandIn) (ear : Ear) (j at : ℕ) (m : Message) : Type 0 where

@@ -1,14 +1,10 @@
 -- What a listener seeks and finds.
 use Rattle.std.specs.Prelude.{ℕ, ◌≡◌, ◌%◌, true, List}
 use Rattle.rb_base.specs.Sizes.{sync_slot_of}
-use Rattle.rb_rules.specs.Goodness.{Scenario}
-use Rattle.rb_rules.specs.Moments.{IsRunning, before_stage}
-use Rattle.rb_rules.specs.Ports.{HandIn}
-use Rattle.rb_listen.specs.Lessons.{frame_after}
-use Rattle.rb_listen.specs.Listening.{is_deciding}
-use Rattle.rb_listen.specs.Listening as now
-use Rattle.rb_listen.specs.declared.search.Search.{Search}
+use Rattle.rb_rules.specs.{Goodness.Scenario, Moments.{IsRunning, before_stage}, Ports.HandIn}
+use Rattle.rb_listen.specs.{Lessons.frame_after, Listening.is_deciding, declared.search.Search.Search}
 use Rattle.rb_laws_listener_learns.specs.Ears.{Ear, listening_at}
+use Rattle.rb_listen.specs.Listening as now
 
 -- the run comes to the calls of the RMUs in this frame before its end
 abbrev pub HasCalls : Scenario → List HandIn → ℕ → Type 0

@@ -1,11 +1,7 @@
 -- How near to each other a listener hears the calls of one frame.
 use Rattle.std.specs.Prelude.{ℕ, ◌≡◌, ◌+◌, ◌*◌, ◌≤◌, ◌<◌, List}
 use Rattle.rb_base.specs.Sizes.{sync_slot_of}
-use Rattle.rb_rules.specs.Clock.{IsStamp}
-use Rattle.rb_rules.specs.Goodness.{Scenario}
-use Rattle.rb_rules.specs.Hearing.{Sending}
-use Rattle.rb_rules.specs.Ports.{HandIn}
-use Rattle.rb_rules.specs.Rounds.{moment}
+use Rattle.rb_rules.specs.{Clock.IsStamp, Goodness.Scenario, Hearing.Sending, Ports.HandIn, Rounds.moment}
 use Rattle.rb_listen.specs.Passes.{reach_of}
 use Rattle.rb_laws_listener_learns.specs.Ears.{Ear, SendsIn, coming_to}
 

@@ -1,11 +1,9 @@
 -- A listener waits for its first frame, and then follows.
 use Rattle.std.specs.Prelude.{ℕ, ◌≡◌, ◌<◌, ◌≤◌}
 use Rattle.rb_rules.specs.Goodness.{Scenario}
-use Rattle.rb_listen.specs.Following.{follow}
-use Rattle.rb_listen.specs.Listening.{first_core, followed, heed}
-use Rattle.rb_listen.specs.Listening as now
-use Rattle.rb_listen.specs.declared.lesson.First.{First}
+use Rattle.rb_listen.specs.{Following.follow, Listening.{first_core, followed, heed}, declared.lesson.First.First}
 use Rattle.rb_laws_listener_learns.specs.Ears.{Ear, listening_at}
+use Rattle.rb_listen.specs.Listening as now
 
 -- having decided at this tick it waits up to the first tick of its first frame, whatever it hears,
 -- and with that it begins to follow

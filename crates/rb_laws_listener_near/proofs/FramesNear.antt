@@ -1,53 +1,13 @@
 -- The next frame of a receiver of the calls, from stage 2 of the sync slot to its end.
-use Rattle.std.proofs.Common.{◌≡◌, ℕ, suc, ◌+◌, ◌-◌, ◌*◌, ◌<◌, ◌≤◌, true, false, List, ◌∷◌, length, Option, slice_get, inl, inr, refl, sym, ◌∙◌, ap, subst, arith}
-use Rattle.std.proofs.lemmas.Option.{same_Some}
-use Rattle.rb_base.specs.Nodes.{Side, has, set_of, size}
-use Rattle.rb_base.specs.Nodes.Side.{Biu, Rmu}
-use Rattle.rb_base.specs.Sizes.{sync_slot_of}
-use Rattle.rb_base.specs.declared.values.See.{See}
-use Rattle.rb_base.proofs.Plain.{and_second}
-use Rattle.rb_base.proofs.SetSizes.{size_same}
-use Rattle.rb_base.proofs.Sets.{has-set_of}
-use Rattle.rb_rules.specs.Book.{judged_of, of_kind}
-use Rattle.rb_rules.specs.Clock.{IsClock, Timeline, time_of}
-use Rattle.rb_rules.specs.Goodness.{Scenario, clock_of, is_good}
-use Rattle.rb_rules.specs.Judging.{JudgedStage}
-use Rattle.rb_rules.specs.Lawful.{IsLawful}
-use Rattle.rb_rules.specs.Moments.{IsRunning, after_slot, before_stage}
-use Rattle.rb_rules.specs.NodeState.{NodeState}
-use Rattle.rb_rules.specs.Plan.{longest_of, shortest_of}
-use Rattle.rb_rules.specs.Ports.{HandIn}
-use Rattle.rb_rules.specs.Rounds.{Moment, moment, step, windows_in}
-use Rattle.rb_rules.proofs.Drift.{HasLengths, drift, has_lengths, stamp_near}
-use Rattle.rb_rules.proofs.Middles.{IsBetween}
-use Rattle.rb_laws_agreement.proofs.Tests.{Passing}
-use Rattle.rb_laws_agreement.proofs.Numbers.{how_many-is, one_of_many}
-use Rattle.rb_laws_agreement.proofs.Premises.{is_sound}
-use Rattle.rb_laws_agreement.proofs.Agreement.{step_is}
-use Rattle.rb_laws_agreement.proofs.Goodnesses.{slot_last}
-use Rattle.rb_laws_agreement.proofs.Invariant.{Agree, IsGoodNode, Shared, is_good_now}
-use Rattle.rb_laws_agreement.proofs.JudgedWindows.{IsPassed, passed, rows_of}
-use Rattle.rb_laws_agreement.proofs.NextMoments.{next}
-use Rattle.rb_laws_agreement.proofs.NodeWindows.{sync_windows_are}
-use Rattle.rb_laws_agreement.proofs.Places.{IsPlaced, complete_before, placed}
-use Rattle.rb_laws_agreement.proofs.Settings.{good_state}
-use Rattle.rb_laws_agreement.proofs.SlotRuns.{next-frame, next-window}
-use Rattle.rb_laws_agreement.proofs.SyncAgrees.{agree_sync, book_sync, stage_setting}
-use Rattle.rb_laws_agreement.proofs.Tests.{Present}
-use Rattle.rb_laws_synchrony.proofs.CallSights.{place_of, stages_with}
-use Rattle.rb_laws_synchrony.proofs.LaterStages.{near_second}
-use Rattle.rb_laws_synchrony.proofs.PlanNumbers.{drift_of}
-use Rattle.rb_laws_synchrony.proofs.SyncSteps.{IsPassedStage, passed_stage}
-use Rattle.rb_laws_synchrony.proofs.Synchronous.{KnowsEpoch, Synchronous}
-use Rattle.rb_laws_synchrony.proofs.Synchrony.{IsSynchronous, synchrony}
-use Rattle.rb_laws_synchrony.proofs.TakenCalls.{IsStage}
-use Rattle.rb_laws_synchrony.proofs.Times.{Steady, lawful_fits, plan_fits}
-use Rattle.rb_laws_listener_near.specs.Calls.{AreMostGood, IsGoodInSync, SawTheTimes, TakesTheCalls}
-use Rattle.rb_laws_listener_near.specs.Judged.{verdict_with}
-use Rattle.rb_laws_listener_near.specs.Laws.{FramesBeginNear, LieWithin}
-use Rattle.rb_laws_listener_near.proofs.ListenerMiddles.{MostGood, TakesCalls}
-use Rattle.rb_laws_listener_near.proofs.ListenerNear.{IsCalled, SawTimes, calls_near_bius}
-use Rattle.rb_laws_listener_near.proofs.NextEpochs.{BeginTogether, MiddleIsNear, begin_together}
+use Rattle.std.proofs.{Common.{◌≡◌, ℕ, suc, ◌+◌, ◌-◌, ◌*◌, ◌<◌, ◌≤◌, true, false, List, ◌∷◌, length, Option, slice_get, inl, inr, refl, sym, ◌∙◌, ap, subst, arith}, lemmas.Option.same_Some}
+use Rattle.rb_base.specs.{Nodes.{Side, has, set_of, size}, Nodes.Side.{Biu, Rmu}, Sizes.sync_slot_of, declared.values.See.See}
+use Rattle.rb_base.proofs.{Plain.and_second, SetSizes.size_same, Sets.has-set_of}
+use Rattle.rb_rules.specs.{Book.{judged_of, of_kind}, Clock.{IsClock, Timeline, time_of}, Goodness.{Scenario, clock_of, is_good}, Judging.JudgedStage, Lawful.IsLawful, Moments.{IsRunning, after_slot, before_stage}, NodeState.NodeState, Plan.{longest_of, shortest_of}, Ports.HandIn, Rounds.{Moment, moment, step, windows_in}}
+use Rattle.rb_rules.proofs.{Drift.{HasLengths, drift, has_lengths, stamp_near}, Middles.IsBetween}
+use Rattle.rb_laws_agreement.proofs.{Tests.Passing, Numbers.{how_many-is, one_of_many}, Premises.is_sound, Agreement.step_is, Goodnesses.slot_last, Invariant.{Agree, IsGoodNode, Shared, is_good_now}, JudgedWindows.{IsPassed, passed, rows_of}, NextMoments.next, NodeWindows.sync_windows_are, Places.{IsPlaced, complete_before, placed}, Settings.good_state, SlotRuns.{next-frame, next-window}, SyncAgrees.{agree_sync, book_sync, stage_setting}, Tests.Present}
+use Rattle.rb_laws_synchrony.proofs.{CallSights.{place_of, stages_with}, LaterStages.near_second, PlanNumbers.drift_of, SyncSteps.{IsPassedStage, passed_stage}, Synchronous.{KnowsEpoch, Synchronous}, Synchrony.{IsSynchronous, synchrony}, TakenCalls.IsStage, Times.{Steady, lawful_fits, plan_fits}}
+use Rattle.rb_laws_listener_near.specs.{Calls.{AreMostGood, IsGoodInSync, SawTheTimes, TakesTheCalls}, Judged.verdict_with, Laws.{FramesBeginNear, LieWithin}}
+use Rattle.rb_laws_listener_near.proofs.{ListenerMiddles.{MostGood, TakesCalls}, ListenerNear.{IsCalled, SawTimes, calls_near_bius}, NextEpochs.{BeginTogether, MiddleIsNear, begin_together}}
 
 -- a receiver's clock is steady
 pub steady_clock : (sc : Scenario) → IsLawful sc → (clock : Timeline) → IsClock (shortest_of sc.plan) (longest_of sc.plan) clock → Steady (shortest_of sc.plan) (drift_of sc.plan) clock

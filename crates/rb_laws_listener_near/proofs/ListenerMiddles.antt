@@ -1,53 +1,13 @@
 -- The middle that a listener makes of the calls of RMUs in stage 2 of the sync slot: near that of
 -- each good BIU.
-use Rattle.std.proofs.Common.{◌≡◌, ℕ, zero, suc, ◌+◌, ◌*◌, ◌≤◌, ◌<◌, ◌&&◌, not, nat_le, nat_lt, Bool, true, false, List, [], ◌∷◌, map, Option, Some, None, is_some, refl, sym, ◌∙◌, ap, subst, arith, inl, inr}
-use Rattle.std.specs.Prelude.{All}
-use Rattle.std.specs.List.{cons_option}
-use Rattle.std.proofs.lemmas.Bool.{lt-ltb, not-true}
-use Rattle.std.proofs.lemmas.Bool.Decides.{nat_tests}
-use Rattle.std.proofs.lemmas.List.Elements.{All-cons, All-nil}
-use Rattle.std.proofs.lemmas.Option.{same_Some}
-use Rattle.rb_base.specs.Counting.{count_if, numbers}
-use Rattle.rb_base.specs.Nodes.{has, set_of, size}
-use Rattle.rb_base.specs.Nodes.Side.{Biu, Rmu}
-use Rattle.rb_base.specs.Sizes.{sync_slot_of}
-use Rattle.rb_base.proofs.Counts.{count_if-none}
-use Rattle.rb_base.proofs.Plain.{and_first, and_second, less-same}
-use Rattle.rb_base.proofs.Sets.{has-set_of}
-use Rattle.rb_base.proofs.SetSizes.{size_apart, size_first}
-use Rattle.rb_rules.specs.Book.{judged_of}
-use Rattle.rb_rules.specs.Clock.{Timeline, stamp_of, time_of}
-use Rattle.rb_rules.specs.ExactStage.{each_node, present}
-use Rattle.rb_rules.specs.Goodness.{Scenario, clock_of, is_good}
-use Rattle.rb_rules.specs.Hearing.{Sending, coming_of, sole_time}
-use Rattle.rb_rules.specs.Middle.{IsMiddle, middle_of}
-use Rattle.rb_rules.specs.NodeState.{NodeState}
-use Rattle.rb_rules.specs.Plan.{shortest_of}
-use Rattle.rb_rules.specs.Ports.{HandIn}
-use Rattle.rb_rules.specs.Rounds.{Moment}
-use Rattle.rb_rules.specs.SyncStage.{call_tick_of}
-use Rattle.rb_rules.proofs.Drift.{times_rise_to}
-use Rattle.rb_rules.proofs.Middles.{AreNear, IsBetween}
-use Rattle.rb_rules.proofs.Stamps.{stamp_of-is, stamps_rise}
-use Rattle.rb_laws_agreement.proofs.Tests.{true_or_false}
-use Rattle.rb_laws_agreement.proofs.Numbers.{how_many, how_many-is}
-use Rattle.rb_laws_agreement.proofs.Goodnesses.{good_counts, slot_last}
-use Rattle.rb_laws_agreement.proofs.Invariant.{IsGoodNode, Shared, is_good_now, slot_numbered}
-use Rattle.rb_laws_agreement.proofs.Exchanges.{far-held}
-use Rattle.rb_laws_agreement.proofs.JudgedWindows.{rows_of}
-use Rattle.rb_laws_agreement.proofs.NodeWindows.{Windows, heard_in}
-use Rattle.rb_laws_agreement.proofs.StageVotes.{how_many-count}
-use Rattle.rb_laws_synchrony.proofs.CallSights.{TookAlike, place_of, stages_with}
-use Rattle.rb_laws_synchrony.proofs.LaterStages.{calls_near, near-between}
-use Rattle.rb_laws_synchrony.proofs.Middles.{BothNear, HasStamp, middle_times_near, middle_within, some_middle}
-use Rattle.rb_laws_synchrony.proofs.PlanNumbers.{drift_of, eps_of}
-use Rattle.rb_laws_synchrony.proofs.StageMiddles.{CallBetween, HearsMiddle, IsCaller, IsHeardStage, Late, NoneUnlike, both-near, caller, hears_middle, tick_of, ws_of}
-use Rattle.rb_laws_synchrony.proofs.StageSteps.{CallNear, near_calls}
-use Rattle.rb_laws_synchrony.proofs.SyncSteps.{none_before}
-use Rattle.rb_laws_synchrony.proofs.Synchronous.{Synchronous, first_kept, near_1, near_2}
-use Rattle.rb_laws_synchrony.proofs.TakenCalls.{IsCallTaken, IsTaken, taken_from, takes_call, took}
-use Rattle.rb_laws_synchrony.proofs.TimelyWindows.{coming_between}
-use Rattle.rb_laws_synchrony.proofs.Times.{IsStampTime, Steady, lawful_fits, stamp_time, stamp_to, steady}
+use Rattle.std.proofs.{Common.{◌≡◌, ℕ, zero, suc, ◌+◌, ◌*◌, ◌≤◌, ◌<◌, ◌&&◌, not, nat_le, nat_lt, Bool, true, false, List, [], ◌∷◌, map, Option, Some, None, is_some, refl, sym, ◌∙◌, ap, subst, arith, inl, inr}, lemmas.Bool.{lt-ltb, not-true}, lemmas.Bool.Decides.nat_tests, lemmas.List.Elements.{All-cons, All-nil}, lemmas.Option.same_Some}
+use Rattle.std.specs.{Prelude.All, List.cons_option}
+use Rattle.rb_base.specs.{Counting.{count_if, numbers}, Nodes.{has, set_of, size}, Nodes.Side.{Biu, Rmu}, Sizes.sync_slot_of}
+use Rattle.rb_base.proofs.{Counts.count_if-none, Plain.{and_first, and_second, less-same}, Sets.has-set_of, SetSizes.{size_apart, size_first}}
+use Rattle.rb_rules.specs.{Book.judged_of, Clock.{Timeline, stamp_of, time_of}, ExactStage.{each_node, present}, Goodness.{Scenario, clock_of, is_good}, Hearing.{Sending, coming_of, sole_time}, Middle.{IsMiddle, middle_of}, NodeState.NodeState, Plan.shortest_of, Ports.HandIn, Rounds.Moment, SyncStage.call_tick_of}
+use Rattle.rb_rules.proofs.{Drift.times_rise_to, Middles.{AreNear, IsBetween}, Stamps.{stamp_of-is, stamps_rise}}
+use Rattle.rb_laws_agreement.proofs.{Tests.true_or_false, Numbers.{how_many, how_many-is}, Goodnesses.{good_counts, slot_last}, Invariant.{IsGoodNode, Shared, is_good_now, slot_numbered}, Exchanges.far-held, JudgedWindows.rows_of, NodeWindows.{Windows, heard_in}, StageVotes.how_many-count}
+use Rattle.rb_laws_synchrony.proofs.{CallSights.{TookAlike, place_of, stages_with}, LaterStages.{calls_near, near-between}, Middles.{BothNear, HasStamp, middle_times_near, middle_within, some_middle}, PlanNumbers.{drift_of, eps_of}, StageMiddles.{CallBetween, HearsMiddle, IsCaller, IsHeardStage, Late, NoneUnlike, both-near, caller, hears_middle, tick_of, ws_of}, StageSteps.{CallNear, near_calls}, SyncSteps.none_before, Synchronous.{Synchronous, first_kept, near_1, near_2}, TakenCalls.{IsCallTaken, IsTaken, taken_from, takes_call, took}, TimelyWindows.coming_between, Times.{IsStampTime, Steady, lawful_fits, stamp_time, stamp_to, steady}}
 use Rattle.rb_laws_listener_near.proofs.Tracking.{outnumbered}
 
 -- ---- what a listener takes

@@ -1,47 +1,14 @@
 -- Under the premise with the listener its middle of the calls of stage 2 is near that of each good
 -- BIU.
-use Rattle.std.proofs.Common.{◌≡◌, ℕ, ◌+◌, ◌≤◌, ◌<◌, not, nat_le, true, false, List, [], ◌∷◌, length, Option, Some, None, refl, sym, ◌∙◌, ap, subst, arith}
-use Rattle.std.proofs.lemmas.Bool.{and_from, leb-true, not_from_false}
-use Rattle.std.proofs.lemmas.Option.{same_Some}
-use Rattle.rb_base.specs.Nodes.{Side, has}
-use Rattle.rb_base.specs.Nodes.Side.{Biu, Rmu}
-use Rattle.rb_base.specs.Sizes.{sync_slot_of}
-use Rattle.rb_base.proofs.Sets.{has-set_of}
-use Rattle.rb_base.specs.declared.values.See.{See}
-use Rattle.rb_base.proofs.Plain.{and_first, and_second}
-use Rattle.rb_rules.specs.Book.{Row, in_order, judged_of, trusted_by}
-use Rattle.rb_rules.specs.Clock.{Timeline, time_of}
-use Rattle.rb_rules.specs.ExactStage.{each_node, present}
-use Rattle.rb_rules.specs.Goodness.{Scenario, clock_of, is_good}
-use Rattle.rb_rules.specs.Hearing.{judged_see, sole_time}
-use Rattle.rb_rules.specs.Judging.{JudgedStage, are_alike, good_now, is_suspect, trusted_now, verdict_of}
-use Rattle.rb_rules.specs.Middle.{IsMiddle, middle_of}
-use Rattle.rb_rules.specs.NodeState.{NodeState}
-use Rattle.rb_rules.specs.Plan.{f0_of, shortest_of}
-use Rattle.rb_rules.specs.Ports.{HandIn}
-use Rattle.rb_rules.specs.Rounds.{Moment}
-use Rattle.rb_rules.specs.SyncStage.{see_time}
+use Rattle.std.proofs.{Common.{◌≡◌, ℕ, ◌+◌, ◌≤◌, ◌<◌, not, nat_le, true, false, List, [], ◌∷◌, length, Option, Some, None, refl, sym, ◌∙◌, ap, subst, arith}, lemmas.Bool.{and_from, leb-true, not_from_false}, lemmas.Option.same_Some}
+use Rattle.rb_base.specs.{Nodes.{Side, has}, Nodes.Side.{Biu, Rmu}, Sizes.sync_slot_of, declared.values.See.See}
+use Rattle.rb_base.proofs.{Sets.has-set_of, Plain.{and_first, and_second}}
+use Rattle.rb_rules.specs.{Book.{Row, in_order, judged_of, trusted_by}, Clock.{Timeline, time_of}, ExactStage.{each_node, present}, Goodness.{Scenario, clock_of, is_good}, Hearing.{judged_see, sole_time}, Judging.{JudgedStage, are_alike, good_now, is_suspect, trusted_now, verdict_of}, Middle.{IsMiddle, middle_of}, NodeState.NodeState, Plan.{f0_of, shortest_of}, Ports.HandIn, Rounds.Moment, SyncStage.see_time}
 use Rattle.rb_rules.proofs.Middles.{AreNear}
-use Rattle.rb_laws_agreement.proofs.Premises.{Premise, premise_holds}
-use Rattle.rb_laws_agreement.proofs.Goodnesses.{good_below_16, slot_last}
-use Rattle.rb_laws_agreement.proofs.Invariant.{IsGoodNode, Shared}
-use Rattle.rb_laws_agreement.proofs.JudgedWindows.{first_row_trusts, nobody_trusted, rows_of}
-use Rattle.rb_laws_agreement.proofs.NextMoments.{CameFrom, came_from, next}
-use Rattle.rb_laws_agreement.proofs.NodeWindows.{Windows, heard_in}
-use Rattle.rb_laws_synchrony.proofs.CallSights.{TookAlike, place_of, shows_took, stages_with}
-use Rattle.rb_laws_synchrony.proofs.LaterStages.{second-middle, weaker}
-use Rattle.rb_laws_synchrony.proofs.PlanNumbers.{drift_of, eps_of}
-use Rattle.rb_laws_synchrony.proofs.StageCalls.{second_calls}
-use Rattle.rb_laws_synchrony.proofs.StageMiddles.{IsHeardStage, ws_of}
-use Rattle.rb_laws_synchrony.proofs.StageSteps.{StageMiddle}
-use Rattle.rb_laws_synchrony.proofs.SyncSteps.{IsPassedStage, f0_some, kept_found, some_more}
-use Rattle.rb_laws_synchrony.proofs.Synchronous.{Synchronous, from_2, near_1, near_2, to_2}
-use Rattle.rb_laws_synchrony.proofs.TakenCalls.{is_set, took}
-use Rattle.rb_laws_synchrony.proofs.Times.{Steady}
+use Rattle.rb_laws_agreement.proofs.{Premises.{Premise, premise_holds}, Goodnesses.{good_below_16, slot_last}, Invariant.{IsGoodNode, Shared}, JudgedWindows.{first_row_trusts, nobody_trusted, rows_of}, NextMoments.{CameFrom, came_from, next}, NodeWindows.{Windows, heard_in}}
+use Rattle.rb_laws_synchrony.proofs.{CallSights.{TookAlike, place_of, shows_took, stages_with}, LaterStages.{second-middle, weaker}, PlanNumbers.{drift_of, eps_of}, StageCalls.second_calls, StageMiddles.{IsHeardStage, ws_of}, StageSteps.StageMiddle, SyncSteps.{IsPassedStage, f0_some, kept_found, some_more}, Synchronous.{Synchronous, from_2, near_1, near_2, to_2}, TakenCalls.{is_set, took}, Times.Steady}
 use Rattle.rb_laws_listener_near.specs.Judged.{heard_stages, is_asymmetric_with, verdict_with}
-use Rattle.rb_laws_listener_near.proofs.ListenerMiddles.{FindsMiddle, MostGood, TakesAlike, TakesCalls, finds_middle, middle_past, near_by_bius, near_by_rmus}
-use Rattle.rb_laws_listener_near.proofs.NextEpochs.{MiddleIsNear}
-use Rattle.rb_laws_listener_near.proofs.Sides.{SideAlike, bius_alike, rmus_alike, side_alike}
+use Rattle.rb_laws_listener_near.proofs.{ListenerMiddles.{FindsMiddle, MostGood, TakesAlike, TakesCalls, finds_middle, middle_past, near_by_bius, near_by_rmus}, NextEpochs.MiddleIsNear, Sides.{SideAlike, bius_alike, rmus_alike, side_alike}}
 
 -- ---- whom the judge takes for suspects
 

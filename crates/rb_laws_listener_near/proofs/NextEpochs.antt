@@ -1,40 +1,12 @@
 -- If the third stage of the sync slot passes, a listener whose middle is near those of the good
 -- BIUs begins the next frame near all good nodes.
-use Rattle.std.proofs.Common.{◌≡◌, ℕ, ◌+◌, ◌*◌, ◌≤◌, ◌<◌, min, max, true, false, List, Some, option_and_then, option_map, unwrap_or, slice_get, ◌⊎◌, inl, inr, refl, sym, ◌∙◌, ap, subst, arith}
-use Rattle.std.proofs.lemmas.Bool.{cases_lt}
-use Rattle.rb_base.specs.Nodes.{Side, has}
-use Rattle.rb_base.specs.Nodes.Side.{Biu, Rmu}
-use Rattle.rb_base.specs.Sizes.{sync_slot_of}
+use Rattle.std.proofs.{Common.{◌≡◌, ℕ, ◌+◌, ◌*◌, ◌≤◌, ◌<◌, min, max, true, false, List, Some, option_and_then, option_map, unwrap_or, slice_get, ◌⊎◌, inl, inr, refl, sym, ◌∙◌, ap, subst, arith}, lemmas.Bool.cases_lt}
+use Rattle.rb_base.specs.{Nodes.{Side, has}, Nodes.Side.{Biu, Rmu}, Sizes.sync_slot_of}
 use Rattle.rb_base.proofs.Plain.{and_second}
-use Rattle.rb_rules.specs.Book.{of_kind}
-use Rattle.rb_rules.specs.Clock.{Timeline, time_of}
-use Rattle.rb_rules.specs.Goodness.{Scenario, clock_of, is_good}
-use Rattle.rb_rules.specs.Lawful.{IsLawful}
-use Rattle.rb_rules.specs.NodeState.{NodeState}
-use Rattle.rb_rules.specs.Plan.{f0_of, shortest_of}
-use Rattle.rb_rules.specs.Ports.{HandIn}
-use Rattle.rb_rules.specs.Rounds.{Moment}
-use Rattle.rb_rules.specs.SyncStage.{call_tick_of}
+use Rattle.rb_rules.specs.{Book.of_kind, Clock.{Timeline, time_of}, Goodness.{Scenario, clock_of, is_good}, Lawful.IsLawful, NodeState.NodeState, Plan.{f0_of, shortest_of}, Ports.HandIn, Rounds.Moment, SyncStage.call_tick_of}
 use Rattle.rb_rules.proofs.Middles.{AreNear, IsBetween}
-use Rattle.rb_laws_agreement.proofs.Tests.{Passing}
-use Rattle.rb_laws_agreement.proofs.Numbers.{one_of_many}
-use Rattle.rb_laws_agreement.proofs.Premises.{is_sound}
-use Rattle.rb_laws_agreement.proofs.Goodnesses.{good_below_16, slot_last}
-use Rattle.rb_laws_agreement.proofs.Invariant.{IsGoodNode, Shared, is_good_now, slot_numbered}
-use Rattle.rb_laws_agreement.proofs.NextMoments.{CameFrom, came_from, next}
-use Rattle.rb_laws_agreement.proofs.Settings.{after}
-use Rattle.rb_laws_synchrony.proofs.KeptMiddles.{keeps}
-use Rattle.rb_laws_synchrony.proofs.LastStage.{biu_begins, rmu_begins, third-middle, third-near}
-use Rattle.rb_laws_synchrony.proofs.Middles.{HasLeast, least_of}
-use Rattle.rb_laws_synchrony.proofs.PlanNumbers.{drift_of}
-use Rattle.rb_laws_synchrony.proofs.StageCalls.{clock_now}
-use Rattle.rb_laws_synchrony.proofs.StageMiddles.{CallBetween, IsCaller, IsHeardStage, caller, ws_of}
-use Rattle.rb_laws_synchrony.proofs.StageSteps.{closer}
-use Rattle.rb_laws_synchrony.proofs.SyncSteps.{IsPassedStage, epoch_after, f0_some, kept_found, some_more, tick_some}
-use Rattle.rb_laws_synchrony.proofs.Synchronous.{KnowsEpoch, Synchronous, heard_from, heard_to, near_2, near_3, near_on, ticks_on}
-use Rattle.rb_laws_synchrony.proofs.TakenCalls.{is_set}
-use Rattle.rb_laws_synchrony.proofs.TimelyWindows.{good_here}
-use Rattle.rb_laws_synchrony.proofs.Times.{Steady, lawful_fits}
+use Rattle.rb_laws_agreement.proofs.{Tests.Passing, Numbers.one_of_many, Premises.is_sound, Goodnesses.{good_below_16, slot_last}, Invariant.{IsGoodNode, Shared, is_good_now, slot_numbered}, NextMoments.{CameFrom, came_from, next}, Settings.after}
+use Rattle.rb_laws_synchrony.proofs.{KeptMiddles.keeps, LastStage.{biu_begins, rmu_begins, third-middle, third-near}, Middles.{HasLeast, least_of}, PlanNumbers.drift_of, StageCalls.clock_now, StageMiddles.{CallBetween, IsCaller, IsHeardStage, caller, ws_of}, StageSteps.closer, SyncSteps.{IsPassedStage, epoch_after, f0_some, kept_found, some_more, tick_some}, Synchronous.{KnowsEpoch, Synchronous, heard_from, heard_to, near_2, near_3, near_on, ticks_on}, TakenCalls.is_set, TimelyWindows.good_here, Times.{Steady, lawful_fits}}
 
 -- the time of a BIU's call
 calls_at : Scenario → Moment → ℕ → ℕ

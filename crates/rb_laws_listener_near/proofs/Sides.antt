@@ -1,16 +1,10 @@
 -- What the premise with a listener says if it holds: of one kind no node that is not good was seen
 -- unlike, by the listener neither.
-use Rattle.std.proofs.Common.{◌≡◌, ℕ, ◌<◌, ◌&&◌, ◌⊎◌, inl, inr, not, Bool, true, false, if◌then◌else◌, List, [], ◌∷◌, length, Option, Some, None, refl, sym, ◌∙◌, ap, arith}
+use Rattle.std.proofs.{Common.{◌≡◌, ℕ, ◌<◌, ◌&&◌, ◌⊎◌, inl, inr, not, Bool, true, false, if◌then◌else◌, List, [], ◌∷◌, length, Option, Some, None, refl, sym, ◌∙◌, ap, arith}, lemmas.Bool.{and_from, not_from_false, or_from}}
 use Rattle.std.specs.List.{list_any}
-use Rattle.std.proofs.lemmas.Bool.{and_from, not_from_false, or_from}
-use Rattle.rb_base.specs.Nodes.{Side, has, size}
-use Rattle.rb_base.specs.Nodes.Side.{Biu, Rmu}
-use Rattle.rb_base.proofs.Sets.{has-set_of}
-use Rattle.rb_base.proofs.SetSizes.{size_some}
-use Rattle.rb_base.specs.declared.values.See.{See}
-use Rattle.rb_base.proofs.Plain.{none_below}
-use Rattle.rb_rules.specs.declared.cause.Cause.TheVariants.{FewGoodBiu, FewGoodRmu, TwoSided}
-use Rattle.rb_rules.specs.Judging.{ClassSets, JudgedStage, are_alike, are_few_good, cause_of, is_suspect, some_asymmetric, was_unlike}
+use Rattle.rb_base.specs.{Nodes.{Side, has, size}, Nodes.Side.{Biu, Rmu}, declared.values.See.See}
+use Rattle.rb_base.proofs.{Sets.has-set_of, SetSizes.size_some, Plain.none_below}
+use Rattle.rb_rules.specs.{declared.cause.Cause.TheVariants.{FewGoodBiu, FewGoodRmu, TwoSided}, Judging.{ClassSets, JudgedStage, are_alike, are_few_good, cause_of, is_suspect, some_asymmetric, was_unlike}}
 use Rattle.rb_laws_agreement.proofs.Tests.{true_or_false, or_neither_first, or_neither_second, passes_at}
 use Rattle.rb_laws_listener_near.specs.Judged.{HeardStage, classes_with, heard_stages, is_asymmetric_with, unlike_some, verdict_with, was_unlike_with}
 

@@ -1,33 +1,11 @@
 -- A listener keeps track of the bus in the windows of the sync slot, and at its turn to the next
 -- frame.
-use Rattle.std.proofs.Common.{◌≡◌, ℕ, ◌+◌, ◌-◌, ◌*◌, ◌<◌, ◌&&◌, not, true, false, List, Option, Some, None, is_some, option_map, get_or, refl, sym, ◌∙◌, ap, subst, arith}
-use Rattle.std.proofs.lemmas.Bool.{lt-ltb}
-use Rattle.rb_base.specs.Nodes.{has}
-use Rattle.rb_base.specs.Nodes.Side.{Biu, Rmu}
-use Rattle.rb_base.specs.Sizes.{Sizes, sync_slot_of}
+use Rattle.std.proofs.{Common.{◌≡◌, ℕ, ◌+◌, ◌-◌, ◌*◌, ◌<◌, ◌&&◌, not, true, false, List, Option, Some, None, is_some, option_map, get_or, refl, sym, ◌∙◌, ap, subst, arith}, lemmas.Bool.lt-ltb}
+use Rattle.rb_base.specs.{Nodes.has, Nodes.Side.{Biu, Rmu}, Sizes.{Sizes, sync_slot_of}, declared.values.Heard.Heard, declared.values.Heard.TheVariants.Fault}
 use Rattle.rb_base.proofs.Sets.{has-set_of}
-use Rattle.rb_base.specs.declared.values.Heard.{Heard}
-use Rattle.rb_base.specs.declared.values.Heard.TheVariants.{Fault}
-use Rattle.rb_rules.specs.declared.plan.Plan.{Plan}
-use Rattle.rb_rules.specs.declared.sense.Sense.{Sense}
-use Rattle.rb_rules.specs.Conviction.{convicted_at, convicted_by, turn, voted_vector}
-use Rattle.rb_rules.specs.Goodness.{Scenario}
-use Rattle.rb_rules.specs.NodeState.{NodeState}
-use Rattle.rb_rules.specs.NodeSteps.{turn_if_known}
-use Rattle.rb_rules.specs.Ports.{HandIn}
-use Rattle.rb_rules.specs.Rounds.{Moment, begin_frame, next_frame, sent_in, window_in, windows_in}
-use Rattle.rb_rules.specs.Slots.{first_diagnosis_of}
-use Rattle.rb_rules.specs.Standing.{Standing, does_wrong, has_evidence, lapses, without}
-use Rattle.rb_rules.specs.SyncStage.{close_sync, expects_call, new_epoch_of, sync_outcome_of}
-use Rattle.rb_rules.proofs.RoundStates.{Knows, through-stays}
-use Rattle.rb_rules.proofs.Standings.{others_stay, right_is_no_evidence}
-use Rattle.rb_laws_agreement.proofs.Invariant.{IsGoodNode, Shared, is_good_now, slot_numbered}
-use Rattle.rb_laws_agreement.proofs.NodeWindows.{Windows}
-use Rattle.rb_laws_agreement.proofs.Goodnesses.{good_below_16}
-use Rattle.rb_laws_agreement.proofs.NextMoments.{CameFrom, came_from, next, was_good}
-use Rattle.rb_laws_agreement.proofs.SyncAgrees.{SyncSetting, leaves}
-use Rattle.rb_laws_agreement.proofs.FrameTurns.{AtEnd}
-use Rattle.rb_laws_agreement.proofs.FrameAgrees.{TurnedFrom, turned_from, was_good_then}
+use Rattle.rb_rules.specs.{declared.plan.Plan.Plan, declared.sense.Sense.Sense, Conviction.{convicted_at, convicted_by, turn, voted_vector}, Goodness.Scenario, NodeState.NodeState, NodeSteps.turn_if_known, Ports.HandIn, Rounds.{Moment, begin_frame, next_frame, sent_in, window_in, windows_in}, Slots.first_diagnosis_of, Standing.{Standing, does_wrong, has_evidence, lapses, without}, SyncStage.{close_sync, expects_call, new_epoch_of, sync_outcome_of}}
+use Rattle.rb_rules.proofs.{RoundStates.{Knows, through-stays}, Standings.{others_stay, right_is_no_evidence}}
+use Rattle.rb_laws_agreement.proofs.{Invariant.{IsGoodNode, Shared, is_good_now, slot_numbered}, NodeWindows.Windows, Goodnesses.good_below_16, NextMoments.{CameFrom, came_from, next, was_good}, SyncAgrees.{SyncSetting, leaves}, FrameTurns.AtEnd, FrameAgrees.{TurnedFrom, turned_from, was_good_then}}
 use Rattle.rb_laws_listener_near.specs.Holding.{HoldAlike}
 use Rattle.rb_laws_listener_near.proofs.Tracking.{Tracks, stays_good}
 

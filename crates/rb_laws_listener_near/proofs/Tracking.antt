@@ -1,36 +1,11 @@
 -- A listener before a window below the sync slot, beside nodes that agree: what it takes of good
 -- RMUs, and what it votes if they say one value.
-use Rattle.std.proofs.Common.{◌≡◌, ℕ, ◌+◌, ◌*◌, ◌<◌, ◌≤◌, ◌&&◌, not, nat_lt, Bool, true, false, List, Option, Some, is_some, length, slice_get, sym, ◌∙◌, ap, arith}
-use Rattle.std.proofs.lemmas.Bool.{lt-ltb, not-true}
-use Rattle.rb_base.specs.Counting.{count_if, numbers}
-use Rattle.rb_base.specs.Nodes.{has, set_of, size}
-use Rattle.rb_base.specs.Nodes.Side.{Biu, Rmu}
-use Rattle.rb_base.specs.Sizes.{sync_slot_of}
-use Rattle.rb_base.proofs.Sets.{has-set_of}
-use Rattle.rb_base.proofs.SetSizes.{size_apart, size_first}
-use Rattle.rb_base.specs.declared.values.Heard.{Heard}
-use Rattle.rb_base.proofs.Plain.{and_first, and_second, less-same}
-use Rattle.rb_rules.specs.declared.sense.Sense.{Sense}
-use Rattle.rb_rules.specs.Book.{of_kind}
-use Rattle.rb_rules.specs.ExactStage.{says, says_of}
-use Rattle.rb_rules.specs.Goodness.{Scenario, is_good}
-use Rattle.rb_rules.specs.NodeState.{NodeState, sender_at}
-use Rattle.rb_rules.specs.Ports.{HandIn}
-use Rattle.rb_rules.specs.Rounds.{Moment, after_window}
-use Rattle.rb_rules.specs.Slots.{Sender, expects, role_of, sender_in}
-use Rattle.rb_rules.specs.Standing.{does_wrong}
+use Rattle.std.proofs.{Common.{◌≡◌, ℕ, ◌+◌, ◌*◌, ◌<◌, ◌≤◌, ◌&&◌, not, nat_lt, Bool, true, false, List, Option, Some, is_some, length, slice_get, sym, ◌∙◌, ap, arith}, lemmas.Bool.{lt-ltb, not-true}}
+use Rattle.rb_base.specs.{Counting.{count_if, numbers}, Nodes.{has, set_of, size}, Nodes.Side.{Biu, Rmu}, Sizes.sync_slot_of, declared.values.Heard.Heard}
+use Rattle.rb_base.proofs.{Sets.has-set_of, SetSizes.{size_apart, size_first}, Plain.{and_first, and_second, less-same}}
+use Rattle.rb_rules.specs.{declared.sense.Sense.Sense, Book.of_kind, ExactStage.{says, says_of}, Goodness.{Scenario, is_good}, NodeState.{NodeState, sender_at}, Ports.HandIn, Rounds.{Moment, after_window}, Slots.{Sender, expects, role_of, sender_in}, Standing.does_wrong}
 use Rattle.rb_rules.proofs.Votes.{closing_vote_is}
-use Rattle.rb_laws_agreement.proofs.Tests.{Present}
-use Rattle.rb_laws_agreement.proofs.Numbers.{how_many, how_many-is}
-use Rattle.rb_laws_agreement.proofs.NodeWindows.{word_at}
-use Rattle.rb_laws_agreement.proofs.Invariant.{Shared, sender_of, IsGoodNode, is_good_now, Holds, slot_numbered}
-use Rattle.rb_laws_agreement.proofs.ExactWindows.{IsSingle, IsSenseOf, closing_at, does_right, expected_at, expects_who_speaks, take_at, takes_what_is_said}
-use Rattle.rb_laws_agreement.proofs.Goodnesses.{exact_role, good_counts, single_sender, slot_here}
-use Rattle.rb_laws_agreement.proofs.Exchanges.{eligible, sender-held, taken_is_trusted}
-use Rattle.rb_laws_agreement.proofs.StageVotes.{how_many-count}
-use Rattle.rb_laws_agreement.proofs.Settings.{Setting, good_state}
-use Rattle.rb_laws_agreement.proofs.SecondStages.{GoodOne, some_good}
-use Rattle.rb_laws_agreement.proofs.NextMoments.{next, was_good}
+use Rattle.rb_laws_agreement.proofs.{Tests.Present, Numbers.{how_many, how_many-is}, NodeWindows.word_at, Invariant.{Shared, sender_of, IsGoodNode, is_good_now, Holds, slot_numbered}, ExactWindows.{IsSingle, IsSenseOf, closing_at, does_right, expected_at, expects_who_speaks, take_at, takes_what_is_said}, Goodnesses.{exact_role, good_counts, single_sender, slot_here}, Exchanges.{eligible, sender-held, taken_is_trusted}, StageVotes.how_many-count, Settings.{Setting, good_state}, SecondStages.{GoodOne, some_good}, NextMoments.{next, was_good}}
 use Rattle.rb_laws_listener_near.specs.Holding.{HoldAlike}
 
 -- a listener before a window: it holds what each good BIU holds, and accuses no good RMU directly

@@ -1,43 +1,13 @@
 -- In a window below the sync slot in which BIUs vote a listener votes as each good BIU does.
-use Rattle.std.proofs.Common.{◌≡◌, ℕ, zero, suc, ◌+◌, ◌<◌, ◌&&◌, ◌||◌, inl, inr, not, Bool, true, false, List, [], ◌∷◌, length, Option, Some, None, unwrap_or, slice_get, if◌then◌else◌, refl, sym, ◌∙◌, ap, subst, arith}
+use Rattle.std.proofs.{Common.{◌≡◌, ℕ, zero, suc, ◌+◌, ◌<◌, ◌&&◌, ◌||◌, inl, inr, not, Bool, true, false, List, [], ◌∷◌, length, Option, Some, None, unwrap_or, slice_get, if◌then◌else◌, refl, sym, ◌∙◌, ap, subst, arith}, lemmas.Bool.{and_from, not_from_false}}
 use Rattle.std.specs.List.{list_any}
-use Rattle.std.proofs.lemmas.Bool.{and_from, not_from_false}
-use Rattle.rb_base.specs.Nodes.{Side, other, has}
-use Rattle.rb_base.specs.Nodes.Side.{Biu, Rmu}
-use Rattle.rb_base.proofs.Sets.{has-set_of}
-use Rattle.rb_base.specs.declared.values.Heard.{Heard}
-use Rattle.rb_base.specs.declared.values.Heard.TheVariants.{Fault}
-use Rattle.rb_base.specs.declared.values.Place.{Place}
-use Rattle.rb_base.specs.declared.values.See.{See}
-use Rattle.rb_base.proofs.Plain.{and_first, and_second, none-if}
-use Rattle.rb_rules.specs.declared.sense.Sense.{Sense}
-use Rattle.rb_rules.specs.Book.{Row, in_order, judged_of, of_kind, trusted_by}
-use Rattle.rb_rules.specs.ExactStage.{present, says, see_value, votes_in}
-use Rattle.rb_rules.specs.Goodness.{Scenario, is_good}
-use Rattle.rb_rules.specs.Judging.{JudgedStage, are_alike, good_now, is_suspect, trusted_now, was_unlike}
-use Rattle.rb_rules.specs.NodeState.{NodeState}
-use Rattle.rb_rules.specs.Ports.{HandIn}
-use Rattle.rb_rules.specs.Rounds.{Moment}
-use Rattle.rb_rules.specs.Slots.{Sender, expects, listens, role_of}
-use Rattle.rb_rules.specs.Slots.Sender.{Nobody, Node, EachTrusted}
-use Rattle.rb_rules.proofs.ExactStages.{idle_expects_nobody, vote_over_nothing}
-use Rattle.rb_rules.proofs.Votes.{same_vote}
-use Rattle.rb_laws_agreement.proofs.Tests.{Present, or_neither_second, true_or_false}
-use Rattle.rb_laws_agreement.proofs.Premises.{Premise, premise_holds}
-use Rattle.rb_laws_agreement.proofs.NodeWindows.{sense_in, word_at}
-use Rattle.rb_laws_agreement.proofs.Invariant.{GoodSent, HasRelays, HasVoted, IsGoodNode, Shared, is_good_now, kind_in, sender_of}
-use Rattle.rb_laws_agreement.proofs.ExactWindows.{IsSingle, expected_at, take_at}
-use Rattle.rb_laws_agreement.proofs.JudgedWindows.{alike_values, first_row_trusts, nobody_trusted, rows_of}
-use Rattle.rb_laws_agreement.proofs.Goodnesses.{exact_role, few_nodes, good_below_16, single_sender}
-use Rattle.rb_laws_agreement.proofs.Exchanges.{sender-held, shows_taken, taken_is_trusted}
-use Rattle.rb_laws_agreement.proofs.Senders.{sender_is_trusted}
-use Rattle.rb_laws_agreement.proofs.Settings.{AllCarried, Setting, all_heard, all_seen, good_here, good_state, stages_with, taken, ticks, windows}
-use Rattle.rb_laws_agreement.proofs.Speaking.{got_is_said, listens_second, listens_third, vote_is_said}
-use Rattle.rb_laws_agreement.proofs.SecondStages.{GoodOne, all_vote, carried_2, idle-vote, relays, some_good, vote_of}
-use Rattle.rb_laws_agreement.proofs.ThirdStages.{carried_3, voted}
+use Rattle.rb_base.specs.{Nodes.{Side, other, has}, Nodes.Side.{Biu, Rmu}, declared.values.Heard.Heard, declared.values.Heard.TheVariants.Fault, declared.values.Place.Place, declared.values.See.See}
+use Rattle.rb_base.proofs.{Sets.has-set_of, Plain.{and_first, and_second, none-if}}
+use Rattle.rb_rules.specs.{declared.sense.Sense.Sense, Book.{Row, in_order, judged_of, of_kind, trusted_by}, ExactStage.{present, says, see_value, votes_in}, Goodness.{Scenario, is_good}, Judging.{JudgedStage, are_alike, good_now, is_suspect, trusted_now, was_unlike}, NodeState.NodeState, Ports.HandIn, Rounds.Moment, Slots.{Sender, expects, listens, role_of}, Slots.Sender.{Nobody, Node, EachTrusted}}
+use Rattle.rb_rules.proofs.{ExactStages.{idle_expects_nobody, vote_over_nothing}, Votes.same_vote}
+use Rattle.rb_laws_agreement.proofs.{Tests.{Present, or_neither_second, true_or_false}, Premises.{Premise, premise_holds}, NodeWindows.{sense_in, word_at}, Invariant.{GoodSent, HasRelays, HasVoted, IsGoodNode, Shared, is_good_now, kind_in, sender_of}, ExactWindows.{IsSingle, expected_at, take_at}, JudgedWindows.{alike_values, first_row_trusts, nobody_trusted, rows_of}, Goodnesses.{exact_role, few_nodes, good_below_16, single_sender}, Exchanges.{sender-held, shows_taken, taken_is_trusted}, Senders.sender_is_trusted, Settings.{AllCarried, Setting, all_heard, all_seen, good_here, good_state, stages_with, taken, ticks, windows}, Speaking.{got_is_said, listens_second, listens_third, vote_is_said}, SecondStages.{GoodOne, all_vote, carried_2, idle-vote, relays, some_good, vote_of}, ThirdStages.{carried_3, voted}}
 use Rattle.rb_laws_listener_near.specs.Judged.{heard_stages, is_asymmetric_with, verdict_with}
-use Rattle.rb_laws_listener_near.proofs.Sides.{SideAlike, bius_alike, rmus_alike, side_alike}
-use Rattle.rb_laws_listener_near.proofs.Tracking.{Held, MostStay, Senses, Tracks, good_stays, held, is_taken, listener_vote, listener_votes, sender-here}
+use Rattle.rb_laws_listener_near.proofs.{Sides.{SideAlike, bius_alike, rmus_alike, side_alike}, Tracking.{Held, MostStay, Senses, Tracks, good_stays, held, is_taken, listener_vote, listener_votes, sender-here}}
 
 -- Whom the judge takes for suspects.
 

@@ -1,37 +1,12 @@
 -- A listener closes a window below the sync slot as each good BIU does.
 use Rattle.std.proofs.Common.{◌≡◌, ℕ, ◌+◌, ◌<◌, ◌==◌, ◌&&◌, Bool, true, false, List, Option, None, slice_get, slice_set, take, if◌then◌else◌, refl, sym, ◌∙◌, ap, subst}
-use Rattle.rb_base.specs.Nodes.{has}
-use Rattle.rb_base.specs.Nodes.Side.{Biu, Rmu}
-use Rattle.rb_base.specs.Sizes.{Sizes, sync_slot_of}
-use Rattle.rb_base.specs.declared.values.Heard.{Heard}
-use Rattle.rb_base.specs.declared.values.See.{See}
+use Rattle.rb_base.specs.{Nodes.has, Nodes.Side.{Biu, Rmu}, Sizes.{Sizes, sync_slot_of}, declared.values.Heard.Heard, declared.values.See.See}
 use Rattle.rb_base.proofs.Plain.{less-differs}
-use Rattle.rb_rules.specs.declared.closing.Closing.{Closing}
-use Rattle.rb_rules.specs.declared.sense.Sense.{Sense}
-use Rattle.rb_rules.specs.Book.{of_kind}
-use Rattle.rb_rules.specs.ExactStage.{Outcome, owners_after, reference_value, votes_after, votes_in}
-use Rattle.rb_rules.specs.Goodness.{Scenario}
-use Rattle.rb_rules.specs.Judging.{JudgedStage}
-use Rattle.rb_rules.specs.NodeState.{NodeState, sender_at}
-use Rattle.rb_rules.specs.NodeSteps.{close}
-use Rattle.rb_rules.specs.Owners.{owners_of}
-use Rattle.rb_rules.specs.Ports.{HandIn}
-use Rattle.rb_rules.specs.Rounds.{Moment, sent_in, window_in}
-use Rattle.rb_rules.specs.Slots.{role_of}
-use Rattle.rb_rules.proofs.RoundStates.{Stays, close-stays, through-stays}
-use Rattle.rb_rules.proofs.Slots.{close-exact}
-use Rattle.rb_laws_agreement.proofs.Tests.{Present}
-use Rattle.rb_laws_agreement.proofs.Invariant.{IsGoodNode, Shared, is_good_now, slot_numbered}
-use Rattle.rb_laws_agreement.proofs.ExactWindows.{ExactClose, closing_at, exact_close, expected_at, spares_right, with_sent}
-use Rattle.rb_laws_agreement.proofs.Goodnesses.{good_below_16}
-use Rattle.rb_laws_agreement.proofs.NodeWindows.{sense_in}
-use Rattle.rb_laws_agreement.proofs.Settings.{Closed, Setting, closes, good_state, stages_with, windows}
-use Rattle.rb_laws_agreement.proofs.SecondStages.{vote_of}
-use Rattle.rb_laws_agreement.proofs.NextMoments.{CameFrom, came_from, next, was_good}
-use Rattle.rb_laws_listener_near.specs.Holding.{HoldAlike}
-use Rattle.rb_laws_listener_near.specs.Judged.{verdict_with}
-use Rattle.rb_laws_listener_near.proofs.Tracking.{IsTaken, MostStay, Senses, Tracks, is_taken, listener_vote}
-use Rattle.rb_laws_listener_near.proofs.VotesAlike.{SawTaken, vote_alike}
+use Rattle.rb_rules.specs.{declared.closing.Closing.Closing, declared.sense.Sense.Sense, Book.of_kind, ExactStage.{Outcome, owners_after, reference_value, votes_after, votes_in}, Goodness.Scenario, Judging.JudgedStage, NodeState.{NodeState, sender_at}, NodeSteps.close, Owners.owners_of, Ports.HandIn, Rounds.{Moment, sent_in, window_in}, Slots.role_of}
+use Rattle.rb_rules.proofs.{RoundStates.{Stays, close-stays, through-stays}, Slots.close-exact}
+use Rattle.rb_laws_agreement.proofs.{Tests.Present, Invariant.{IsGoodNode, Shared, is_good_now, slot_numbered}, ExactWindows.{ExactClose, closing_at, exact_close, expected_at, spares_right, with_sent}, Goodnesses.good_below_16, NodeWindows.sense_in, Settings.{Closed, Setting, closes, good_state, stages_with, windows}, SecondStages.vote_of, NextMoments.{CameFrom, came_from, next, was_good}}
+use Rattle.rb_laws_listener_near.specs.{Holding.HoldAlike, Judged.verdict_with}
+use Rattle.rb_laws_listener_near.proofs.{Tracking.{IsTaken, MostStay, Senses, Tracks, is_taken, listener_vote}, VotesAlike.{SawTaken, vote_alike}}
 
 -- what the listener makes of a window
 abbrev pub closed_by : Scenario → ℕ → ℕ → ℕ → NodeState → (ℕ → Sense) → Outcome

@@ -1,19 +1,8 @@
 -- A receiver of the RMUs' calls beside the BIUs: what it takes of them in stage 2 of the sync slot,
 -- by its own clock.
 use Rattle.std.specs.Prelude.{ℕ, ◌≡◌, ◌+◌, ◌*◌, ◌≤◌, ◌<◌, true, Option, Some, is_some, List, ◌∷◌, length, slice_get}
-use Rattle.rb_base.specs.Nodes.{Side, has, set_of, size}
-use Rattle.rb_base.specs.Nodes.Side.{Rmu}
-use Rattle.rb_base.specs.Sizes.{sync_slot_of}
-use Rattle.rb_base.specs.declared.values.See.{See}
-use Rattle.rb_rules.specs.Book.{of_kind}
-use Rattle.rb_rules.specs.Clock.{Timeline, stamp_of, time_of}
-use Rattle.rb_rules.specs.Goodness.{Scenario, clock_of, is_good}
-use Rattle.rb_rules.specs.Hearing.{judged_see}
-use Rattle.rb_rules.specs.Judging.{JudgedStage}
-use Rattle.rb_rules.specs.Moments.{before_stage}
-use Rattle.rb_rules.specs.NodeState.{NodeState, trusted_of}
-use Rattle.rb_rules.specs.Ports.{HandIn}
-use Rattle.rb_rules.specs.SyncStage.{call_tick_of, see_time}
+use Rattle.rb_base.specs.{Nodes.{Side, has, set_of, size}, Nodes.Side.Rmu, Sizes.sync_slot_of, declared.values.See.See}
+use Rattle.rb_rules.specs.{Book.of_kind, Clock.{Timeline, stamp_of, time_of}, Goodness.{Scenario, clock_of, is_good}, Hearing.judged_see, Judging.JudgedStage, Moments.before_stage, NodeState.{NodeState, trusted_of}, Ports.HandIn, SyncStage.{call_tick_of, see_time}}
 
 -- node i of a kind is good in the sync slot of the frame, and this is its state before stage 2
 pub record IsGoodInSync (sc : Scenario) (hands : List HandIn) (frame : ℕ) (me : Side) (i : ℕ) (st : NodeState) : Type 0 where

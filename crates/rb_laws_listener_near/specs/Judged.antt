@@ -1,12 +1,8 @@
 -- The fault premise with a listener as one more good receiver of the RMUs. It is no BIU, and is not
 -- counted among the good nodes.
-use Rattle.std.specs.Prelude.{ℕ, ◌&&◌, ◌||◌, not, Bool, false, Option, Some, None, List, [], ◌∷◌, length}
-use Rattle.std.specs.List.{list_any}
-use Rattle.rb_base.specs.Nodes.{Side, has, set_of}
-use Rattle.rb_base.specs.Nodes.Side.{Biu, Rmu}
-use Rattle.rb_base.specs.declared.values.See.{See}
-use Rattle.rb_rules.specs.declared.cause.Cause.{Cause}
-use Rattle.rb_rules.specs.Judging.{ClassSets, JudgedStage, are_alike, cause_of, good_now, is_something, is_suspect, some_receiver, trusted_now, was_taken, was_unlike}
+use Rattle.std.specs.{Prelude.{ℕ, ◌&&◌, ◌||◌, not, Bool, false, Option, Some, None, List, [], ◌∷◌, length}, List.list_any}
+use Rattle.rb_base.specs.{Nodes.{Side, has, set_of}, Nodes.Side.{Biu, Rmu}, declared.values.See.See}
+use Rattle.rb_rules.specs.{declared.cause.Cause.Cause, Judging.{ClassSets, JudgedStage, are_alike, cause_of, good_now, is_something, is_suspect, some_receiver, trusted_now, was_taken, was_unlike}}
 
 -- a stage as it is judged, and what the listener saw in it of each RMU, if it is a receiver in that
 -- stage

@@ -1,22 +1,9 @@
 -- What is proved of a receiver of the RMUs beside the BIUs, whatever it hears from RMUs that are
 -- not good.
 use Rattle.std.specs.Prelude.{ℕ, ◌≡◌, ◌+◌, ◌≤◌, Option, Some, None, List}
-use Rattle.rb_base.specs.Nodes.{Side}
-use Rattle.rb_base.specs.Sizes.{sync_slot_of}
-use Rattle.rb_base.specs.declared.values.See.{See}
-use Rattle.rb_rules.specs.Clock.{IsClock, Timeline, time_of}
-use Rattle.rb_rules.specs.ExactStage.{each_node, present}
-use Rattle.rb_rules.specs.Goodness.{Scenario, clock_of}
-use Rattle.rb_rules.specs.Judging.{JudgedStage}
-use Rattle.rb_rules.specs.Lawful.{IsLawful}
-use Rattle.rb_rules.specs.Middle.{middle_of}
-use Rattle.rb_rules.specs.Moments.{IsComplete, IsGoodAfter, before_stage}
-use Rattle.rb_rules.specs.NodeState.{NodeState}
-use Rattle.rb_rules.specs.Plan.{longest_of, shortest_of}
-use Rattle.rb_rules.specs.Ports.{HandIn}
-use Rattle.rb_rules.specs.SyncStage.{new_epoch_of}
-use Rattle.rb_laws_listener_near.specs.Calls.{AreMostGood, SawTheTimes, TakesTheCalls}
-use Rattle.rb_laws_listener_near.specs.Judged.{verdict_with}
+use Rattle.rb_base.specs.{Nodes.Side, Sizes.sync_slot_of, declared.values.See.See}
+use Rattle.rb_rules.specs.{Clock.{IsClock, Timeline, time_of}, ExactStage.{each_node, present}, Goodness.{Scenario, clock_of}, Judging.JudgedStage, Lawful.IsLawful, Middle.middle_of, Moments.{IsComplete, IsGoodAfter, before_stage}, NodeState.NodeState, Plan.{longest_of, shortest_of}, Ports.HandIn, SyncStage.new_epoch_of}
+use Rattle.rb_laws_listener_near.specs.{Calls.{AreMostGood, SawTheTimes, TakesTheCalls}, Judged.verdict_with}
 
 -- the two times are at most so far apart
 pub record LieWithin (far a b : ℕ) : Type 0 where

@@ -1,18 +1,12 @@
 -- For the law of record and replay: events that come to a core one after another, and the quiet
 -- ticks among them.
-use Rattle.std.proofs.Common.{◌≡◌, ℕ, zero, suc, ◌+◌, ◌-◌, ◌^◌, ◌<◌, ◌≤◌, max, List, [], ◌∷◌, ◌++◌, refl, ap, sym, ◌∙◌, subst, arith}
+use Rattle.std.proofs.{Common.{◌≡◌, ℕ, zero, suc, ◌+◌, ◌-◌, ◌^◌, ◌<◌, ◌≤◌, max, List, [], ◌∷◌, ◌++◌, refl, ap, sym, ◌∙◌, subst, arith}, Math.ListN.replicate, lemmas.Grind.flat_map-append, lemmas.List.append-nil}
 use Rattle.std.specs.Prelude.{flat_map}
-use Rattle.std.proofs.Math.ListN.{replicate}
-use Rattle.std.proofs.lemmas.Grind.{flat_map-append}
-use Rattle.std.proofs.lemmas.List.{append-nil}
-use Rattle.rb_base.specs.Nodes.{Side}
-use Rattle.rb_base.specs.Sizes.{Sizes}
-use Rattle.rb_base.specs.declared.node.NodeName.{NodeName}
-use Rattle.rb_rules.specs.declared.plan.Plan.{Plan}
-use Rattle.rb_rules.specs.Core.{Act, Core, CoreEvent, acts_of, arrive, pass_to, tick}
-use Rattle.rb_rules.specs.Core as core
+use Rattle.rb_base.specs.{Nodes.Side, Sizes.Sizes, declared.node.NodeName.NodeName}
+use Rattle.rb_rules.specs.{declared.plan.Plan.Plan, Core.{Act, Core, CoreEvent, acts_of, arrive, pass_to, tick}}
 use Rattle.rb_rules.proofs.QuietTicks.{IsNext, nothing, quiet-from, quiet-tick}
 use Rattle.rb_laws_logs.specs.Replays.{act_lines, frames_in, frames_with}
+use Rattle.rb_rules.specs.Core as core
 
 -- the core after these events
 abbrev pub core_after : Sizes → Plan → Side → ℕ → Core → List CoreEvent → Core

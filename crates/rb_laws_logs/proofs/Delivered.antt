@@ -1,26 +1,8 @@
 -- For the law of record and replay: what a close delivers: something in stage 2 of a slot below the
 -- sync slot alone, at a BIU.
 use Rattle.std.proofs.Common.{◌≡◌, ℕ, ◌+◌, ◌==◌, ◌&&◌, nat_le, Bool, true, false, refl, Option, Some, None, option_map, if◌then◌else◌}
-use Rattle.rb_base.specs.Nodes.{Side}
-use Rattle.rb_base.specs.Nodes.Side.{Biu, Rmu}
-use Rattle.rb_base.specs.Sizes.{Sizes, sync_slot_of}
-use Rattle.rb_base.specs.declared.values.Delivery.{Delivery}
-use Rattle.rb_base.specs.declared.values.Heard.{Heard}
-use Rattle.rb_rules.specs.declared.plan.Window.{Window}
-use Rattle.rb_rules.specs.declared.record.SlotLine.{SlotLine}
-use Rattle.rb_rules.specs.declared.role.Role.{Role}
-use Rattle.rb_rules.specs.declared.role.Role.TheVariants.{Schedule, Data, DiagBiu, DiagRmu, Sync}
-use Rattle.rb_rules.specs.declared.sense.Sense.{Sense}
-use Rattle.rb_rules.specs.Book.{Each, line_in}
-use Rattle.rb_rules.specs.ExactStage.{Outcome, close_exact, delivery_of, keep_sent, outcome_of}
-use Rattle.rb_rules.specs.Goodness.{Scenario, is_good}
-use Rattle.rb_rules.specs.Hearing.{Sending, row_of}
-use Rattle.rb_rules.specs.NodeState.{NodeState}
-use Rattle.rb_rules.specs.NodeSteps.{close}
-use Rattle.rb_rules.specs.Rounds.{Moment, Result, close_on, go_through, heard_at, word_for_window}
-use Rattle.rb_rules.specs.Slots.{Sender}
-use Rattle.rb_rules.specs.Slots.Sender.{Nobody, Node, EachTrusted}
-use Rattle.rb_rules.specs.SyncStage.{close_sync, sync_outcome_of}
+use Rattle.rb_base.specs.{Nodes.Side, Nodes.Side.{Biu, Rmu}, Sizes.{Sizes, sync_slot_of}, declared.values.Delivery.Delivery, declared.values.Heard.Heard}
+use Rattle.rb_rules.specs.{declared.plan.Window.Window, declared.record.SlotLine.SlotLine, declared.role.Role.Role, declared.role.Role.TheVariants.{Schedule, Data, DiagBiu, DiagRmu, Sync}, declared.sense.Sense.Sense, Book.{Each, line_in}, ExactStage.{Outcome, close_exact, delivery_of, keep_sent, outcome_of}, Goodness.{Scenario, is_good}, Hearing.{Sending, row_of}, NodeState.NodeState, NodeSteps.close, Rounds.{Moment, Result, close_on, go_through, heard_at, word_for_window}, Slots.Sender, Slots.Sender.{Nobody, Node, EachTrusted}, SyncStage.{close_sync, sync_outcome_of}}
 
 delivery-by : (P : Option Delivery → Type 0) (me : Side) (st : NodeState) (slot : ℕ) (role : Role) (sender : Sender) (stage : ℕ) (voted : Heard) → P None
     → ((i : ℕ) → me ≡ Biu → (stage == 2) ≡ true → P (Some (record { frame = st.frame; slot = slot; sender = i; value = voted })))

@@ -1,28 +1,12 @@
 -- A run in which always the first due event is taken ends, and nothing is given after its end.
-use Rattle.std.proofs.Common.{◌≡◌, ℕ, zero, suc, ◌+◌, ◌-◌, ◌≤◌, ◌||◌, Bool, true, false, List, [], ◌∷◌, ◌++◌, flat_map, length, length-append, refl, ap, sym, ◌∙◌, subst, arith, inl, inr, Some, None, slice_get}
-use Rattle.std.proofs.lemmas.Bool.{cases_lt}
-use Rattle.rb_base.specs.declared.event.Event.{Event}
-use Rattle.rb_base.specs.declared.node.NodeName.{NodeName}
+use Rattle.std.proofs.{Common.{◌≡◌, ℕ, zero, suc, ◌+◌, ◌-◌, ◌≤◌, ◌||◌, Bool, true, false, List, [], ◌∷◌, ◌++◌, flat_map, length, length-append, refl, ap, sym, ◌∙◌, subst, arith, inl, inr, Some, None, slice_get}, lemmas.Bool.cases_lt, lemmas.List.append-nil}
+use Rattle.rb_base.specs.{declared.event.Event.Event, declared.node.NodeName.NodeName}
 use Rattle.rb_base.proofs.Plain.{true-false}
-use Rattle.rb_rules.specs.Book.{Record, in_order}
-use Rattle.rb_rules.specs.Entries.{IsListed}
-use Rattle.rb_rules.specs.Goodness.{Scenario}
-use Rattle.rb_rules.specs.Lawful.{IsLawful}
-use Rattle.rb_rules.specs.Rounds.{records_of}
-use Rattle.rb_rules.specs.WorldStep.{Choice, Due, IsPrefix, World, choose, due_at, due_of, first_world, go_on, least, needs_no_event, settle, take, times_of, world_after}
-use Rattle.rb_rules.specs.WorldStep.Choice.{Take, GoOn}
-use Rattle.rb_rules.specs.WorldStep.Way.{ByItself}
+use Rattle.rb_rules.specs.{Book.{Record, in_order}, Entries.IsListed, Goodness.Scenario, Lawful.IsLawful, Rounds.records_of, WorldStep.{Choice, Due, IsPrefix, World, choose, due_at, due_of, first_world, go_on, least, needs_no_event, settle, take, times_of, world_after}, WorldStep.Choice.{Take, GoOn}, WorldStep.Way.ByItself}
 use Rattle.rb_laws_events.specs.Laws.{EveryRunEnds, most_takes, taken_by, takes_from}
-use Rattle.std.proofs.lemmas.List.{append-nil}
-use Rattle.rb_laws_events.proofs.GivenAlone.{given-alone}
-use Rattle.rb_laws_events.proofs.WorldBooks.{choose-on}
-use Rattle.rb_laws_events.proofs.EventsHold.{due-holds, ends-hold, events-hold}
-use Rattle.rb_laws_events.proofs.RunsEnd.{takes-append}
-use Rattle.rb_laws_logs.specs.Given.{AreGiven, first_run, first_step, given_in, step_with}
-use Rattle.rb_laws_logs.specs.Laws.{OneListIsGiven}
-use Rattle.rb_laws_logs.proofs.NoBreach.{choice_with, choices_in, run-is}
-use Rattle.rb_laws_logs.proofs.NodeRun.{given-none}
-use Rattle.rb_laws_logs.proofs.Worlds.{no-hands}
+use Rattle.rb_laws_events.proofs.{GivenAlone.given-alone, WorldBooks.choose-on, EventsHold.{due-holds, ends-hold, events-hold}, RunsEnd.takes-append}
+use Rattle.rb_laws_logs.specs.{Given.{AreGiven, first_run, first_step, given_in, step_with}, Laws.OneListIsGiven}
+use Rattle.rb_laws_logs.proofs.{NoBreach.{choice_with, choices_in, run-is}, NodeRun.given-none, Worlds.no-hands}
 
 -- After the end.
 

@@ -1,12 +1,8 @@
 -- For the law of record and replay: what a text takes of the items of a list, each with its number,
 -- if it takes something of one alone.
-use Rattle.std.proofs.Common.{◌≡◌, ℕ, zero, suc, ◌+◌, ◌≤◌, ◌==◌, false, List, [], ◌∷◌, ◌++◌, refl, ap, ◌∙◌, arith, Option, Some, None, slice_get}
-use Rattle.std.specs.List.{cons_option}
-use Rattle.std.specs.Prelude.{flat_map, filter_map, map}
-use Rattle.std.proofs.lemmas.Bool.{ne_eqb}
-use Rattle.std.proofs.lemmas.List.{append-nil}
-use Rattle.rb_rules.specs.Book.{map_from}
-use Rattle.rb_rules.specs.ExactStage.{present}
+use Rattle.std.proofs.{Common.{◌≡◌, ℕ, zero, suc, ◌+◌, ◌≤◌, ◌==◌, false, List, [], ◌∷◌, ◌++◌, refl, ap, ◌∙◌, arith, Option, Some, None, slice_get}, lemmas.Bool.ne_eqb, lemmas.List.append-nil}
+use Rattle.std.specs.{List.cons_option, Prelude.{flat_map, filter_map, map}}
+use Rattle.rb_rules.specs.{Book.map_from, ExactStage.present}
 
 -- what is taken of each item in order, the first having this number
 abbrev pub gather : {X : Type 0} → ℕ → (ℕ → X → List ℕ) → List X → List ℕ

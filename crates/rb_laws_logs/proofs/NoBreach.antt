@@ -1,30 +1,13 @@
 -- For the law of record and replay: a run without a breach goes on up to the start of the frame
 -- after the last, and there it ends. So in each of its worlds all nodes stand in the rounds.
-use Rattle.std.proofs.Common.{◌≡◌, ℕ, zero, suc, ◌+◌, ◌*◌, ◌<◌, ◌≤◌, ◌==◌, ◌||◌, nat_lt, Bool, true, false, List, [], ◌∷◌, ◌++◌, refl, ap, sym, ◌∙◌, subst, arith, inl, inr, Option, Some, None}
+use Rattle.std.proofs.{Common.{◌≡◌, ℕ, zero, suc, ◌+◌, ◌*◌, ◌<◌, ◌≤◌, ◌==◌, ◌||◌, nat_lt, Bool, true, false, List, [], ◌∷◌, ◌++◌, refl, ap, sym, ◌∙◌, subst, arith, inl, inr, Option, Some, None}, lemmas.Bool.cases_lt, lemmas.Bool.Decides.nat_tests, lemmas.List.Folds.list_any-append, lemmas.Nat.mul-le}
 use Rattle.std.specs.List.{list_any}
-use Rattle.std.proofs.lemmas.Bool.{cases_lt}
-use Rattle.std.proofs.lemmas.Bool.Decides.{nat_tests}
-use Rattle.std.proofs.lemmas.List.Folds.{list_any-append}
-use Rattle.std.proofs.lemmas.Nat.{mul-le}
 use Rattle.rb_base.specs.declared.values.Place.{Place}
 use Rattle.rb_base.proofs.Plain.{times-more, true-false}
-use Rattle.rb_rules.specs.declared.cause.Cause.{Cause}
-use Rattle.rb_rules.specs.declared.plan.Window.{Window}
-use Rattle.rb_rules.specs.Book.{Book, Each, Row, after_verdict, fresh_book, judged_of, with_end, with_stage}
-use Rattle.rb_rules.specs.Book.Record.{Ended, Breach}
-use Rattle.rb_rules.specs.Goodness.{Scenario}
-use Rattle.rb_rules.specs.Judging.{JudgedStage, verdict_of}
-use Rattle.rb_rules.specs.Lawful.{IsLawful}
-use Rattle.rb_rules.specs.Rounds.{Moment, after_window, begin_frame, book_after, moment, records_of, step, steps_of, windows_in}
-use Rattle.rb_rules.specs.WorldStep.{Choice, Due, World, IsPrefix, choose, due_of, world_after}
-use Rattle.rb_rules.specs.WorldStep.Choice.{Take, GoOn}
+use Rattle.rb_rules.specs.{declared.cause.Cause.Cause, declared.plan.Window.Window, Book.{Book, Each, Row, after_verdict, fresh_book, judged_of, with_end, with_stage}, Book.Record.{Ended, Breach}, Goodness.Scenario, Judging.{JudgedStage, verdict_of}, Lawful.IsLawful, Rounds.{Moment, after_window, begin_frame, book_after, moment, records_of, step, steps_of, windows_in}, WorldStep.{Choice, Due, World, IsPrefix, choose, due_of, world_after}, WorldStep.Choice.{Take, GoOn}}
 use Rattle.rb_rules.proofs.Books.{begun-open, given-are, stepped}
-use Rattle.rb_laws_events.proofs.BreakNodes.{BreaksAt}
-use Rattle.rb_laws_events.proofs.EveryWorld.{after-more}
-use Rattle.rb_laws_events.proofs.MomentBooks.{number-of}
-use Rattle.rb_laws_events.proofs.SettlingFrames.{RunsIn, runs-in}
-use Rattle.rb_laws_logs.specs.Given.{first_run, first_step, step_with}
-use Rattle.rb_laws_logs.specs.Laws.{EndsWithoutBreach, is_breach}
+use Rattle.rb_laws_events.proofs.{BreakNodes.BreaksAt, EveryWorld.after-more, MomentBooks.number-of, SettlingFrames.{RunsIn, runs-in}}
+use Rattle.rb_laws_logs.specs.{Given.{first_run, first_step, step_with}, Laws.{EndsWithoutBreach, is_breach}}
 
 -- Numbers.
 

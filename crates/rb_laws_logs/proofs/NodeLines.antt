@@ -1,34 +1,14 @@
 -- For the law of record and replay: what a node tells in each moment of the rounds, as lines, and
 -- the lines of the records that those moments give.
-use Rattle.std.proofs.Common.{◌≡◌, ℕ, zero, suc, ◌==◌, ◌&&◌, nat_lt, not, Bool, true, false, List, [], ◌∷◌, ◌++◌, append_assoc, refl, ap, sym, ◌∙◌, arith, Option, Some, None, slice_get, if◌then◌else◌}
+use Rattle.std.proofs.{Common.{◌≡◌, ℕ, zero, suc, ◌==◌, ◌&&◌, nat_lt, not, Bool, true, false, List, [], ◌∷◌, ◌++◌, append_assoc, refl, ap, sym, ◌∙◌, arith, Option, Some, None, slice_get, if◌then◌else◌}, lemmas.Grind.flat_map-append, lemmas.List.append-nil}
 use Rattle.std.specs.Prelude.{flat_map, filter_map, map}
-use Rattle.std.proofs.lemmas.Grind.{flat_map-append}
-use Rattle.std.proofs.lemmas.List.{append-nil}
-use Rattle.rb_base.specs.Nodes.{Side}
-use Rattle.rb_base.specs.Sizes.{sync_slot_of}
-use Rattle.rb_base.specs.Nodes.Side.{Biu as biu, Rmu as rmu}
-use Rattle.rb_base.specs.declared.node.NodeName.{NodeName}
-use Rattle.rb_base.specs.declared.node.NodeName.TheVariants.{Biu, Rmu}
+use Rattle.rb_base.specs.{Nodes.Side, Sizes.sync_slot_of, Nodes.Side.{Biu as biu, Rmu as rmu}, declared.node.NodeName.NodeName, declared.node.NodeName.TheVariants.{Biu, Rmu}}
 use Rattle.rb_base.proofs.Plain.{eq_self}
-use Rattle.rb_rules.specs.declared.record.SlotLine.{SlotLine}
-use Rattle.rb_rules.specs.Book.{Begun, Each, Record, Row, frame_records, in_order, line_in, map_each, map_from, of_kind}
-use Rattle.rb_rules.specs.Book.Record.{Frame, Slot, Ended, Breach}
-use Rattle.rb_rules.specs.ExactStage.{present}
-use Rattle.rb_rules.specs.Goodness.{Scenario, is_good}
-use Rattle.rb_rules.specs.Hearing.{begun_of, epoch_of}
-use Rattle.rb_rules.specs.Lawful.{kind_of}
-use Rattle.rb_rules.specs.Links.{name_of, same_node}
-use Rattle.rb_rules.specs.NodeState.{NodeState}
-use Rattle.rb_rules.specs.Ports.{PortState}
-use Rattle.rb_rules.specs.Rounds.{Moment, Result, begun_if_good, go_through, moment, results_of, sent_in, window_in, windows_in}
+use Rattle.rb_rules.specs.{declared.record.SlotLine.SlotLine, Book.{Begun, Each, Record, Row, frame_records, in_order, line_in, map_each, map_from, of_kind}, Book.Record.{Frame, Slot, Ended, Breach}, ExactStage.present, Goodness.{Scenario, is_good}, Hearing.{begun_of, epoch_of}, Lawful.kind_of, Links.{name_of, same_node}, NodeState.NodeState, Ports.PortState, Rounds.{Moment, Result, begun_if_good, go_through, moment, results_of, sent_in, window_in, windows_in}}
 use Rattle.rb_report.specs.Report.{delivery_text, epoch_text, convicted_text, breach_text, end_text}
-use Rattle.rb_laws_events.proofs.RoundNodes.{slot_numbered}
-use Rattle.rb_laws_events.proofs.WorldStands.{is_node}
-use Rattle.rb_laws_logs.specs.Given.{index_of}
-use Rattle.rb_laws_logs.specs.Laws.{convicted_by, delivered_by, first_tick_of, lines_after}
-use Rattle.rb_laws_logs.specs.Replays.{epoch_lines}
-use Rattle.rb_laws_logs.proofs.Delivered.{line-by}
-use Rattle.rb_laws_logs.proofs.Gathered.{filtered, gather, gather-made, gather-none, gather-one, if_there, mapped, present-append}
+use Rattle.rb_laws_events.proofs.{RoundNodes.slot_numbered, WorldStands.is_node}
+use Rattle.rb_laws_logs.specs.{Given.index_of, Laws.{convicted_by, delivered_by, first_tick_of, lines_after}, Replays.epoch_lines}
+use Rattle.rb_laws_logs.proofs.{Delivered.line-by, Gathered.{filtered, gather, gather-made, gather-none, gather-one, if_there, mapped, present-append}}
 
 -- What a node tells.
 

@@ -1,35 +1,14 @@
 -- For the law of record and replay: step by step, the events that a node is given make of a core
 -- what the node's own is, and their lines are all that the node has told where it stands.
-use Rattle.std.proofs.Common.{◌≡◌, ℕ, suc, ◌+◌, ◌-◌, ◌<◌, ◌≤◌, ◌&&◌, ◌⊎◌, Bool, true, false, List, [], ◌∷◌, ◌++◌, refl, ap, sym, ◌∙◌, subst, arith, Some, None, slice_get, option_and_then, option_map, if◌then◌else◌}
+use Rattle.std.proofs.{Common.{◌≡◌, ℕ, suc, ◌+◌, ◌-◌, ◌<◌, ◌≤◌, ◌&&◌, ◌⊎◌, Bool, true, false, List, [], ◌∷◌, ◌++◌, refl, ap, sym, ◌∙◌, subst, arith, Some, None, slice_get, option_and_then, option_map, if◌then◌else◌}, Math.ListN.replicate, lemmas.Bool.{lt-ltb, le-ltb}, lemmas.Grind.flat_map-append, lemmas.List.append-nil}
 use Rattle.std.specs.Prelude.{flat_map}
-use Rattle.std.proofs.Math.ListN.{replicate}
-use Rattle.std.proofs.lemmas.Bool.{lt-ltb, le-ltb}
-use Rattle.std.proofs.lemmas.Grind.{flat_map-append}
-use Rattle.std.proofs.lemmas.List.{append-nil}
-use Rattle.rb_base.specs.Nodes.{Side}
-use Rattle.rb_base.specs.declared.event.Event.{Event}
-use Rattle.rb_base.specs.declared.node.NodeName.{NodeName}
-use Rattle.rb_rules.specs.Book.{of_kind}
-use Rattle.rb_rules.specs.Core.{Act, Core, CoreEvent, acts_of, arrive, epoch_at, first_core, pass_to, tick}
-use Rattle.rb_rules.specs.Core as core
-use Rattle.rb_rules.specs.Goodness.{Scenario}
-use Rattle.rb_rules.specs.Lawful.{kind_of}
-use Rattle.rb_rules.specs.Links.{name_of, same_node}
-use Rattle.rb_rules.specs.NodeState.{NodeState}
-use Rattle.rb_rules.specs.Rounds.{moment}
-use Rattle.rb_rules.specs.WorldStep.{Due, Pending, Site, Timed, World, due_of, event_at, event_of, go_on, happens, pass_and_tick, settle, take, take_if_due, word_of, wants_in}
-use Rattle.rb_rules.specs.WorldStep.Pending.{Tick, Arrival}
-use Rattle.rb_rules.specs.WorldStep.Way.{ByAnEvent, ByItself}
+use Rattle.rb_base.specs.{Nodes.Side, declared.event.Event.Event, declared.node.NodeName.NodeName}
+use Rattle.rb_rules.specs.{Book.of_kind, Core.{Act, Core, CoreEvent, acts_of, arrive, epoch_at, first_core, pass_to, tick}, Goodness.Scenario, Lawful.kind_of, Links.{name_of, same_node}, NodeState.NodeState, Rounds.moment, WorldStep.{Due, Pending, Site, Timed, World, due_of, event_at, event_of, go_on, happens, pass_and_tick, settle, take, take_if_due, word_of, wants_in}, WorldStep.Pending.{Tick, Arrival}, WorldStep.Way.{ByAnEvent, ByItself}}
 use Rattle.rb_log.specs.Writing.{given}
-use Rattle.rb_laws_events.proofs.WorldNodes.{settle-sites}
-use Rattle.rb_laws_events.proofs.WorldStands.{is_node}
-use Rattle.rb_laws_logs.specs.Given.{first_run, first_step, given_in, given_next, if_given, index_of, is_before_end, site_of, step_with}
-use Rattle.rb_laws_logs.specs.Replays.{act_lines, epoch_lines, frames_in, frames_with}
-use Rattle.rb_laws_logs.proofs.CoreEvents.{Makes, makes-both, makes-passed, makes-tick}
-use Rattle.rb_laws_logs.proofs.NoBreach.{last_moment}
-use Rattle.rb_laws_logs.proofs.NodeLines.{named, told_up_to}
-use Rattle.rb_laws_logs.proofs.NodeSites.{Unmoved}
-use Rattle.rb_laws_logs.proofs.Positions.{StandsAt}
+use Rattle.rb_laws_events.proofs.{WorldNodes.settle-sites, WorldStands.is_node}
+use Rattle.rb_laws_logs.specs.{Given.{first_run, first_step, given_in, given_next, if_given, index_of, is_before_end, site_of, step_with}, Replays.{act_lines, epoch_lines, frames_in, frames_with}}
+use Rattle.rb_laws_logs.proofs.{CoreEvents.{Makes, makes-both, makes-passed, makes-tick}, NoBreach.last_moment, NodeLines.{named, told_up_to}, NodeSites.Unmoved, Positions.StandsAt}
+use Rattle.rb_rules.specs.Core as core
 
 -- What a node is given.
 

@@ -1,31 +1,10 @@
 -- For the law of record and replay: the site of one node after an event, wherever it happens. Its
 -- frame never falls.
-use Rattle.std.proofs.Common.{◌≡◌, ℕ, ◌+◌, ◌≤◌, ◌==◌, ◌&&◌, ◌⊎◌, Bool, true, false, List, [], ◌∷◌, ◌++◌, refl, ap, sym, ◌∙◌, arith, inl, inr, Option, Some, None, slice_get, option_map}
-use Rattle.rb_base.specs.Nodes.{Side, other}
-use Rattle.rb_base.specs.Sizes.{Sizes}
-use Rattle.rb_rules.specs.declared.closing.Closed.{Closed}
-use Rattle.rb_rules.specs.declared.message.Message.{Message}
-use Rattle.rb_rules.specs.declared.plan.Plan.{Plan}
-use Rattle.rb_rules.specs.declared.record.Epoch.{Epoch}
-use Rattle.rb_rules.specs.Book.{of_kind}
-use Rattle.std.proofs.lemmas.Bool.Decides.{nat_tests}
-use Rattle.rb_rules.specs.Clock.{stamp_of}
-use Rattle.rb_rules.specs.Conviction.{turn}
-use Rattle.rb_rules.specs.Core.{Act, Core, act_at, act_on, epoch_at, is_last, is_spent, is_tick, of_source, pass_to, said_at, state_at, state_kept, tick, window_here}
-use Rattle.rb_rules.specs.ExactStage.{Outcome}
-use Rattle.rb_rules.specs.Goodness.{Scenario, clock_of}
-use Rattle.rb_rules.specs.Hearing.{Coming, close_window, coming_of}
-use Rattle.rb_rules.specs.NodeState.{NodeState}
-use Rattle.rb_rules.specs.Ports.{PortState}
-use Rattle.rb_rules.specs.Slots.{same_side}
-use Rattle.rb_rules.specs.SyncStage.{new_epoch_of}
-use Rattle.rb_rules.specs.WorldStep.{Due, Pending, Site, World, after_act, after_arrival, at_node, happens, pass_and_tick, proceed, span_from, with_act, with_close, with_epoch, with_pending}
-use Rattle.rb_rules.specs.WorldStep.Pending.{Tick, Arrival}
-use Rattle.rb_rules.proofs.QuietTicks.{arrive-same}
-use Rattle.rb_rules.proofs.RoundStates.{close-stays, keeping-stays}
-use Rattle.rb_laws_events.proofs.WorldStands.{get-at, is_node, node-is, node-itself}
-use Rattle.rb_laws_events.proofs.WorldTicks.{after_tick, get-after, kind-other, reached, reached-not}
-use Rattle.rb_laws_events.proofs.ToldSoFar.{entered-core}
+use Rattle.std.proofs.{Common.{◌≡◌, ℕ, ◌+◌, ◌≤◌, ◌==◌, ◌&&◌, ◌⊎◌, Bool, true, false, List, [], ◌∷◌, ◌++◌, refl, ap, sym, ◌∙◌, arith, inl, inr, Option, Some, None, slice_get, option_map}, lemmas.Bool.Decides.nat_tests}
+use Rattle.rb_base.specs.{Nodes.{Side, other}, Sizes.Sizes}
+use Rattle.rb_rules.specs.{declared.closing.Closed.Closed, declared.message.Message.Message, declared.plan.Plan.Plan, declared.record.Epoch.Epoch, Book.of_kind, Clock.stamp_of, Conviction.turn, Core.{Act, Core, act_at, act_on, epoch_at, is_last, is_spent, is_tick, of_source, pass_to, said_at, state_at, state_kept, tick, window_here}, ExactStage.Outcome, Goodness.{Scenario, clock_of}, Hearing.{Coming, close_window, coming_of}, NodeState.NodeState, Ports.PortState, Slots.same_side, SyncStage.new_epoch_of, WorldStep.{Due, Pending, Site, World, after_act, after_arrival, at_node, happens, pass_and_tick, proceed, span_from, with_act, with_close, with_epoch, with_pending}, WorldStep.Pending.{Tick, Arrival}}
+use Rattle.rb_rules.proofs.{QuietTicks.arrive-same, RoundStates.{close-stays, keeping-stays}}
+use Rattle.rb_laws_events.proofs.{WorldStands.{get-at, is_node, node-is, node-itself}, WorldTicks.{after_tick, get-after, kind-other, reached, reached-not}, ToldSoFar.entered-core}
 
 -- An event elsewhere.
 

@@ -1,57 +1,15 @@
 -- For the law of record and replay: one step of the run keeps what is known of a node that is good
 -- throughout.
-use Rattle.std.proofs.Common.{◌≡◌, ℕ, suc, ◌+◌, ◌-◌, ◌<◌, ◌≤◌, ◌&&◌, ◌⊎◌, Bool, true, false, List, [], ◌∷◌, ◌++◌, append_assoc, refl, ap, sym, ◌∙◌, subst, arith, inl, inr, Option, Some, None, slice_get, option_and_then, if◌then◌else◌}
-use Rattle.std.proofs.Math.ListN.{replicate}
-use Rattle.std.proofs.lemmas.Bool.{cases_lt}
-use Rattle.std.proofs.lemmas.List.{append-nil}
-use Rattle.std.proofs.lemmas.Option.{same_Some}
-use Rattle.rb_base.specs.Nodes.{Side}
-use Rattle.rb_base.specs.declared.event.Event.{Event}
-use Rattle.rb_base.specs.declared.node.NodeName.{NodeName}
-use Rattle.rb_rules.specs.declared.closing.Closed.{Closed}
-use Rattle.rb_rules.specs.declared.record.Epoch.{Epoch}
-use Rattle.rb_rules.specs.Book.{of_kind}
-use Rattle.rb_rules.specs.Clock.{stamp_of}
-use Rattle.rb_rules.specs.Core.{Act, Core, arrive, epoch_at, first_core, pass_to}
-use Rattle.rb_rules.specs.Core as core
-use Rattle.rb_rules.specs.Goodness.{Scenario, clock_of}
-use Rattle.rb_rules.specs.Hearing.{Coming}
-use Rattle.rb_rules.specs.Lawful.{IsLawful, kind_of}
-use Rattle.rb_rules.specs.NodeState.{NodeState}
-use Rattle.rb_rules.specs.Ports.{HandIn}
-use Rattle.rb_rules.specs.Rounds.{moment}
-use Rattle.rb_rules.specs.WorldStep.{Due, Pending, Site, Timed, World, after_act, after_arrival, due_of, event_of, happens, pass_and_tick, times_of, with_act}
-use Rattle.rb_rules.specs.WorldStep.Pending.{Tick, Arrival}
-use Rattle.rb_rules.proofs.QuietTicks.{arrive-same}
-use Rattle.rb_rules.proofs.RoundStates.{HasTicks}
+use Rattle.std.proofs.{Common.{◌≡◌, ℕ, suc, ◌+◌, ◌-◌, ◌<◌, ◌≤◌, ◌&&◌, ◌⊎◌, Bool, true, false, List, [], ◌∷◌, ◌++◌, append_assoc, refl, ap, sym, ◌∙◌, subst, arith, inl, inr, Option, Some, None, slice_get, option_and_then, if◌then◌else◌}, Math.ListN.replicate, lemmas.Bool.cases_lt, lemmas.List.append-nil, lemmas.Option.same_Some}
+use Rattle.rb_base.specs.{Nodes.Side, declared.event.Event.Event, declared.node.NodeName.NodeName}
+use Rattle.rb_rules.specs.{declared.closing.Closed.Closed, declared.record.Epoch.Epoch, Book.of_kind, Clock.stamp_of, Core.{Act, Core, arrive, epoch_at, first_core, pass_to}, Goodness.{Scenario, clock_of}, Hearing.Coming, Lawful.{IsLawful, kind_of}, NodeState.NodeState, Ports.HandIn, Rounds.moment, WorldStep.{Due, Pending, Site, Timed, World, after_act, after_arrival, due_of, event_of, happens, pass_and_tick, times_of, with_act}, WorldStep.Pending.{Tick, Arrival}}
+use Rattle.rb_rules.proofs.{QuietTicks.arrive-same, RoundStates.HasTicks}
 use Rattle.rb_log.specs.Writing.{given}
-use Rattle.rb_laws_events.proofs.DueEvents.{IsDue, IsReady}
-use Rattle.rb_laws_events.proofs.Invariant.{NodeStands, last_tick}
-use Rattle.rb_laws_events.proofs.MomentBooks.{one-number}
-use Rattle.rb_laws_events.proofs.NodeActs.{HasRoom}
-use Rattle.rb_laws_events.proofs.NodeClosing.{ClosesWindow}
-use Rattle.rb_laws_events.proofs.NodeEvents.{StaysOpen, all-after, stands-arrival, tick-after}
-use Rattle.rb_laws_events.proofs.OneEvent.{all-pend, happens-is, moves-of, up-there}
-use Rattle.rb_laws_events.proofs.OneTake.{StandsInRounds}
-use Rattle.rb_laws_events.proofs.RoundNodes.{slot_numbered}
-use Rattle.rb_laws_events.proofs.SameHeard.{Every}
-use Rattle.rb_laws_events.proofs.TickRooms.{has-room}
-use Rattle.rb_laws_events.proofs.WorldEvents.{AfterTick as Happened}
-use Rattle.rb_laws_events.proofs.WorldStands.{AllPend, IsUp, is_node, node-is, node-itself, sent_by}
+use Rattle.rb_laws_events.proofs.{DueEvents.{IsDue, IsReady}, Invariant.{NodeStands, last_tick}, MomentBooks.one-number, NodeActs.HasRoom, NodeClosing.ClosesWindow, NodeEvents.{StaysOpen, all-after, stands-arrival, tick-after}, OneEvent.{all-pend, happens-is, moves-of, up-there}, OneTake.StandsInRounds, RoundNodes.slot_numbered, SameHeard.Every, TickRooms.has-room, WorldEvents.AfterTick as Happened, WorldStands.{AllPend, IsUp, is_node, node-is, node-itself, sent_by}, Behind.pend-of}
 use Rattle.rb_laws_agreement.proofs.FrameTimes.{good-clock}
-use Rattle.rb_laws_events.proofs.Behind.{pend-of}
-use Rattle.rb_laws_logs.specs.Given.{first_run, given_next, index_of, site_of}
-use Rattle.rb_laws_logs.specs.Laws.{EndsWithoutBreach, IsGoodThroughout}
-use Rattle.rb_laws_logs.specs.Replays.{act_lines, delivery_lines, epoch_lines, frames_with}
-use Rattle.rb_laws_logs.proofs.CoreEvents.{Makes, makes-arrival, makes-both, makes-passed}
-use Rattle.rb_laws_logs.proofs.NoBreach.{IsLastBegin, last-begin, last_moment}
-use Rattle.rb_laws_logs.proofs.NodeLines.{told_up_to}
-use Rattle.rb_laws_logs.proofs.NodeRun.{IsDone, NodeAt, StepSites, Underway, after-end, before-end, done-same, given-by, given-none, given_so_far, more-made, step-sites, tick-made, underway-same}
-use Rattle.rb_laws_logs.proofs.NodeRun.StepSites.{Still, Taken}
-use Rattle.rb_laws_logs.proofs.NodeSites.{Elsewhere, Rises, act-core, elsewhere, own-arrival, own-tick, rises}
-use Rattle.rb_laws_logs.proofs.Positions.{StandsAt, one-place, stands-at}
-use Rattle.rb_laws_logs.proofs.TickText.{AfterTick, Turns, after-close, after-open, first-not-last, turns-now}
-use Rattle.rb_laws_logs.proofs.Worlds.{MayTake, first-due, may-take, no-hands, tick-done, worlds-in-run}
+use Rattle.rb_laws_logs.specs.{Given.{first_run, given_next, index_of, site_of}, Laws.{EndsWithoutBreach, IsGoodThroughout}, Replays.{act_lines, delivery_lines, epoch_lines, frames_with}}
+use Rattle.rb_laws_logs.proofs.{CoreEvents.{Makes, makes-arrival, makes-both, makes-passed}, NoBreach.{IsLastBegin, last-begin, last_moment}, NodeLines.told_up_to, NodeRun.{IsDone, NodeAt, StepSites, Underway, after-end, before-end, done-same, given-by, given-none, given_so_far, more-made, step-sites, tick-made, underway-same}, NodeRun.StepSites.{Still, Taken}, NodeSites.{Elsewhere, Rises, act-core, elsewhere, own-arrival, own-tick, rises}, Positions.{StandsAt, one-place, stands-at}, TickText.{AfterTick, Turns, after-close, after-open, first-not-last, turns-now}, Worlds.{MayTake, first-due, may-take, no-hands, tick-done, worlds-in-run}}
+use Rattle.rb_rules.specs.Core as core
 
 -- Where the node stands.
 

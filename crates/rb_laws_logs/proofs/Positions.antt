@@ -1,30 +1,11 @@
 -- For the law of record and replay: a node's place in the rounds is known by its core and by its
 -- pending tick.
-use Rattle.std.proofs.Common.{◌≡◌, ℕ, ◌+◌, ◌<◌, ◌≤◌, Bool, true, [], ap, sym, ◌∙◌, subst, arith, inl, inr, Some, slice_get}
-use Rattle.std.proofs.lemmas.Bool.{cases_lt}
-use Rattle.std.proofs.lemmas.Option.{same_Some}
-use Rattle.rb_base.specs.Nodes.{Side}
-use Rattle.rb_base.specs.Sizes.{Sizes}
-use Rattle.rb_rules.specs.declared.plan.Plan.{Plan}
-use Rattle.rb_rules.specs.declared.plan.Window.{Window}
-use Rattle.rb_rules.specs.Book.{of_kind}
-use Rattle.rb_rules.specs.Core.{Core, state_at}
-use Rattle.rb_rules.specs.Goodness.{Scenario}
-use Rattle.rb_rules.specs.Hearing.{window_numbered}
-use Rattle.rb_rules.specs.NodeState.{NodeState}
-use Rattle.rb_rules.specs.Rounds.{Moment, moment}
-use Rattle.rb_rules.specs.WorldStep.{Site, Timed}
-use Rattle.rb_rules.proofs.QuietTicks.{IsNext}
-use Rattle.rb_rules.proofs.RoundStates.{HasTicks}
+use Rattle.std.proofs.{Common.{◌≡◌, ℕ, ◌+◌, ◌<◌, ◌≤◌, Bool, true, [], ap, sym, ◌∙◌, subst, arith, inl, inr, Some, slice_get}, lemmas.Bool.cases_lt, lemmas.Option.same_Some}
+use Rattle.rb_base.specs.{Nodes.Side, Sizes.Sizes}
+use Rattle.rb_rules.specs.{declared.plan.Plan.Plan, declared.plan.Window.Window, Book.of_kind, Core.{Core, state_at}, Goodness.Scenario, Hearing.window_numbered, NodeState.NodeState, Rounds.{Moment, moment}, WorldStep.{Site, Timed}}
+use Rattle.rb_rules.proofs.{QuietTicks.IsNext, RoundStates.HasTicks}
 use Rattle.rb_laws_events.specs.Closing.{stages_in}
-use Rattle.rb_laws_events.proofs.Invariant.{NodeStands, is_good_at, word_at}
-use Rattle.rb_laws_events.proofs.MomentBooks.{one-number}
-use Rattle.rb_laws_events.proofs.NodeActs.{IsInWindow}
-use Rattle.rb_laws_events.proofs.NodeTicks.{Like, like-in, state_in}
-use Rattle.rb_laws_events.proofs.RoundNodes.{AllStand, Stands, moments-stand}
-use Rattle.rb_laws_events.proofs.StageOrder.{last_of}
-use Rattle.rb_laws_events.proofs.TickWindows.{IsTickIn, ends-before-later, first_of, get-window}
-use Rattle.rb_laws_events.proofs.WorldEvents.{state-frame}
+use Rattle.rb_laws_events.proofs.{Invariant.{NodeStands, is_good_at, word_at}, MomentBooks.one-number, NodeActs.IsInWindow, NodeTicks.{Like, like-in, state_in}, RoundNodes.{AllStand, Stands, moments-stand}, StageOrder.last_of, TickWindows.{IsTickIn, ends-before-later, first_of, get-window}, WorldEvents.state-frame}
 
 -- a node that stands in moment p, in which its state is `st`, with this core, and this tick pending
 pub record StandsAt (sc : Scenario) (me : Side) (i p : ℕ) (c : Core) (st : NodeState) (a : Timed) : Type 0 where

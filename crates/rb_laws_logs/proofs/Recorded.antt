@@ -1,58 +1,20 @@
 -- The law of a recorded log: what is given to a node can happen, so that its log is read as the
 -- same events.
-use Rattle.std.proofs.Common.{◌≡◌, ℕ, zero, suc, ◌+◌, ◌^◌, ◌<◌, ◌≤◌, ◌&&◌, ◌⊎◌, nat_le, Bool, true, false, All, List, [], ◌∷◌, ◌++◌, refl, ap, sym, ◌∙◌, subst, arith, inl, inr, Option, Some, None, is_some, slice_get, if◌then◌else◌}
+use Rattle.std.proofs.{Common.{◌≡◌, ℕ, zero, suc, ◌+◌, ◌^◌, ◌<◌, ◌≤◌, ◌&&◌, ◌⊎◌, nat_le, Bool, true, false, All, List, [], ◌∷◌, ◌++◌, refl, ap, sym, ◌∙◌, subst, arith, inl, inr, Option, Some, None, is_some, slice_get, if◌then◌else◌}, Math.ListN.replicate, lemmas.Bool.Decides.nat_tests, lemmas.List.append-nil, lemmas.List.Elements.{All-append, All-cons, All-nil}, lemmas.Option.same_Some}
 use Rattle.std.specs.Prelude.{flat_map}
-use Rattle.std.proofs.Math.ListN.{replicate}
-use Rattle.std.proofs.lemmas.Bool.Decides.{nat_tests}
-use Rattle.std.proofs.lemmas.List.{append-nil}
-use Rattle.std.proofs.lemmas.List.Elements.{All-append, All-cons, All-nil}
-use Rattle.std.proofs.lemmas.Option.{same_Some}
-use Rattle.rb_base.specs.Nodes.{Side, other}
-use Rattle.rb_base.specs.Sizes.{Sizes}
-use Rattle.rb_base.specs.declared.event.Event.{Event}
-use Rattle.rb_base.specs.declared.event.EventKind.{EventKind}
-use Rattle.rb_base.specs.declared.event.EventKind.TheVariants as kind
-use Rattle.rb_base.specs.declared.node.NodeName.{NodeName}
-use Rattle.rb_base.specs.declared.node.NodeName.TheVariants as node
-use Rattle.rb_rules.specs.declared.message.Message.{Message}
-use Rattle.rb_rules.specs.declared.plan.Plan.{Plan}
-use Rattle.rb_rules.specs.Book.{of_kind}
-use Rattle.rb_rules.specs.Core.{Act, Core, CoreEvent, act_at, act_on, arrive, epoch_at, first_core, is_last, is_spent, of_source, pass_to, said_at, state_at, state_kept, tick, window_here}
-use Rattle.rb_rules.specs.Core as core
-use Rattle.rb_rules.specs.ExactStage.{Outcome}
-use Rattle.rb_rules.specs.Entries.{IsListed}
-use Rattle.rb_rules.specs.Goodness.{Scenario}
-use Rattle.rb_rules.specs.Hearing.{Coming, close_window}
-use Rattle.rb_rules.specs.Lawful.{IsLawful, IsNodeOf, kind_of}
-use Rattle.rb_rules.specs.NodeState.{NodeState}
-use Rattle.rb_rules.specs.Ports.{PortState}
-use Rattle.rb_rules.specs.Slots.{count_of, role_of}
-use Rattle.rb_rules.specs.WorldStep.{Due, Pending, Site, Timed, World, after_arrival, due_of, wants_in, event_of, word_of}
-use Rattle.rb_rules.specs.WorldStep.Pending.{Tick, Arrival}
+use Rattle.rb_base.specs.{Nodes.{Side, other}, Sizes.Sizes, declared.event.Event.Event, declared.event.EventKind.EventKind, declared.node.NodeName.NodeName}
+use Rattle.rb_rules.specs.{declared.message.Message.Message, declared.plan.Plan.Plan, Book.of_kind, Core.{Act, Core, CoreEvent, act_at, act_on, arrive, epoch_at, first_core, is_last, is_spent, of_source, pass_to, said_at, state_at, state_kept, tick, window_here}, ExactStage.Outcome, Entries.IsListed, Goodness.Scenario, Hearing.{Coming, close_window}, Lawful.{IsLawful, IsNodeOf, kind_of}, NodeState.NodeState, Ports.PortState, Slots.{count_of, role_of}, WorldStep.{Due, Pending, Site, Timed, World, after_arrival, due_of, wants_in, event_of, word_of}, WorldStep.Pending.{Tick, Arrival}}
 use Rattle.rb_rules.proofs.QuietTicks.{arrive-same}
 use Rattle.rb_plan.specs.Timetable.{Timetable}
-use Rattle.rb_log.specs.Laws.{IsTellable, MayHappen, ticks_in}
-use Rattle.rb_log.specs.Writing.{given, given_with, ticks_given, ticks_with}
+use Rattle.rb_log.specs.{Laws.{IsTellable, MayHappen, ticks_in}, Writing.{given, given_with, ticks_given, ticks_with}}
 use Rattle.rb_log.proofs.RoundTrip.{written_read}
-use Rattle.rb_laws_events.proofs.DueEvents.{IsDue, IsReady}
-use Rattle.rb_laws_events.proofs.Receiving.{every-stands}
-use Rattle.rb_laws_events.proofs.SameHeard.{Every}
-use Rattle.rb_laws_events.proofs.WorldNodes.{worlds-known}
-use Rattle.rb_laws_events.proofs.WorldStands.{is_node, node-is, node-itself}
-use Rattle.rb_laws_agreement.proofs.Goodnesses.{good_counts}
-use Rattle.rb_laws_agreement.proofs.Speaking.{word_fits}
-use Rattle.rb_laws_logs.specs.Given.{first_run, given_in, given_next, index_of, site_of}
-use Rattle.rb_laws_logs.specs.Laws.{EndsWithoutBreach, IsGoodThroughout, ALogTellsTheReport}
-use Rattle.rb_laws_logs.specs.Replays.{replay_text}
-use Rattle.rb_laws_logs.proofs.CoreEvents.{core_after}
-use Rattle.rb_laws_logs.proofs.NoBreach.{choices_in, run-is}
-use Rattle.rb_laws_logs.proofs.NodeRun.{IsDone, NodeAt, StepSites, Underway, after-end, before-end, given-by, given-none, given_so_far, step-sites}
-use Rattle.rb_laws_logs.proofs.NodeRun.StepSites.{Still, Taken}
-use Rattle.rb_laws_logs.proofs.NodeSteps.{arrival-had, arrival-stands}
-use Rattle.rb_laws_logs.proofs.Positions.{StandsAt}
-use Rattle.rb_laws_logs.proofs.ReplayLaw.{nodes-at, replay-is-the-report}
-use Rattle.rb_laws_logs.proofs.Sized.{AreSized, IsSized, run-sized}
-use Rattle.rb_laws_logs.proofs.Worlds.{first-due}
+use Rattle.rb_laws_events.proofs.{DueEvents.{IsDue, IsReady}, Receiving.every-stands, SameHeard.Every, WorldNodes.worlds-known, WorldStands.{is_node, node-is, node-itself}}
+use Rattle.rb_laws_agreement.proofs.{Goodnesses.good_counts, Speaking.word_fits}
+use Rattle.rb_laws_logs.specs.{Given.{first_run, given_in, given_next, index_of, site_of}, Laws.{EndsWithoutBreach, IsGoodThroughout, ALogTellsTheReport}, Replays.replay_text}
+use Rattle.rb_laws_logs.proofs.{CoreEvents.core_after, NoBreach.{choices_in, run-is}, NodeRun.{IsDone, NodeAt, StepSites, Underway, after-end, before-end, given-by, given-none, given_so_far, step-sites}, NodeRun.StepSites.{Still, Taken}, NodeSteps.{arrival-had, arrival-stands}, Positions.StandsAt, ReplayLaw.{nodes-at, replay-is-the-report}, Sized.{AreSized, IsSized, run-sized}, Worlds.first-due}
+use Rattle.rb_base.specs.declared.event.EventKind.TheVariants as kind
+use Rattle.rb_base.specs.declared.node.NodeName.TheVariants as node
+use Rattle.rb_rules.specs.Core as core
 
 -- Ticks.
 

@@ -1,69 +1,18 @@
 -- The law of record and replay: the node at the start of the run, at its end, and the text that
 -- comes of both.
-use Rattle.std.proofs.Common.{◌≡◌, ℕ, zero, suc, ◌+◌, ◌*◌, ◌-◌, ◌%◌, ◌<◌, ◌≤◌, ◌==◌, ◌&&◌, ◌||◌, ◌⊎◌, not, nat_lt, Bool, true, false, List, [], ◌∷◌, ◌++◌, length, refl, ap, sym, ◌∙◌, subst, arith, inl, inr, Option, Some, None, is_some, slice_get, option_map, if◌then◌else◌}
+use Rattle.std.proofs.{Common.{◌≡◌, ℕ, zero, suc, ◌+◌, ◌*◌, ◌-◌, ◌%◌, ◌<◌, ◌≤◌, ◌==◌, ◌&&◌, ◌||◌, ◌⊎◌, not, nat_lt, Bool, true, false, List, [], ◌∷◌, ◌++◌, length, refl, ap, sym, ◌∙◌, subst, arith, inl, inr, Option, Some, None, is_some, slice_get, option_map, if◌then◌else◌}, lemmas.Bool.{cases_lt, eqb-true, lt-ltb}, lemmas.Bool.Decides.nat_tests, lemmas.List.append-nil, lemmas.Option.same_Some}
 use Rattle.std.specs.Prelude.{flat_map}
-use Rattle.std.proofs.lemmas.Bool.{cases_lt, eqb-true, lt-ltb}
-use Rattle.std.proofs.lemmas.Bool.Decides.{nat_tests}
-use Rattle.std.proofs.lemmas.List.{append-nil}
-use Rattle.std.proofs.lemmas.Option.{same_Some}
-use Rattle.rb_base.specs.Nodes.{Side}
-use Rattle.rb_base.specs.Sizes.{sync_slot_of}
-use Rattle.rb_rules.specs.declared.cause.Cause.{Cause}
-use Rattle.rb_rules.specs.Judging.{verdict_of}
-use Rattle.rb_rules.specs.Book.{frame_records, judged_of}
-use Rattle.rb_base.specs.declared.node.NodeName.{NodeName}
-use Rattle.rb_base.specs.declared.values.Place.{Place}
+use Rattle.rb_base.specs.{Nodes.Side, Sizes.sync_slot_of, declared.node.NodeName.NodeName, declared.values.Place.Place}
+use Rattle.rb_rules.specs.{declared.cause.Cause.Cause, Judging.verdict_of, Book.{frame_records, judged_of}, Book.{Begun, Book, Each, Milestone, Record, Row, after_stage, after_verdict, map_each, of_kind, with_frame, with_stage}, Book.Milestone.{Begin, End, Stage}, Book.Record.Ended, Core.{Core, epoch_at, first_core}, Goodness.{Scenario, is_good}, Hearing.epoch_of, Lawful.{IsLawful, kind_of}, NodeState.NodeState, Rounds.{begin_frame, moment, records_of, windows_in}, Slots.count_of, WorldStep.{Due, Site, Timed, Way, World, book_with, begun_for, comes_so, due_of, first_world, fresh_site, go_on, happens, is_complete, proceed, record_since, settle, settle_next, take, take_if_due}, WorldStep.Way.{ByAnEvent, ByItself}}
 use Rattle.rb_base.proofs.Plain.{and_second, true-false}
-use Rattle.rb_rules.specs.Book.{Begun, Book, Each, Milestone, Record, Row, after_stage, after_verdict, map_each, of_kind, with_frame, with_stage}
-use Rattle.rb_rules.specs.Book.Milestone.{Begin, End, Stage}
-use Rattle.rb_rules.specs.Book.Record.{Ended}
-use Rattle.rb_rules.specs.Core.{Core, epoch_at, first_core}
-use Rattle.rb_rules.specs.Goodness.{Scenario, is_good}
-use Rattle.rb_rules.specs.Hearing.{epoch_of}
-use Rattle.rb_rules.specs.Lawful.{IsLawful, kind_of}
-use Rattle.rb_rules.specs.NodeState.{NodeState}
-use Rattle.rb_rules.specs.Rounds.{begin_frame, moment, records_of, windows_in}
-use Rattle.rb_rules.specs.Slots.{count_of}
-use Rattle.rb_rules.specs.WorldStep.{Due, Site, Timed, Way, World, book_with, begun_for, comes_so, due_of, first_world, fresh_site, go_on, happens, is_complete, proceed, record_since, settle, settle_next, take, take_if_due}
-use Rattle.rb_rules.specs.WorldStep.Way.{ByAnEvent, ByItself}
-use Rattle.rb_rules.proofs.Books.{GoesOn, moments-on, records-are}
-use Rattle.rb_rules.proofs.WindowNumbers.{get-each, get-made}
+use Rattle.rb_rules.proofs.{Books.{GoesOn, moments-on, records-are}, WindowNumbers.{get-each, get-made}}
 use Rattle.rb_log.specs.Writing.{given}
 use Rattle.rb_report.specs.Report.{end_text}
 use Rattle.rb_laws_events.specs.Closing.{stages_in}
-use Rattle.rb_laws_events.proofs.Behind.{runs-there}
-use Rattle.rb_laws_events.proofs.FirstInRounds.{first-in-rounds}
-use Rattle.rb_laws_events.proofs.FirstWorld.{at_begin}
-use Rattle.rb_laws_events.proofs.Invariant.{is_good_at}
-use Rattle.rb_laws_events.proofs.MomentBooks.{SettlesNext, next_of, settles-next}
-use Rattle.rb_laws_events.proofs.NodeActs.{HasRoom}
-use Rattle.rb_laws_events.proofs.OneEvent.{WorldInRounds}
-use Rattle.rb_laws_events.proofs.OneTake.{StandsInRounds}
-use Rattle.rb_laws_events.proofs.RoundNodes.{item-at, slot_numbered}
-use Rattle.rb_laws_events.proofs.Settling.{each-at}
-use Rattle.rb_laws_events.proofs.SettlingFrames.{IsOfMoment}
-use Rattle.rb_laws_events.proofs.TickRooms.{has-room}
-use Rattle.rb_laws_events.proofs.TickWindows.{first_of}
-use Rattle.rb_laws_events.proofs.ToldInOrder.{NodeTold}
-use Rattle.rb_laws_events.proofs.ToldSoFar.{PendsFirst, first-pends, proceed-core}
-use Rattle.rb_laws_events.proofs.WorldBooks.{happens-book}
-use Rattle.rb_laws_events.proofs.WorldNodes.{next-sites}
-use Rattle.rb_laws_events.proofs.WorldStands.{IsUp, sent_by}
+use Rattle.rb_laws_events.proofs.{Behind.runs-there, FirstInRounds.first-in-rounds, FirstWorld.at_begin, Invariant.is_good_at, MomentBooks.{SettlesNext, next_of, settles-next}, NodeActs.HasRoom, OneEvent.WorldInRounds, OneTake.StandsInRounds, RoundNodes.{item-at, slot_numbered}, Settling.each-at, SettlingFrames.IsOfMoment, TickRooms.has-room, TickWindows.first_of, ToldInOrder.NodeTold, ToldSoFar.{PendsFirst, first-pends, proceed-core}, WorldBooks.happens-book, WorldNodes.next-sites, WorldStands.{IsUp, sent_by}}
 use Rattle.rb_laws_agreement.proofs.Goodnesses.{good_counts}
-use Rattle.rb_laws_logs.specs.Given.{first_run, first_step, index_of, site_of, step_with}
-use Rattle.rb_laws_logs.specs.Laws.{EndsWithoutBreach, IsGoodThroughout, ReplayIsTheReport, lines_after, report_of_node}
-use Rattle.rb_laws_logs.specs.Replays.{epoch_lines, frames_in, frames_with, replay_text}
-use Rattle.rb_laws_logs.proofs.Gathered.{if_there}
-use Rattle.rb_laws_logs.proofs.NoBreach.{IsLastBegin, goes-on, last-begin, last-book, last_moment, number-below, steps-are}
-use Rattle.rb_laws_logs.proofs.NodeLines.{lines-append, told_up_to}
-use Rattle.rb_laws_logs.proofs.NodeRun.{IsDone, NodeAt, StepSites, Underway, acts_so_far, step-sites}
-use Rattle.rb_laws_logs.proofs.NodeRun.StepSites.{Still, Taken}
-use Rattle.rb_laws_logs.proofs.NodeSites.{rises, Rises}
-use Rattle.rb_laws_logs.proofs.NodeSteps.{Here, here, node-step}
-use Rattle.rb_laws_logs.proofs.Positions.{StandsAt, stands-at}
-use Rattle.rb_laws_logs.proofs.RoundLines.{AreTold, are-told, good-moment, none-waits}
-use Rattle.rb_laws_logs.proofs.TickText.{Turns, now-begins, turns-now}
-use Rattle.rb_laws_logs.proofs.Worlds.{no-hands, worlds-in-run}
+use Rattle.rb_laws_logs.specs.{Given.{first_run, first_step, index_of, site_of, step_with}, Laws.{EndsWithoutBreach, IsGoodThroughout, ReplayIsTheReport, lines_after, report_of_node}, Replays.{epoch_lines, frames_in, frames_with, replay_text}}
+use Rattle.rb_laws_logs.proofs.{Gathered.if_there, NoBreach.{IsLastBegin, goes-on, last-begin, last-book, last_moment, number-below, steps-are}, NodeLines.{lines-append, told_up_to}, NodeRun.{IsDone, NodeAt, StepSites, Underway, acts_so_far, step-sites}, NodeRun.StepSites.{Still, Taken}, NodeSites.{rises, Rises}, NodeSteps.{Here, here, node-step}, Positions.{StandsAt, stands-at}, RoundLines.{AreTold, are-told, good-moment, none-waits}, TickText.{Turns, now-begins, turns-now}, Worlds.{no-hands, worlds-in-run}}
 
 -- At first.
 

@@ -1,47 +1,16 @@
 -- For the law of record and replay: up to a moment the records of the rounds have the lines of all
 -- that a node tells, but for those of a slot whose record is still to come.
-use Rattle.std.proofs.Common.{◌≡◌, ℕ, zero, suc, ◌+◌, ◌*◌, ◌/◌, ◌%◌, ◌<◌, ◌≤◌, ◌==◌, ◌&&◌, min, nat_lt, not, Bool, true, false, List, [], ◌∷◌, ◌++◌, append_assoc, refl, ap, sym, ◌∙◌, subst, arith, inl, inr, Option, Some, None, slice_get, if◌then◌else◌}
+use Rattle.std.proofs.{Common.{◌≡◌, ℕ, zero, suc, ◌+◌, ◌*◌, ◌/◌, ◌%◌, ◌<◌, ◌≤◌, ◌==◌, ◌&&◌, min, nat_lt, not, Bool, true, false, List, [], ◌∷◌, ◌++◌, append_assoc, refl, ap, sym, ◌∙◌, subst, arith, inl, inr, Option, Some, None, slice_get, if◌then◌else◌}, lemmas.Bool.{and_from, and_left, and_right, cases_lt, cond-false, cond-true, eq-eqb, le-ltb, lt-ltb, ne_eqb}, lemmas.Bool.Decides.nat_tests, lemmas.List.append-nil}
 use Rattle.std.specs.Prelude.{flat_map, filter_map, map}
-use Rattle.std.proofs.lemmas.Bool.{and_from, and_left, and_right, cases_lt, cond-false, cond-true, eq-eqb, le-ltb, lt-ltb, ne_eqb}
-use Rattle.std.proofs.lemmas.Bool.Decides.{nat_tests}
-use Rattle.std.proofs.lemmas.List.{append-nil}
-use Rattle.rb_base.specs.Counting.{numbers}
-use Rattle.rb_base.specs.Nodes.{Side}
-use Rattle.rb_base.specs.Sizes.{Sizes, sync_slot_of}
-use Rattle.rb_base.specs.declared.node.NodeName.{NodeName}
-use Rattle.rb_base.specs.declared.values.Place.{Place}
+use Rattle.rb_base.specs.{Counting.numbers, Nodes.Side, Sizes.{Sizes, sync_slot_of}, declared.node.NodeName.NodeName, declared.values.Place.Place}
 use Rattle.rb_base.proofs.Plain.{true-false}
-use Rattle.rb_rules.specs.declared.cause.Cause.{Cause}
-use Rattle.rb_rules.specs.declared.plan.Window.{Window}
-use Rattle.rb_rules.specs.declared.record.SlotLine.{SlotLine}
-use Rattle.rb_rules.specs.Book.{Begun, Book, Each, Record, Row, after_verdict, frame_records, fresh_book, in_order, judged_of, line_in, map_each, of_kind, slot_records, with_frame, with_stage}
-use Rattle.rb_rules.specs.Book.Milestone.{End, Stage}
-use Rattle.rb_rules.specs.Book.Record.{Slot}
-use Rattle.rb_rules.specs.ExactStage.{present}
-use Rattle.rb_rules.specs.Goodness.{Scenario, is_good}
-use Rattle.rb_rules.specs.Hearing.{epoch_of, port_at}
-use Rattle.rb_rules.specs.Judging.{JudgedStage, verdict_of}
-use Rattle.rb_rules.specs.Lawful.{kind_of}
-use Rattle.rb_rules.specs.NodeState.{NodeState}
-use Rattle.rb_rules.specs.Rounds.{Moment, Result, after_window, begin_frame, begun_if_good, book_after, moment, next_frame, results_of, step, window_in, windows_in}
-use Rattle.rb_rules.specs.Windows.{windows_of_frame}
-use Rattle.rb_rules.proofs.Books.{GoesOn, moments-on, stepped}
-use Rattle.rb_rules.proofs.RoundStates.{HasTicks}
+use Rattle.rb_rules.specs.{declared.cause.Cause.Cause, declared.plan.Window.Window, declared.record.SlotLine.SlotLine, Book.{Begun, Book, Each, Record, Row, after_verdict, frame_records, fresh_book, in_order, judged_of, line_in, map_each, of_kind, slot_records, with_frame, with_stage}, Book.Milestone.{End, Stage}, Book.Record.Slot, ExactStage.present, Goodness.{Scenario, is_good}, Hearing.{epoch_of, port_at}, Judging.{JudgedStage, verdict_of}, Lawful.kind_of, NodeState.NodeState, Rounds.{Moment, Result, after_window, begin_frame, begun_if_good, book_after, moment, next_frame, results_of, step, window_in, windows_in}, Windows.windows_of_frame}
+use Rattle.rb_rules.proofs.{Books.{GoesOn, moments-on, stepped}, RoundStates.HasTicks}
 use Rattle.rb_laws_events.specs.Closing.{stages_in}
-use Rattle.rb_laws_events.proofs.CloseOrder.{IsFrameLater, IsWindowLater, frame-later, window-later}
-use Rattle.rb_laws_events.proofs.Invariant.{is_good_at}
-use Rattle.rb_laws_events.proofs.MomentBooks.{no-window, stage-is-of, stage-window}
-use Rattle.rb_laws_events.proofs.MomentSteps.{good-state}
-use Rattle.rb_laws_events.proofs.RoundNodes.{AllStand, Stands, moments-stand, slot-is, slot_numbered}
-use Rattle.rb_laws_events.proofs.SettlingFrames.{RunsIn, runs-in}
-use Rattle.rb_laws_events.proofs.Telling.{tail-stage}
-use Rattle.rb_laws_agreement.proofs.Agreement.{ended-end}
-use Rattle.rb_laws_agreement.proofs.Goodnesses.{good_before}
-use Rattle.rb_laws_logs.specs.Given.{index_of}
-use Rattle.rb_laws_logs.specs.Laws.{IsGoodThroughout, delivered_by, lines_after}
-use Rattle.rb_laws_logs.specs.Replays.{epoch_lines}
-use Rattle.rb_laws_logs.proofs.Gathered.{if_there}
-use Rattle.rb_laws_logs.proofs.NodeLines.{FrameLines, block_text, frame-lines, lines-append, newest-append, newest_after, silent-window, slot-lines, state_of, step_text, told_up_to, window_text}
+use Rattle.rb_laws_events.proofs.{CloseOrder.{IsFrameLater, IsWindowLater, frame-later, window-later}, Invariant.is_good_at, MomentBooks.{no-window, stage-is-of, stage-window}, MomentSteps.good-state, RoundNodes.{AllStand, Stands, moments-stand, slot-is, slot_numbered}, SettlingFrames.{RunsIn, runs-in}, Telling.tail-stage}
+use Rattle.rb_laws_agreement.proofs.{Agreement.ended-end, Goodnesses.good_before}
+use Rattle.rb_laws_logs.specs.{Given.index_of, Laws.{IsGoodThroughout, delivered_by, lines_after}, Replays.epoch_lines}
+use Rattle.rb_laws_logs.proofs.{Gathered.if_there, NodeLines.{FrameLines, block_text, frame-lines, lines-append, newest-append, newest_after, silent-window, slot-lines, state_of, step_text, told_up_to, window_text}}
 
 -- A run that goes on.
 

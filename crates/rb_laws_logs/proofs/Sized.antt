@@ -1,38 +1,15 @@
 -- For the law of record and replay: in each world of the run what comes to a node has 1 to 32
 -- bytes.
-use Rattle.std.proofs.Common.{◌≡◌, ℕ, zero, suc, ◌+◌, ◌<◌, ◌≤◌, ◌==◌, ◌&&◌, Bool, true, false, All, List, [], ◌∷◌, ◌++◌, length, refl, sym, ◌∙◌, subst, arith, Option, Some, None, get_or, slice_get, map, filter}
-use Rattle.std.specs.Prelude.{flat_map}
-use Rattle.std.specs.List.{range_with_len}
-use Rattle.std.proofs.lemmas.List.Elements.{All-filter, All-map}
-use Rattle.std.proofs.lemmas.Option.{same_Some, slice_get_within}
-use Rattle.rb_base.specs.Nodes.{Side, other}
-use Rattle.rb_base.specs.declared.values.Place.{Place}
+use Rattle.std.proofs.{Common.{◌≡◌, ℕ, zero, suc, ◌+◌, ◌<◌, ◌≤◌, ◌==◌, ◌&&◌, Bool, true, false, All, List, [], ◌∷◌, ◌++◌, length, refl, sym, ◌∙◌, subst, arith, Option, Some, None, get_or, slice_get, map, filter}, lemmas.List.Elements.{All-filter, All-map}, lemmas.Option.{same_Some, slice_get_within}}
+use Rattle.std.specs.{Prelude.flat_map, List.range_with_len}
+use Rattle.rb_base.specs.{Nodes.{Side, other}, declared.values.Place.Place}
 use Rattle.rb_base.proofs.Plain.{option_map-back}
-use Rattle.rb_rules.specs.declared.message.Message.{Message}
-use Rattle.rb_rules.specs.declared.message.Version.{Version}
-use Rattle.rb_rules.specs.declared.message.Version.TheVariants as version
-use Rattle.rb_rules.specs.declared.say.Content.{Content}
-use Rattle.rb_rules.specs.declared.say.Content.TheVariants.{Word, Fault, Sync, Raw}
-use Rattle.rb_rules.specs.declared.say.Say.{Say}
-use Rattle.rb_rules.specs.Behavior.{Said}
-use Rattle.rb_rules.specs.Book.{Each, each_of, map_each, of_kind}
-use Rattle.rb_rules.specs.Core.{Act}
-use Rattle.rb_rules.specs.Entries.{IsListed, bytes_of, is_said, said_of}
-use Rattle.rb_rules.specs.Goodness.{Scenario, clock_of, is_good}
-use Rattle.rb_rules.specs.Hearing.{Coming, Sending, Span, coming_of, is_heard, said_by}
-use Rattle.rb_rules.specs.Lawful.{IsContent}
-use Rattle.rb_rules.specs.Ports.{PortState}
-use Rattle.rb_rules.specs.Slots.{count_of, same_side}
-use Rattle.rb_rules.specs.Spelling.{spelling_of}
-use Rattle.rb_rules.specs.WorldStep.{Due, Pending, Site, World, after_act, after_arrival, at_node, await, enter, first_world, fresh_site, happens, pass_and_tick, proceed, says_in, sent_to, span_from, stop, with_act, with_close, with_epoch, with_message, with_pending}
-use Rattle.rb_rules.specs.WorldStep.Pending.{Tick, Arrival}
+use Rattle.rb_rules.specs.{declared.message.Message.Message, declared.message.Version.Version, declared.say.Content.Content, declared.say.Content.TheVariants.{Word, Fault, Sync, Raw}, declared.say.Say.Say, Behavior.Said, Book.{Each, each_of, map_each, of_kind}, Core.Act, Entries.{IsListed, bytes_of, is_said, said_of}, Goodness.{Scenario, clock_of, is_good}, Hearing.{Coming, Sending, Span, coming_of, is_heard, said_by}, Lawful.IsContent, Ports.PortState, Slots.{count_of, same_side}, Spelling.spelling_of, WorldStep.{Due, Pending, Site, World, after_act, after_arrival, at_node, await, enter, first_world, fresh_site, happens, pass_and_tick, proceed, says_in, sent_to, span_from, stop, with_act, with_close, with_epoch, with_message, with_pending}, WorldStep.Pending.{Tick, Arrival}}
 use Rattle.rb_rules.proofs.WindowNumbers.{get-each, get-made}
-use Rattle.rb_laws_events.proofs.Receiving.{every-without}
-use Rattle.rb_laws_events.proofs.SameHeard.{Every, all-every}
-use Rattle.rb_laws_events.proofs.WorldNodes.{close-coming, epoch-coming, first-counts}
+use Rattle.rb_laws_events.proofs.{Receiving.every-without, SameHeard.{Every, all-every}, WorldNodes.{close-coming, epoch-coming, first-counts}}
 use Rattle.rb_laws_logs.specs.Given.{first_run}
-use Rattle.rb_laws_logs.proofs.NodeRun.{StepSites, step-sites}
-use Rattle.rb_laws_logs.proofs.NodeRun.StepSites.{Still, Taken}
+use Rattle.rb_laws_logs.proofs.{NodeRun.{StepSites, step-sites}, NodeRun.StepSites.{Still, Taken}}
+use Rattle.rb_rules.specs.declared.message.Version.TheVariants as version
 
 -- Bytes.
 

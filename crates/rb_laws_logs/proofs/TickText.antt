@@ -1,59 +1,17 @@
 -- For the law of record and replay: what a tick of a node in the run has for lines, and what it
 -- moves: with them the node has told all up to where it then stands, but for the start of a frame
 -- whose first tick pends.
-use Rattle.std.proofs.Common.{◌≡◌, ℕ, suc, ◌+◌, ◌*◌, ◌-◌, ◌<◌, ◌≤◌, ◌%◌, ◌==◌, ◌&&◌, ◌⊎◌, nat_lt, Bool, true, false, List, [], ◌++◌, append_assoc, refl, ap, sym, ◌∙◌, subst, arith, inl, inr, Option, Some, None, slice_get, option_and_then, option_map, if◌then◌else◌}
-use Rattle.std.proofs.lemmas.Bool.{cases_lt, cond-false, cond-true, eq-eqb, le-ltb, lt-ltb}
-use Rattle.std.proofs.lemmas.Bool.Decides.{nat_tests}
-use Rattle.std.proofs.lemmas.List.{append-nil}
-use Rattle.std.proofs.lemmas.Option.{same_Some}
-use Rattle.rb_base.specs.Nodes.{Side}
-use Rattle.rb_base.specs.Nodes.Side.{Biu, Rmu}
-use Rattle.rb_base.specs.Sizes.{Sizes, sync_slot_of}
-use Rattle.rb_base.specs.declared.node.NodeName.{NodeName}
-use Rattle.rb_base.specs.declared.values.Delivery.{Delivery}
+use Rattle.std.proofs.{Common.{◌≡◌, ℕ, suc, ◌+◌, ◌*◌, ◌-◌, ◌<◌, ◌≤◌, ◌%◌, ◌==◌, ◌&&◌, ◌⊎◌, nat_lt, Bool, true, false, List, [], ◌++◌, append_assoc, refl, ap, sym, ◌∙◌, subst, arith, inl, inr, Option, Some, None, slice_get, option_and_then, option_map, if◌then◌else◌}, lemmas.Bool.{cases_lt, cond-false, cond-true, eq-eqb, le-ltb, lt-ltb}, lemmas.Bool.Decides.nat_tests, lemmas.List.append-nil, lemmas.Option.same_Some}
+use Rattle.rb_base.specs.{Nodes.Side, Nodes.Side.{Biu, Rmu}, Sizes.{Sizes, sync_slot_of}, declared.node.NodeName.NodeName, declared.values.Delivery.Delivery}
 use Rattle.rb_base.proofs.Plain.{less-differs}
-use Rattle.rb_rules.specs.declared.closing.Closed.{Closed}
-use Rattle.rb_rules.specs.declared.plan.Plan.{Plan}
-use Rattle.rb_rules.specs.declared.plan.Window.{Window}
-use Rattle.rb_rules.specs.declared.record.Epoch.{Epoch}
-use Rattle.rb_rules.specs.Book.{line_in, of_kind}
-use Rattle.rb_rules.specs.Core.{Act, Core, epoch_at, of_source, pass_to, state_at}
-use Rattle.rb_rules.specs.Goodness.{Scenario, is_good}
-use Rattle.rb_rules.specs.Hearing.{close_window, epoch_of, row_of, window_numbered}
-use Rattle.rb_rules.specs.Lawful.{IsLawful, kind_of}
-use Rattle.rb_rules.specs.NodeState.{NodeState}
-use Rattle.rb_rules.specs.NodeSteps.{convicted_of}
-use Rattle.rb_rules.specs.Ports.{PortState}
-use Rattle.rb_rules.specs.Rounds.{Moment, moment, window_in, windows_in}
-use Rattle.rb_rules.specs.WorldStep.{Site, Timed, after_act}
+use Rattle.rb_rules.specs.{declared.closing.Closed.Closed, declared.plan.Plan.Plan, declared.plan.Window.Window, declared.record.Epoch.Epoch, Book.{line_in, of_kind}, Core.{Act, Core, epoch_at, of_source, pass_to, state_at}, Goodness.{Scenario, is_good}, Hearing.{close_window, epoch_of, row_of, window_numbered}, Lawful.{IsLawful, kind_of}, NodeState.NodeState, NodeSteps.convicted_of, Ports.PortState, Rounds.{Moment, moment, window_in, windows_in}, WorldStep.{Site, Timed, after_act}}
 use Rattle.rb_rules.proofs.RoundStates.{HasTicks, Stays, close-stays, keeping-stays, stays-refl}
 use Rattle.rb_laws_events.specs.Closing.{stages_in}
-use Rattle.rb_laws_events.proofs.CloseOrder.{IsFrameLater, IsWindowLater, frame-later, window-later}
-use Rattle.rb_laws_events.proofs.Invariant.{is_good_at, last_tick, next_stage, word_at}
-use Rattle.rb_laws_events.proofs.MomentSteps.{next-inner, next-outer}
-use Rattle.rb_laws_events.proofs.NodeActs.{HasRoom}
-use Rattle.rb_laws_events.proofs.NodeClosing.{ClosesWindow, GoesOn}
-use Rattle.rb_laws_events.proofs.NodeEvents.{StaysOpen}
-use Rattle.rb_laws_events.proofs.NodeSends.{sending_at}
-use Rattle.rb_laws_events.proofs.NodeTicks.{by_said, gone, kept_in, state_in}
-use Rattle.rb_laws_events.proofs.RoundNodes.{slot-is, slot_numbered}
-use Rattle.rb_laws_events.proofs.StageOrder.{last-same, last_of}
-use Rattle.rb_laws_events.proofs.Telling.{first-window}
-use Rattle.rb_laws_events.proofs.TickRooms.{has-room}
-use Rattle.rb_laws_events.proofs.TickWindows.{ends-before-later, first-same, first_of}
-use Rattle.rb_laws_events.proofs.ToldSoFar.{PendsFirst, first-pends}
-use Rattle.rb_laws_events.proofs.WorldEvents.{state-frame}
+use Rattle.rb_laws_events.proofs.{CloseOrder.{IsFrameLater, IsWindowLater, frame-later, window-later}, Invariant.{is_good_at, last_tick, next_stage, word_at}, MomentSteps.{next-inner, next-outer}, NodeActs.HasRoom, NodeClosing.{ClosesWindow, GoesOn}, NodeEvents.StaysOpen, NodeSends.sending_at, NodeTicks.{by_said, gone, kept_in, state_in}, RoundNodes.{slot-is, slot_numbered}, StageOrder.{last-same, last_of}, Telling.first-window, TickRooms.has-room, TickWindows.{ends-before-later, first-same, first_of}, ToldSoFar.{PendsFirst, first-pends}, WorldEvents.state-frame}
 use Rattle.rb_report.specs.Report.{delivery_text}
 use Rattle.rb_laws_agreement.proofs.Goodnesses.{good_before}
-use Rattle.rb_laws_logs.specs.Given.{index_of}
-use Rattle.rb_laws_logs.specs.Laws.{IsGoodThroughout}
-use Rattle.rb_laws_logs.specs.Replays.{delivery_lines, epoch_lines, frames_with}
-use Rattle.rb_laws_logs.proofs.Delivered.{Delivers, close-by, line_of_node}
-use Rattle.rb_laws_logs.proofs.Gathered.{if_there}
-use Rattle.rb_laws_logs.proofs.NodeLines.{block_text, line_text, row_in, told_up_to, window_text}
-use Rattle.rb_laws_logs.proofs.NodeSites.{act-core, state-rises}
-use Rattle.rb_laws_logs.proofs.Positions.{StandsAt, stands-at}
-use Rattle.rb_laws_logs.proofs.RoundLines.{HasState, good-begin, has-state, nothing-told}
+use Rattle.rb_laws_logs.specs.{Given.index_of, Laws.IsGoodThroughout, Replays.{delivery_lines, epoch_lines, frames_with}}
+use Rattle.rb_laws_logs.proofs.{Delivered.{Delivers, close-by, line_of_node}, Gathered.if_there, NodeLines.{block_text, line_text, row_in, told_up_to, window_text}, NodeSites.{act-core, state-rises}, Positions.{StandsAt, stands-at}, RoundLines.{HasState, good-begin, has-state, nothing-told}}
 
 some-more : (a : ℕ) → nat_lt 0 (a + 1) ≡ true
 some-more a = grind (arith, nat_tests)

@@ -1,38 +1,10 @@
 -- For the law of record and replay: the worlds of a run in which the first due event is taken, if
 -- it has no breach: all nodes stand in the rounds, and so does one that takes a tick.
-use Rattle.std.proofs.Common.{◌≡◌, ℕ, zero, suc, ◌<◌, ◌≤◌, ◌⊎◌, Bool, true, false, List, [], ◌∷◌, refl, ap, sym, ◌∙◌, subst, inl, inr, Some, None, slice_get}
-use Rattle.std.proofs.lemmas.Option.{same_Some}
-use Rattle.rb_base.specs.Nodes.{Side}
-use Rattle.rb_base.specs.Nodes.Side.{Biu}
-use Rattle.rb_rules.specs.Book.{of_kind}
-use Rattle.rb_rules.specs.Goodness.{Scenario}
-use Rattle.rb_rules.specs.Hearing.{port_at}
-use Rattle.rb_rules.specs.Lawful.{IsLawful}
-use Rattle.rb_rules.specs.Moments.{IsRunning}
-use Rattle.rb_rules.specs.NodeState.{NodeState}
-use Rattle.rb_rules.specs.Ports.{HandIn}
-use Rattle.rb_rules.specs.Rounds.{moment}
-use Rattle.rb_rules.specs.WorldStep.{Due, Site, Timed, World, due_of, first_world, go_on, needs_no_event, pass_and_tick, settle}
-use Rattle.rb_rules.specs.WorldStep.Pending.{Tick}
-use Rattle.rb_rules.specs.WorldStep.Way.{ByItself}
-use Rattle.rb_laws_events.proofs.BreakNodes.{BreaksAt}
-use Rattle.rb_laws_events.proofs.Behind.{WaitsAt}
-use Rattle.rb_laws_events.proofs.DueEvents.{IsDue}
-use Rattle.rb_laws_events.proofs.EventsHold.{any, nodes_at}
-use Rattle.rb_laws_events.proofs.EveryWorld.{AnyWorld, InRun, due-going}
-use Rattle.rb_laws_events.proofs.Invariant.{last_tick, next_stage}
-use Rattle.rb_laws_events.proofs.NodeActs.{HasRoom}
-use Rattle.rb_laws_events.proofs.OneEvent.{ClosesEarlier, MayHappen, WorldInRounds}
-use Rattle.rb_laws_events.proofs.OneTake.{StandsInRounds, are-in-time, closes-earlier, settle-hands, take-hands, world-waits}
-use Rattle.rb_laws_events.proofs.PortMoments.{has-word}
-use Rattle.rb_laws_events.proofs.SameHeard.{Every}
-use Rattle.rb_laws_events.proofs.TickRooms.{has-room}
-use Rattle.rb_laws_events.proofs.UpToThere.{Reaches, next-up-to, reach, reaches-first}
-use Rattle.rb_laws_events.proofs.WorldEvents.{AfterTick, tick-event}
-use Rattle.rb_laws_events.proofs.WorldNodes.{events-due}
-use Rattle.rb_laws_events.proofs.WorldStands.{AllPend, IsUp, IsDown, sent_by}
-use Rattle.rb_laws_logs.specs.Given.{first_run, first_step, step_with}
-use Rattle.rb_laws_logs.specs.Laws.{EndsWithoutBreach}
+use Rattle.std.proofs.{Common.{◌≡◌, ℕ, zero, suc, ◌<◌, ◌≤◌, ◌⊎◌, Bool, true, false, List, [], ◌∷◌, refl, ap, sym, ◌∙◌, subst, inl, inr, Some, None, slice_get}, lemmas.Option.same_Some}
+use Rattle.rb_base.specs.{Nodes.Side, Nodes.Side.Biu}
+use Rattle.rb_rules.specs.{Book.of_kind, Goodness.Scenario, Hearing.port_at, Lawful.IsLawful, Moments.IsRunning, NodeState.NodeState, Ports.HandIn, Rounds.moment, WorldStep.{Due, Site, Timed, World, due_of, first_world, go_on, needs_no_event, pass_and_tick, settle}, WorldStep.Pending.Tick, WorldStep.Way.ByItself}
+use Rattle.rb_laws_events.proofs.{BreakNodes.BreaksAt, Behind.WaitsAt, DueEvents.IsDue, EventsHold.{any, nodes_at}, EveryWorld.{AnyWorld, InRun, due-going}, Invariant.{last_tick, next_stage}, NodeActs.HasRoom, OneEvent.{ClosesEarlier, MayHappen, WorldInRounds}, OneTake.{StandsInRounds, are-in-time, closes-earlier, settle-hands, take-hands, world-waits}, PortMoments.has-word, SameHeard.Every, TickRooms.has-room, UpToThere.{Reaches, next-up-to, reach, reaches-first}, WorldEvents.{AfterTick, tick-event}, WorldNodes.events-due, WorldStands.{AllPend, IsUp, IsDown, sent_by}}
+use Rattle.rb_laws_logs.specs.{Given.{first_run, first_step, step_with}, Laws.EndsWithoutBreach}
 use Rattle.rb_laws_logs.proofs.NoBreach.{breaks-not, choices_in, run-is}
 
 -- Nothing is handed in.

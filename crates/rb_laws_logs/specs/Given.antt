@@ -1,13 +1,8 @@
 -- What a node is given in a run in which each step takes the first due event.
 use Rattle.std.specs.Prelude.{ℕ, zero, suc, ◌≡◌, ◌&&◌, nat_lt, Bool, true, false, if◌then◌else◌, Option, Some, None, List, [], ◌∷◌, ◌++◌, slice_get}
-use Rattle.rb_base.specs.declared.event.Event.{Event}
-use Rattle.rb_base.specs.declared.node.NodeName.{NodeName}
+use Rattle.rb_base.specs.{declared.event.Event.Event, declared.node.NodeName.NodeName}
+use Rattle.rb_rules.specs.{Book.of_kind, Goodness.Scenario, Lawful.kind_of, Links.same_node, WorldStep.{Due, Site, World, due_of, event_at, first_world, go_on, take}}
 use Rattle.rb_base.specs.declared.node.NodeName.TheVariants as node
-use Rattle.rb_rules.specs.Book.{of_kind}
-use Rattle.rb_rules.specs.Goodness.{Scenario}
-use Rattle.rb_rules.specs.Lawful.{kind_of}
-use Rattle.rb_rules.specs.Links.{same_node}
-use Rattle.rb_rules.specs.WorldStep.{Due, Site, World, due_of, event_at, first_world, go_on, take}
 
 -- The run.
 

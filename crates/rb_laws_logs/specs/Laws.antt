@@ -1,25 +1,11 @@
 -- Record and replay.
-use Rattle.std.specs.Prelude.{Ok, ℕ, ◌≡◌, Bool, true, false, if◌then◌else◌, None, List, [], ◌∷◌, ◌++◌}
-use Rattle.std.specs.List.{flat_map, list_any}
-use Rattle.rb_base.specs.declared.event.Event.{Event}
-use Rattle.rb_base.specs.declared.node.NodeName.{NodeName}
-use Rattle.rb_base.specs.declared.node.NodeName.TheVariants.{Biu}
-use Rattle.rb_rules.specs.declared.record.NodeLine.{NodeLine}
-use Rattle.rb_rules.specs.declared.record.SlotLine.{SlotLine}
-use Rattle.rb_rules.specs.Book.{Record}
-use Rattle.rb_rules.specs.Book.Record.{Frame, Slot, Ended, Breach}
-use Rattle.rb_rules.specs.Entries.{IsListed}
-use Rattle.rb_rules.specs.Goodness.{Scenario, is_good}
-use Rattle.rb_rules.specs.Lawful.{IsLawful, kind_of}
-use Rattle.rb_rules.specs.Links.{same_node}
-use Rattle.rb_rules.specs.Rounds.{records_of}
+use Rattle.std.specs.{Prelude.{Ok, ℕ, ◌≡◌, Bool, true, false, if◌then◌else◌, None, List, [], ◌∷◌, ◌++◌}, List.{flat_map, list_any}}
+use Rattle.rb_base.specs.{declared.event.Event.Event, declared.node.NodeName.NodeName, declared.node.NodeName.TheVariants.Biu}
+use Rattle.rb_rules.specs.{declared.record.NodeLine.NodeLine, declared.record.SlotLine.SlotLine, Book.Record, Book.Record.{Frame, Slot, Ended, Breach}, Entries.IsListed, Goodness.{Scenario, is_good}, Lawful.{IsLawful, kind_of}, Links.same_node, Rounds.records_of}
 use Rattle.rb_plan.specs.Timetable.{Timetable}
-use Rattle.rb_log.specs.Header.{header_of}
-use Rattle.rb_log.specs.LogText.{Log, log_in}
-use Rattle.rb_log.specs.Writing.{given, written}
+use Rattle.rb_log.specs.{Header.header_of, LogText.{Log, log_in}, Writing.{given, written}}
 use Rattle.rb_report.specs.Report.{breach_text, convicted_text, delivery_text, end_text, epoch_text}
-use Rattle.rb_laws_logs.specs.Given.{AreGiven, index_of}
-use Rattle.rb_laws_logs.specs.Replays.{replay_text}
+use Rattle.rb_laws_logs.specs.{Given.{AreGiven, index_of}, Replays.replay_text}
 
 -- The lines of one node in the report of a run.
 

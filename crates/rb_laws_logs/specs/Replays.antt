@@ -1,13 +1,7 @@
 -- What events make of one node, and the text of it.
-use Rattle.std.specs.Prelude.{ℕ, ◌+◌, nat_lt, if◌then◌else◌, Option, Some, None, option_and_then, List, [], ◌∷◌, ◌++◌}
-use Rattle.std.specs.List.{flat_map}
-use Rattle.rb_base.specs.Sizes.{Sizes}
-use Rattle.rb_base.specs.declared.node.NodeName.{NodeName}
-use Rattle.rb_base.specs.declared.values.Delivery.{Delivery}
-use Rattle.rb_rules.specs.declared.plan.Plan.{Plan}
-use Rattle.rb_rules.specs.declared.record.Epoch.{Epoch}
-use Rattle.rb_rules.specs.Core.{Act, CoreEvent, acts_of, first_core}
-use Rattle.rb_rules.specs.Lawful.{kind_of}
+use Rattle.std.specs.{Prelude.{ℕ, ◌+◌, nat_lt, if◌then◌else◌, Option, Some, None, option_and_then, List, [], ◌∷◌, ◌++◌}, List.flat_map}
+use Rattle.rb_base.specs.{Sizes.Sizes, declared.node.NodeName.NodeName, declared.values.Delivery.Delivery}
+use Rattle.rb_rules.specs.{declared.plan.Plan.Plan, declared.record.Epoch.Epoch, Core.{Act, CoreEvent, acts_of, first_core}, Lawful.kind_of}
 use Rattle.rb_report.specs.Report.{convicted_text, delivery_text, end_text, epoch_text}
 use Rattle.rb_laws_logs.specs.Given.{index_of}
 

@@ -1,38 +1,10 @@
 -- In each moment of a run the standing of each good node follows the evidence that it found.
-use Rattle.std.proofs.Common.{◌≡◌, ℕ, zero, suc, ◌+◌, ◌<◌, ◌≤◌, ◌==◌, ◌&&◌, ◌⊎◌, inl, inr, nat_le, Bool, true, false, if◌then◌else◌, List, length, map, Option, Some, None, is_some, slice_get, refl, sym, ◌∙◌, ap, subst, arith}
-use Rattle.std.proofs.lemmas.Bool.{and_parts, cases_lt, eqb-true, le-leb, leb-true}
-use Rattle.std.proofs.lemmas.Option.{same_Some}
-use Rattle.rb_base.specs.Nodes.{Side, has, other}
-use Rattle.rb_base.specs.Nodes.Side.{Biu, Rmu}
-use Rattle.rb_base.specs.Sizes.{Sizes, sync_slot_of}
-use Rattle.rb_base.specs.declared.values.Heard.{Heard}
-use Rattle.rb_rules.specs.declared.closing.Closing.{Closing}
-use Rattle.rb_rules.specs.declared.plan.Window.{Window}
-use Rattle.rb_rules.specs.declared.role.Role.{Role}
-use Rattle.rb_rules.specs.declared.role.Role.TheVariants.{Sync}
-use Rattle.rb_rules.specs.declared.sense.Sense.{Sense}
-use Rattle.rb_rules.specs.Book.{each_of, of_kind}
-use Rattle.rb_rules.specs.Conviction.{convicted_at, turn}
-use Rattle.rb_rules.specs.ExactStage.{Outcome, close_exact, compare_with, keep_sent, outcome_of, says, with_unlike}
-use Rattle.rb_rules.specs.Goodness.{Scenario, clock_of, is_good}
-use Rattle.rb_rules.specs.Hearing.{Coming, arrival_of}
-use Rattle.rb_rules.specs.Lawful.{IsLawful}
-use Rattle.rb_rules.specs.NodeState.{NodeState, first_state, trusted_of}
-use Rattle.rb_rules.specs.NodeSteps.{close, expect_of, turn_if_known}
-use Rattle.rb_rules.specs.Ports.{HandIn}
-use Rattle.rb_rules.specs.Rounds.{Moment, Result, IsGoodIn, begin_frame, close_on, go_through, heard_at, moment, sent_in, window_in, windows_in, word_for_window}
-use Rattle.rb_rules.specs.Sense.{sense_of}
-use Rattle.rb_rules.specs.Slots.{count_of, expects, role_of, sender_in}
-use Rattle.rb_rules.specs.Standing.{Standing, has_evidence, standing_at_end, with_evidence, without}
-use Rattle.rb_rules.specs.SyncStage.{close_sync, new_epoch_of, sync_outcome_of}
-use Rattle.rb_rules.proofs.RoundStates.{Knows, state-after, state-turned}
-use Rattle.rb_rules.proofs.Slots.{sync_role}
-use Rattle.rb_rules.proofs.WindowNumbers.{get-made}
-use Rattle.rb_laws_agreement.proofs.ExactAgrees.{has_ticks}
-use Rattle.rb_laws_agreement.proofs.FrameAgrees.{epoch-known}
-use Rattle.rb_laws_agreement.proofs.Goodnesses.{good_before, good_counts, good_earlier}
-use Rattle.rb_laws_events.proofs.CloseOrder.{IsFrameLater, IsWindowLater, frame-later, window-later}
-use Rattle.rb_laws_events.proofs.RoundNodes.{AllStand, item-at, moments-stand, slot-is, slot_numbered}
+use Rattle.std.proofs.{Common.{◌≡◌, ℕ, zero, suc, ◌+◌, ◌<◌, ◌≤◌, ◌==◌, ◌&&◌, ◌⊎◌, inl, inr, nat_le, Bool, true, false, if◌then◌else◌, List, length, map, Option, Some, None, is_some, slice_get, refl, sym, ◌∙◌, ap, subst, arith}, lemmas.Bool.{and_parts, cases_lt, eqb-true, le-leb, leb-true}, lemmas.Option.same_Some}
+use Rattle.rb_base.specs.{Nodes.{Side, has, other}, Nodes.Side.{Biu, Rmu}, Sizes.{Sizes, sync_slot_of}, declared.values.Heard.Heard}
+use Rattle.rb_rules.specs.{declared.closing.Closing.Closing, declared.plan.Window.Window, declared.role.Role.Role, declared.role.Role.TheVariants.Sync, declared.sense.Sense.Sense, Book.{each_of, of_kind}, Conviction.{convicted_at, turn}, ExactStage.{Outcome, close_exact, compare_with, keep_sent, outcome_of, says, with_unlike}, Goodness.{Scenario, clock_of, is_good}, Hearing.{Coming, arrival_of}, Lawful.IsLawful, NodeState.{NodeState, first_state, trusted_of}, NodeSteps.{close, expect_of, turn_if_known}, Ports.HandIn, Rounds.{Moment, Result, IsGoodIn, begin_frame, close_on, go_through, heard_at, moment, sent_in, window_in, windows_in, word_for_window}, Sense.sense_of, Slots.{count_of, expects, role_of, sender_in}, Standing.{Standing, has_evidence, standing_at_end, with_evidence, without}, SyncStage.{close_sync, new_epoch_of, sync_outcome_of}}
+use Rattle.rb_rules.proofs.{RoundStates.{Knows, state-after, state-turned}, Slots.sync_role, WindowNumbers.get-made}
+use Rattle.rb_laws_agreement.proofs.{ExactAgrees.has_ticks, FrameAgrees.epoch-known, Goodnesses.{good_before, good_counts, good_earlier}}
+use Rattle.rb_laws_events.proofs.{CloseOrder.{IsFrameLater, IsWindowLater, frame-later, window-later}, RoundNodes.{AllStand, item-at, moments-stand, slot-is, slot_numbered}}
 use Rattle.rb_laws_promise.specs.Evidence.{AccusationsFollowEvidence, Evidence, FindsEvidence, expects_in, sense_in}
 use Rattle.rb_laws_promise.proofs.Following.{Adds, Keeps, first-keeps, follows, same-keeps, turn-keeps, window-keeps}
 

@@ -1,13 +1,9 @@
 -- A standing that follows the evidence against each source goes on to do so, through a window and
 -- over the end of a frame.
-use Rattle.std.proofs.Common.{◌≡◌, ℕ, ◌+◌, ◌<◌, ◌≤◌, ◌⊎◌, inl, inr, Bool, true, false, not, ◌&&◌, ◌||◌, if◌then◌else◌, refl, sym, ◌∙◌, arith}
-use Rattle.std.proofs.lemmas.Bool.{and_parts, not-true, or_left, or_right}
-use Rattle.std.proofs.lemmas.Bool.Decides.{nat_tests}
+use Rattle.std.proofs.{Common.{◌≡◌, ℕ, ◌+◌, ◌<◌, ◌≤◌, ◌⊎◌, inl, inr, Bool, true, false, not, ◌&&◌, ◌||◌, if◌then◌else◌, refl, sym, ◌∙◌, arith}, lemmas.Bool.{and_parts, not-true, or_left, or_right}, lemmas.Bool.Decides.nat_tests}
 use Rattle.rb_base.specs.Nodes.{has}
-use Rattle.rb_base.proofs.Plain.{or-false}
-use Rattle.rb_base.proofs.Sets.{has-set_of, has_none}
-use Rattle.rb_rules.specs.Probation.{has_lapsed, newest_with, StandsForNewest, HasNewest, LapsesByFrames}
-use Rattle.rb_rules.specs.Standing.{Standing, first_standing, standing_at_end, with_evidence}
+use Rattle.rb_base.proofs.{Plain.or-false, Sets.{has-set_of, has_none}}
+use Rattle.rb_rules.specs.{Probation.{has_lapsed, newest_with, StandsForNewest, HasNewest, LapsesByFrames}, Standing.{Standing, first_standing, standing_at_end, with_evidence}}
 use Rattle.rb_rules.proofs.Probation.{nobody_is_accused, evidence_is_newest, lapses_beside_convictions}
 use Rattle.rb_laws_promise.specs.Evidence.{FollowsEvidence}
 

@@ -1,17 +1,8 @@
 -- How many slots the passes over the requests give to one BIU.
-use Rattle.std.proofs.Common.{◌≡◌, ℕ, zero, suc, ◌+◌, ◌-◌, ◌*◌, ◌/◌, ◌<◌, ◌≤◌, ◌==◌, ◌&&◌, nat_lt, min, Bool, true, false, cond, inl, inr, List, [], ◌∷◌, ◌++◌, length, filter, take, get_or, sym, ◌∙◌, ap, subst, arith}
+use Rattle.std.proofs.{Common.{◌≡◌, ℕ, zero, suc, ◌+◌, ◌-◌, ◌*◌, ◌/◌, ◌<◌, ◌≤◌, ◌==◌, ◌&&◌, nat_lt, min, Bool, true, false, cond, inl, inr, List, [], ◌∷◌, ◌++◌, length, filter, take, get_or, sym, ◌∙◌, ap, subst, arith}, lemmas.Bool.{and_from, cases_lt, lt-ltb}, lemmas.List.FromFn.length-range_with_len, Math.Nat.{add-sub_of_le, div-mul-le_self, mul-le-mul_right, min-le_left, min-le_right, mul-suc, suc-mul}, Math.Seq.take-append-add}
 use Rattle.std.specs.List.{flat_map, range_with_len}
-use Rattle.std.proofs.lemmas.Bool.{and_from, cases_lt, lt-ltb}
-use Rattle.std.proofs.lemmas.List.FromFn.{length-range_with_len}
-use Rattle.std.proofs.Math.Nat.{add-sub_of_le, div-mul-le_self, mul-le-mul_right, min-le_left, min-le_right, mul-suc, suc-mul}
-use Rattle.std.proofs.Math.Seq.{take-append-add}
-use Rattle.rb_base.specs.Counting.{count_if, numbers}
-use Rattle.rb_base.specs.Nodes.{has}
-use Rattle.rb_base.specs.Sizes.{Sizes}
-use Rattle.rb_base.specs.declared.values.Heard.{Heard}
-use Rattle.rb_base.specs.declared.values.Heard.TheVariants.{Fault}
-use Rattle.rb_base.proofs.Counts.{count_if-append}
-use Rattle.rb_base.proofs.Plain.{eq_self}
+use Rattle.rb_base.specs.{Counting.{count_if, numbers}, Nodes.has, Sizes.Sizes, declared.values.Heard.Heard, declared.values.Heard.TheVariants.Fault}
+use Rattle.rb_base.proofs.{Counts.count_if-append, Plain.eq_self}
 use Rattle.rb_rules.specs.Owners.{owners_in_pass, owners_of, request_in}
 use Rattle.rb_laws_promise.specs.Shares.{slots_of}
 

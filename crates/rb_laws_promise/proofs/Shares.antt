@@ -1,28 +1,9 @@
 -- Each good BIU gets its share: the schedule of the abstract bus gives it, and good nodes hold that
 -- schedule.
-use Rattle.std.proofs.Common.{◌≡◌, ℕ, zero, suc, ◌+◌, ◌*◌, ◌<◌, ◌≤◌, ◌==◌, nat_lt, Bool, true, false, inl, inr, List, [], ◌∷◌, ◌++◌, length, get_or, if◌then◌else◌, refl, sym, ◌∙◌, ap, subst, arith}
-use Rattle.std.proofs.lemmas.Bool.{cases_lt, cases_order, ltb-true}
-use Rattle.std.proofs.lemmas.Bool.Decides.{nat_tests}
-use Rattle.std.proofs.lemmas.List.{length-append}
-use Rattle.std.proofs.Math.ListN.{get_or-append}
-use Rattle.std.proofs.Math.Nat.{mul-le-mul_right}
-use Rattle.std.proofs.Math.Seq.{get_or-append_seam}
-use Rattle.rb_base.specs.Nodes.{has}
-use Rattle.rb_base.specs.Nodes.Side.{Biu}
-use Rattle.rb_base.specs.Sizes.{sync_slot_of}
-use Rattle.rb_base.specs.declared.values.Heard.{Heard}
-use Rattle.rb_base.specs.declared.values.Heard.TheVariants.{Word, Fault}
+use Rattle.std.proofs.{Common.{◌≡◌, ℕ, zero, suc, ◌+◌, ◌*◌, ◌<◌, ◌≤◌, ◌==◌, nat_lt, Bool, true, false, inl, inr, List, [], ◌∷◌, ◌++◌, length, get_or, if◌then◌else◌, refl, sym, ◌∙◌, ap, subst, arith}, lemmas.Bool.{cases_lt, cases_order, ltb-true}, lemmas.Bool.Decides.nat_tests, lemmas.List.length-append, Math.ListN.get_or-append, Math.Nat.mul-le-mul_right, Math.Seq.get_or-append_seam}
+use Rattle.rb_base.specs.{Nodes.has, Nodes.Side.Biu, Sizes.sync_slot_of, declared.values.Heard.Heard, declared.values.Heard.TheVariants.{Word, Fault}}
 use Rattle.rb_base.proofs.Plain.{eq_self, times-more}
-use Rattle.rb_rules.specs.declared.role.Role.TheVariants.{Schedule}
-use Rattle.rb_rules.specs.AbstractBus.{AbstractBus, FrameStep, IsRun, IsStep, MayHave, SlotStep}
-use Rattle.rb_rules.specs.Goodness.{Scenario, is_good}
-use Rattle.rb_rules.specs.Lawful.{IsLawful}
-use Rattle.rb_rules.specs.Moments.{IsComplete, offered_in}
-use Rattle.rb_rules.specs.Owners.{owners_of, request_in}
-use Rattle.rb_rules.specs.Ports.{HandIn}
-use Rattle.rb_rules.specs.Slots.{role_of, sender_in}
-use Rattle.rb_rules.specs.Slots.Sender.{Nobody, Node}
-use Rattle.rb_rules.specs.StandsFor.{StandsFor, steps_to}
+use Rattle.rb_rules.specs.{declared.role.Role.TheVariants.Schedule, AbstractBus.{AbstractBus, FrameStep, IsRun, IsStep, MayHave, SlotStep}, Goodness.{Scenario, is_good}, Lawful.IsLawful, Moments.{IsComplete, offered_in}, Owners.{owners_of, request_in}, Ports.HandIn, Slots.{role_of, sender_in}, Slots.Sender.{Nobody, Node}, StandsFor.{StandsFor, steps_to}}
 use Rattle.rb_rules.proofs.Slots.{schedule_role}
 use Rattle.rb_laws_agreement.proofs.Goodnesses.{good_counts, good_earlier}
 use Rattle.rb_laws_events.proofs.NodesAreTheBus.{stands-for}

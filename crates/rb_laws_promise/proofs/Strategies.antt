@@ -1,34 +1,12 @@
 -- The promise is kept whatever faulty nodes do: by any function, and against every strategy.
-use Rattle.std.proofs.Common.{◌≡◌, ℕ, zero, suc, ◌+◌, ◌-◌, ◌*◌, ◌<◌, ◌==◌, ◌&&◌, nat_le, nat_lt, Bool, true, false, List, ◌∷◌, filter, map, Option, Some, None, option_map, option_to_list, get_or, slice_get, refl, sym, ◌∙◌, ap, subst, arith}
-use mathlib.Core.Path.{fun_ext}
-use Rattle.std.proofs.lemmas.Bool.{and_parts, ltb-true}
-use Rattle.rb_base.specs.Nodes.{Side, other}
-use Rattle.rb_base.specs.Nodes.Side.{Biu, Rmu}
-use Rattle.rb_base.specs.Sizes.{Sizes}
-use Rattle.rb_base.specs.declared.values.Place.{Place}
-use Rattle.rb_rules.specs.declared.plan.Window.{Window}
-use Rattle.rb_rules.specs.declared.role.Role.{Role}
-use Rattle.rb_rules.specs.declared.role.Role.TheVariants.{Schedule, Data, DiagBiu, DiagRmu, Sync}
-use Rattle.rb_rules.specs.Behavior.{Behavior, Said}
-use Rattle.rb_rules.specs.Book.{Book, Each, Row, after_verdict, of_kind, map_each, trusted_by, see_in, in_order, with_end, with_frame, with_stage}
-use Rattle.rb_rules.specs.ExactStage.{at_source, keep_sent, present}
-use Rattle.rb_rules.specs.Goodness.{Scenario, good_at, is_good}
-use Rattle.rb_rules.specs.Hearing.{Coming, Sending, Span, coming_of, heard_from, is_heard, said_by, sending, span_of, word_for}
-use Rattle.rb_rules.specs.Judging.{JudgedStage, verdict_of}
-use Rattle.rb_rules.specs.Lawful.{IsLawful, IsOnsetOf}
-use Rattle.rb_rules.specs.NodeState.{NodeState}
-use Rattle.rb_rules.specs.Ports.{HandIn, PortState}
-use Rattle.rb_rules.specs.Rounds.{Moment, Result, after_window, begin_frame, book_after, close_on, go_through, heard_at, move_on, moment, next_frame, ports_after, results_of, sending_in, sent_in, step, window_in, windows_in, word_for_window}
-use Rattle.rb_rules.specs.Slots.{role_of}
-use Rattle.rb_rules.specs.Windows.{windows_of_frame}
+use Rattle.std.proofs.{Common.{◌≡◌, ℕ, zero, suc, ◌+◌, ◌-◌, ◌*◌, ◌<◌, ◌==◌, ◌&&◌, nat_le, nat_lt, Bool, true, false, List, ◌∷◌, filter, map, Option, Some, None, option_map, option_to_list, get_or, slice_get, refl, sym, ◌∙◌, ap, subst, arith}, lemmas.Bool.{and_parts, ltb-true}}
+use Rattle.rb_base.specs.{Nodes.{Side, other}, Nodes.Side.{Biu, Rmu}, Sizes.Sizes, declared.values.Place.Place}
+use Rattle.rb_rules.specs.{declared.plan.Window.Window, declared.role.Role.Role, declared.role.Role.TheVariants.{Schedule, Data, DiagBiu, DiagRmu, Sync}, Behavior.{Behavior, Said}, Book.{Book, Each, Row, after_verdict, of_kind, map_each, trusted_by, see_in, in_order, with_end, with_frame, with_stage}, ExactStage.{at_source, keep_sent, present}, Goodness.{Scenario, good_at, is_good}, Hearing.{Coming, Sending, Span, coming_of, heard_from, is_heard, said_by, sending, span_of, word_for}, Judging.{JudgedStage, verdict_of}, Lawful.{IsLawful, IsOnsetOf}, NodeState.NodeState, Ports.{HandIn, PortState}, Rounds.{Moment, Result, after_window, begin_frame, book_after, close_on, go_through, heard_at, move_on, moment, next_frame, ports_after, results_of, sending_in, sent_in, step, window_in, windows_in, word_for_window}, Slots.role_of, Windows.windows_of_frame}
 use Rattle.rb_laws_agreement.proofs.ExactAgrees.{has_ticks}
-use Rattle.rb_laws_events.proofs.CoreStates.{window-place}
-use Rattle.rb_laws_events.proofs.EachAlike.{each-alike}
-use Rattle.rb_laws_events.proofs.MomentBooks.{number-of}
-use Rattle.rb_laws_events.proofs.RoundNodes.{AllStand, moments-stand, slot-is, slot_numbered}
-use Rattle.rb_laws_promise.specs.Promise.{AnyBehaviorKeepsThePromise, behaving}
-use Rattle.rb_laws_promise.specs.Strategies.{Strategy, StrategiesGainNothing, moment_against}
+use Rattle.rb_laws_events.proofs.{CoreStates.window-place, EachAlike.each-alike, MomentBooks.number-of, RoundNodes.{AllStand, moments-stand, slot-is, slot_numbered}}
+use Rattle.rb_laws_promise.specs.{Promise.{AnyBehaviorKeepsThePromise, behaving}, Strategies.{Strategy, StrategiesGainNothing, moment_against}}
 use Rattle.rb_laws_promise.proofs.Whole.{kept}
+use mathlib.Core.Path.{fun_ext}
 
 -- Any function.
 

@@ -1,10 +1,8 @@
 -- The whole promise, from its parts.
-use Rattle.rb_laws_events.proofs.NodesAreTheBus.{stands-for}
-use Rattle.rb_laws_events.proofs.NodesPromise.{keep-the-promise}
+use Rattle.rb_laws_events.proofs.{NodesAreTheBus.stands-for, NodesPromise.keep-the-promise}
 use Rattle.rb_laws_groups.proofs.Rightness.{records-right}
 use Rattle.rb_laws_promise.specs.Promise.{RunsKeepThePromise}
-use Rattle.rb_laws_promise.proofs.Promise.{promise}
-use Rattle.rb_laws_promise.proofs.Shares.{shares-kept}
+use Rattle.rb_laws_promise.proofs.{Promise.promise, Shares.shares-kept}
 
 pub kept : RunsKeepThePromise
 kept sc hands law = record {

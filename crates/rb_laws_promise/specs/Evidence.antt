@@ -1,18 +1,7 @@
 -- The direct evidence that each node finds in a run, and whom it accuses by it.
 use Rattle.std.specs.Prelude.{ℕ, ◌≡◌, ◌<◌, ◌≤◌, ◌↔◌, Bool, true, false, List, map}
 use Rattle.rb_base.specs.Nodes.{Side, has}
-use Rattle.rb_rules.specs.declared.sense.Sense.{Sense}
-use Rattle.rb_rules.specs.Goodness.{Scenario, clock_of}
-use Rattle.rb_rules.specs.Hearing.{arrival_of}
-use Rattle.rb_rules.specs.Lawful.{IsLawful}
-use Rattle.rb_rules.specs.NodeState.{NodeState, sender_at}
-use Rattle.rb_rules.specs.NodeSteps.{expect_of}
-use Rattle.rb_rules.specs.Ports.{HandIn}
-use Rattle.rb_rules.specs.Probation.{has_lapsed, StandsForNewest}
-use Rattle.rb_rules.specs.Rounds.{Moment, IsGoodIn, window_in, windows_in, sent_in, heard_at, moment}
-use Rattle.rb_rules.specs.Sense.{sense_of}
-use Rattle.rb_rules.specs.Slots.{expects, role_of}
-use Rattle.rb_rules.specs.Standing.{Standing, has_evidence}
+use Rattle.rb_rules.specs.{declared.sense.Sense.Sense, Goodness.{Scenario, clock_of}, Hearing.arrival_of, Lawful.IsLawful, NodeState.{NodeState, sender_at}, NodeSteps.expect_of, Ports.HandIn, Probation.{has_lapsed, StandsForNewest}, Rounds.{Moment, IsGoodIn, window_in, windows_in, sent_in, heard_at, moment}, Sense.sense_of, Slots.{expects, role_of}, Standing.{Standing, has_evidence}}
 
 -- In a window.
 

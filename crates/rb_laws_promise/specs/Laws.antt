@@ -1,10 +1,6 @@
 -- What the bus promises, and that it is one machine to those who use it.
 use Rattle.std.specs.Prelude.{List}
-use Rattle.rb_rules.specs.Goodness.{Scenario}
-use Rattle.rb_rules.specs.Headline.{Headline}
-use Rattle.rb_rules.specs.Lawful.{IsLawful}
-use Rattle.rb_rules.specs.Ports.{HandIn}
-use Rattle.rb_rules.specs.StandsFor.{StandsFor}
+use Rattle.rb_rules.specs.{Goodness.Scenario, Headline.Headline, Lawful.IsLawful, Ports.HandIn, StandsFor.StandsFor}
 
 -- the rounds of every lawful scenario stand for a run of the abstract bus, whatever is handed in
 abbrev pub RoundsStandForTheBus : Type 0

@@ -1,12 +1,6 @@
 -- All that a run of the bus promises.
 use Rattle.std.specs.Prelude.{All, List}
-use Rattle.rb_rules.specs.Behavior.{Behavior}
-use Rattle.rb_rules.specs.Goodness.{Scenario}
-use Rattle.rb_rules.specs.Headline.{Headline}
-use Rattle.rb_rules.specs.Lawful.{IsLawful}
-use Rattle.rb_rules.specs.Ports.{HandIn}
-use Rattle.rb_rules.specs.Rounds.{records_of}
-use Rattle.rb_rules.specs.StandsFor.{StandsFor}
+use Rattle.rb_rules.specs.{Behavior.Behavior, Goodness.Scenario, Headline.Headline, Lawful.IsLawful, Ports.HandIn, Rounds.records_of, StandsFor.StandsFor}
 use Rattle.rb_laws_events.specs.Promise.{RunningNodesKeepThePromise}
 use Rattle.rb_laws_groups.specs.Lines.{IsRight}
 use Rattle.rb_laws_promise.specs.Shares.{GetTheirShare}

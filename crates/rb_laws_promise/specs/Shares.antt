@@ -1,14 +1,7 @@
 -- The data slots that each good BIU is sure of.
 use Rattle.std.specs.Prelude.{ℕ, ◌≡◌, ◌/◌, ◌≤◌, ◌==◌, min, true, List, get_or}
-use Rattle.rb_base.specs.Counting.{count_if}
-use Rattle.rb_base.specs.Nodes.{Side}
-use Rattle.rb_base.specs.Nodes.Side.{Biu}
-use Rattle.rb_base.specs.Sizes.{sync_slot_of}
-use Rattle.rb_rules.specs.Goodness.{Scenario, is_good}
-use Rattle.rb_rules.specs.Lawful.{IsLawful}
-use Rattle.rb_rules.specs.Moments.{IsComplete, IsGoodBefore}
-use Rattle.rb_rules.specs.NodeState.{NodeState}
-use Rattle.rb_rules.specs.Ports.{HandIn}
+use Rattle.rb_base.specs.{Counting.count_if, Nodes.Side, Nodes.Side.Biu, Sizes.sync_slot_of}
+use Rattle.rb_rules.specs.{Goodness.{Scenario, is_good}, Lawful.IsLawful, Moments.{IsComplete, IsGoodBefore}, NodeState.NodeState, Ports.HandIn}
 
 -- how many of the owners are BIU i
 abbrev pub slots_of : ℕ → List ℕ → ℕ

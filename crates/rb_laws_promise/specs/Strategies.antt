@@ -1,10 +1,6 @@
 -- What faulty nodes do may answer to all that was before: strategies.
 use Rattle.std.specs.Prelude.{ℕ, zero, suc, ◌≡◌, List}
-use Rattle.rb_rules.specs.Behavior.{Behavior}
-use Rattle.rb_rules.specs.Goodness.{Scenario}
-use Rattle.rb_rules.specs.Lawful.{IsLawful}
-use Rattle.rb_rules.specs.Ports.{HandIn}
-use Rattle.rb_rules.specs.Rounds.{Moment, first_moment, moment, step}
+use Rattle.rb_rules.specs.{Behavior.Behavior, Goodness.Scenario, Lawful.IsLawful, Ports.HandIn, Rounds.{Moment, first_moment, moment, step}}
 use Rattle.rb_laws_promise.specs.Promise.{KeepsThePromise, behaving}
 
 -- A strategy chooses what faulty nodes do in a window by the moment before it: by the states of all

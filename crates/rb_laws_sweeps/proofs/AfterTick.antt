@@ -1,37 +1,10 @@
 -- A node that takes its tick: all that comes to it afterwards comes later, and its next tick too.
-use Rattle.std.proofs.Common.{◌≡◌, ℕ, zero, suc, ◌+◌, ◌-◌, ◌^◌, ◌<◌, ◌≤◌, ◌==◌, Bool, true, false, List, [], ◌∷◌, ◌++◌, refl, ap, sym, ◌∙◌, subst, arith, inl, inr, Option, Some, None, option_map, slice_get}
-use Rattle.std.proofs.lemmas.Bool.{eqb-true}
-use Rattle.std.proofs.lemmas.Option.{same_Some, slice_get_within}
-use Rattle.rb_base.specs.Nodes.{Side}
-use Rattle.rb_base.specs.Sizes.{Sizes}
+use Rattle.std.proofs.{Common.{◌≡◌, ℕ, zero, suc, ◌+◌, ◌-◌, ◌^◌, ◌<◌, ◌≤◌, ◌==◌, Bool, true, false, List, [], ◌∷◌, ◌++◌, refl, ap, sym, ◌∙◌, subst, arith, inl, inr, Option, Some, None, option_map, slice_get}, lemmas.Bool.eqb-true, lemmas.Option.{same_Some, slice_get_within}}
+use Rattle.rb_base.specs.{Nodes.Side, Sizes.Sizes}
 use Rattle.rb_base.proofs.Plain.{true-false}
-use Rattle.rb_rules.specs.declared.plan.Plan.{Plan}
-use Rattle.rb_rules.specs.Book.{of_kind}
-use Rattle.rb_rules.specs.Clock.{time_of}
-use Rattle.rb_rules.specs.Core.{Act, Core, next_tick, pass_to, state_at, window_here}
-use Rattle.rb_rules.specs.Goodness.{Scenario, clock_of, is_good}
-use Rattle.rb_rules.specs.Hearing.{Coming, Span, span_of}
-use Rattle.rb_rules.specs.Lawful.{IsLawful}
-use Rattle.rb_rules.specs.NodeState.{NodeState}
-use Rattle.rb_rules.specs.Ports.{PortState}
-use Rattle.rb_rules.specs.Slots.{count_of}
-use Rattle.rb_rules.specs.WorldStep.{Choice, Due, Site, Timed, World, after_act, await, due_of, enter, pass_and_tick, proceed, says_in, span_from, stop, take, wants_in, with_close, with_epoch, word_of, world_after}
-use Rattle.rb_rules.specs.WorldStep.Choice.{Take}
-use Rattle.rb_rules.specs.WorldStep.Pending.{Tick}
+use Rattle.rb_rules.specs.{declared.plan.Plan.Plan, Book.of_kind, Clock.time_of, Core.{Act, Core, next_tick, pass_to, state_at, window_here}, Goodness.{Scenario, clock_of, is_good}, Hearing.{Coming, Span, span_of}, Lawful.IsLawful, NodeState.NodeState, Ports.PortState, Slots.count_of, WorldStep.{Choice, Due, Site, Timed, World, after_act, await, due_of, enter, pass_and_tick, proceed, says_in, span_from, stop, take, wants_in, with_close, with_epoch, word_of, world_after}, WorldStep.Choice.Take, WorldStep.Pending.Tick}
 use Rattle.rb_rules.proofs.Drift.{times_rise_strictly}
-use Rattle.rb_laws_events.proofs.BreakNodes.{KeepsNodes}
-use Rattle.rb_laws_events.proofs.BreakOff.{BreakStands}
-use Rattle.rb_laws_events.proofs.DueEvents.{IsDue, every-append}
-use Rattle.rb_laws_events.proofs.EventsHold.{any, keeps, nodes_at, ticks-left}
-use Rattle.rb_laws_events.proofs.EveryWorld.{AnyWorld, after-more, due-going}
-use Rattle.rb_laws_events.proofs.OneEvent.{all-pend, up-there}
-use Rattle.rb_laws_events.proofs.OneTake.{StandsInRounds}
-use Rattle.rb_laws_events.proofs.Receiving.{passed-had}
-use Rattle.rb_laws_events.proofs.RunsEnd.{HasTicksLeft}
-use Rattle.rb_laws_events.proofs.SameHeard.{Every}
-use Rattle.rb_laws_events.proofs.Takes.{busy-later, close-same, epoch-same, tick-had}
-use Rattle.rb_laws_events.proofs.WorldNodes.{NodesKnown, events-due, worlds-known}
-use Rattle.rb_laws_events.proofs.WorldStands.{AllPend, IsUp, sent_by}
+use Rattle.rb_laws_events.proofs.{BreakNodes.KeepsNodes, BreakOff.BreakStands, DueEvents.{IsDue, every-append}, EventsHold.{any, keeps, nodes_at, ticks-left}, EveryWorld.{AnyWorld, after-more, due-going}, OneEvent.{all-pend, up-there}, OneTake.StandsInRounds, Receiving.passed-had, RunsEnd.HasTicksLeft, SameHeard.Every, Takes.{busy-later, close-same, epoch-same, tick-had}, WorldNodes.{NodesKnown, events-due, worlds-known}, WorldStands.{AllPend, IsUp, sent_by}}
 use Rattle.rb_laws_sweeps.specs.AheadOf.{after_takes}
 use Rattle.rb_laws_sweeps.proofs.SentLater.{node-moves, says-later}
 

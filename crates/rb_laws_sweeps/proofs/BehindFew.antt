@@ -1,31 +1,12 @@
 -- What is pending behind is few.
-use Rattle.std.proofs.Common.{◌≡◌, ℕ, ◌+◌, ◌≤◌, Bool, true, false, List, [], ◌∷◌, cond, filter, length, length-append, refl, ap, ◌∙◌, arith, inl, inr, Some, option_map, slice_get}
-use Rattle.std.proofs.lemmas.Bool.{lt-ltb}
-use Rattle.rb_base.specs.Nodes.{Side, other}
-use Rattle.rb_base.specs.Sizes.{Sizes}
-use Rattle.rb_rules.specs.Book.{of_kind}
-use Rattle.rb_rules.specs.Entries.{IsListed}
-use Rattle.rb_rules.specs.Goodness.{Scenario}
-use Rattle.rb_rules.specs.Hearing.{Coming}
-use Rattle.rb_rules.specs.Lawful.{IsLawful}
-use Rattle.rb_rules.specs.Slots.{count_of}
-use Rattle.rb_rules.specs.WorldStep.{Choice, Site, World, after_arrival, times_of, world_after}
+use Rattle.std.proofs.{Common.{◌≡◌, ℕ, ◌+◌, ◌≤◌, Bool, true, false, List, [], ◌∷◌, cond, filter, length, length-append, refl, ap, ◌∙◌, arith, inl, inr, Some, option_map, slice_get}, lemmas.Bool.lt-ltb}
+use Rattle.rb_base.specs.{Nodes.{Side, other}, Sizes.Sizes}
+use Rattle.rb_rules.specs.{Book.of_kind, Entries.IsListed, Goodness.Scenario, Hearing.Coming, Lawful.IsLawful, Slots.count_of, WorldStep.{Choice, Site, World, after_arrival, times_of, world_after}}
 use Rattle.rb_rules.proofs.WindowNumbers.{get-each}
 use Rattle.rb_laws_events.specs.PendingEvents.{most_coming, most_pending}
-use Rattle.rb_laws_events.proofs.EveryWorld.{AnyWorld, any-after}
-use Rattle.rb_laws_events.proofs.FewPending.{times-many}
-use Rattle.rb_laws_events.proofs.OneTake.{StandsInRounds}
-use Rattle.rb_laws_events.proofs.TickRooms.{has-room}
-use Rattle.rb_laws_events.proofs.WorldNodes.{Known}
-use Rattle.rb_laws_events.proofs.WorldStands.{IsUp, sent_by}
-use Rattle.rb_laws_sweeps.specs.Room.{PendingBehindIsFew}
-use Rattle.rb_laws_sweeps.specs.Sweeping.{Placed, first_of, swept}
-use Rattle.rb_laws_sweeps.proofs.Firsts.{first-stands, length-without}
-use Rattle.rb_laws_sweeps.proofs.GoesOn.{sweep_to}
-use Rattle.rb_laws_sweeps.proofs.GotKnown.{worlds-got}
-use Rattle.rb_laws_sweeps.proofs.HadOff.{had-keeps, had_at, rooms-had}
-use Rattle.rb_laws_sweeps.proofs.HadThere.{had-where-it-stands, had_of, is_known}
-use Rattle.rb_laws_sweeps.proofs.Sweeps.{sweep-of, sweep-stays, sweep-takes, sweeps-keep}
+use Rattle.rb_laws_events.proofs.{EveryWorld.{AnyWorld, any-after}, FewPending.times-many, OneTake.StandsInRounds, TickRooms.has-room, WorldNodes.Known, WorldStands.{IsUp, sent_by}}
+use Rattle.rb_laws_sweeps.specs.{Room.PendingBehindIsFew, Sweeping.{Placed, first_of, swept}}
+use Rattle.rb_laws_sweeps.proofs.{Firsts.{first-stands, length-without}, GoesOn.sweep_to, GotKnown.worlds-got, HadOff.{had-keeps, had_at, rooms-had}, HadThere.{had-where-it-stands, had_of, is_known}, Sweeps.{sweep-of, sweep-stays, sweep-takes, sweeps-keep}}
 
 -- a sweep loses nothing
 arrival-many : (sc : Scenario) (me : Side) (i : ℕ) (s : Site) (p : Placed) → first_of s.coming ≡ Some p

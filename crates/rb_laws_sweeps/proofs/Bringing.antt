@@ -1,29 +1,12 @@
 -- What a sweep brings and leaves.
-use Rattle.std.proofs.Common.{◌≡◌, ℕ, zero, suc, ◌+◌, ◌<◌, ◌≤◌, ◌^◌, ◌==◌, ◌&&◌, max, not, nat_lt, nat_le, Bool, true, false, List, [], ◌∷◌, ◌++◌, map, filter, remove, length, length-append, append_assoc, refl, sym, ◌∙◌, ap, subst, arith, cond, Some}
-use Rattle.std.proofs.lemmas.Bool.Decides.{nat_tests}
-use Rattle.std.proofs.lemmas.List.{append-nil, length-map, map-append}
-use Rattle.std.proofs.lemmas.List.Elements.{filter-append}
-use Rattle.rb_base.specs.Nodes.{Side, other}
-use Rattle.rb_base.specs.Sizes.{Sizes}
+use Rattle.std.proofs.{Common.{◌≡◌, ℕ, zero, suc, ◌+◌, ◌<◌, ◌≤◌, ◌^◌, ◌==◌, ◌&&◌, max, not, nat_lt, nat_le, Bool, true, false, List, [], ◌∷◌, ◌++◌, map, filter, remove, length, length-append, append_assoc, refl, sym, ◌∙◌, ap, subst, arith, cond, Some}, lemmas.Bool.Decides.nat_tests, lemmas.List.{append-nil, length-map, map-append}, lemmas.List.Elements.filter-append}
+use Rattle.rb_base.specs.{Nodes.{Side, other}, Sizes.Sizes}
 use Rattle.rb_base.proofs.Plain.{and-false, and-true, max-less}
-use Rattle.rb_rules.specs.Clock.{stamp_of}
-use Rattle.rb_rules.specs.Core.{Core, arrive, is_spent, of_source, pass_to}
-use Rattle.rb_rules.specs.Goodness.{Scenario, clock_of}
-use Rattle.rb_rules.specs.Hearing.{Coming}
-use Rattle.rb_rules.specs.Sense.{Arrival}
-use Rattle.rb_rules.specs.Slots.{count_of}
-use Rattle.rb_rules.specs.WorldStep.{Site, after_arrival, coming_from}
+use Rattle.rb_rules.specs.{Clock.stamp_of, Core.{Core, arrive, is_spent, of_source, pass_to}, Goodness.{Scenario, clock_of}, Hearing.Coming, Sense.Arrival, Slots.count_of, WorldStep.{Site, after_arrival, coming_from}}
 use Rattle.rb_rules.proofs.QuietTicks.{arrive-same}
-use Rattle.rb_laws_events.proofs.PendingLists.{StandsAt, same_others}
-use Rattle.rb_laws_events.proofs.SameHeard.{Every}
-use Rattle.rb_laws_events.proofs.DueEvents.{every-weaker}
-use Rattle.rb_laws_events.proofs.Receiving.{every-stands, every-without}
-use Rattle.rb_laws_events.proofs.SayLists.{filter-all, filter-no}
-use Rattle.rb_laws_sweeps.specs.Brought.{BringsArrivals, BringsComings, CameTogether, IsHeardIfDue, SweepsBring, due_from}
-use Rattle.rb_laws_sweeps.specs.Laws.{SweepsFrom}
-use Rattle.rb_laws_sweeps.specs.Sweeping.{Placed, first_of, swept}
-use Rattle.rb_laws_sweeps.proofs.Firsts.{first-stands}
-use Rattle.rb_laws_sweeps.proofs.Sweeps.{all-every, sweep-of, sweep-stays, sweep-takes, sweeps-keep}
+use Rattle.rb_laws_events.proofs.{PendingLists.{StandsAt, same_others}, SameHeard.Every, DueEvents.every-weaker, Receiving.{every-stands, every-without}, SayLists.{filter-all, filter-no}}
+use Rattle.rb_laws_sweeps.specs.{Brought.{BringsArrivals, BringsComings, CameTogether, IsHeardIfDue, SweepsBring, due_from}, Laws.SweepsFrom, Sweeping.{Placed, first_of, swept}}
+use Rattle.rb_laws_sweeps.proofs.{Firsts.first-stands, Sweeps.{all-every, sweep-of, sweep-stays, sweep-takes, sweeps-keep}}
 
 -- Lists by a test.
 

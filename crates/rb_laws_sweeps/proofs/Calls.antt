@@ -1,17 +1,9 @@
 -- What a call does besides takes.
 use Rattle.std.proofs.Common.{◌≡◌, ◌≤◌, Bool, true, false, List, [], ◌∷◌, ap, ◌∙◌, refl, arith}
-use Rattle.rb_rules.specs.Hearing.{Coming}
-use Rattle.rb_rules.specs.WorldStep.{World, go_on, settle}
-use Rattle.rb_rules.specs.WorldStep.Way.{ByItself}
-use Rattle.rb_laws_events.proofs.SameHeard.{Every}
-use Rattle.rb_laws_sweeps.specs.AheadOf.{ahead_of}
-use Rattle.rb_laws_sweeps.specs.Laws.{GoOnPassesASweep, NobodyIsAhead}
-use Rattle.rb_laws_sweeps.specs.Sweeping.{swept}
-use Rattle.rb_laws_events.proofs.EachAlike.{each-alike}
-use Rattle.rb_laws_sweeps.proofs.EachNode.{each-itself}
-use Rattle.rb_laws_sweeps.proofs.GoesOn.{sweep_to, swept-told}
-use Rattle.rb_laws_sweeps.proofs.Settles.{settle-changed}
-use Rattle.rb_laws_sweeps.proofs.Sweeps.{sweep-stays}
+use Rattle.rb_rules.specs.{Hearing.Coming, WorldStep.{World, go_on, settle}, WorldStep.Way.ByItself}
+use Rattle.rb_laws_events.proofs.{SameHeard.Every, EachAlike.each-alike}
+use Rattle.rb_laws_sweeps.specs.{AheadOf.ahead_of, Laws.{GoOnPassesASweep, NobodyIsAhead}, Sweeping.swept}
+use Rattle.rb_laws_sweeps.proofs.{EachNode.each-itself, GoesOn.{sweep_to, swept-told}, Settles.settle-changed, Sweeps.sweep-stays}
 
 pub at-any-time : (cs : List Coming) → Every (λ c. 0 ≤ c.time) cs
 at-any-time [] = tt

@@ -1,28 +1,11 @@
 -- The first due event of a world: the first arrival, or the first tick.
-use Rattle.std.proofs.Common.{◌≡◌, ℕ, zero, suc, ◌+◌, ◌<◌, ◌≤◌, ◌==◌, ◌||◌, ◌⊎◌, Bool, true, false, List, [], ◌∷◌, ◌++◌, append_assoc, flat_map, refl, ap, sym, ◌∙◌, subst, arith, inl, inr, Option, Some, None, slice_get}
-use Rattle.std.proofs.lemmas.Bool.{cases_lt, eq-eqb, ltb-true}
-use Rattle.std.proofs.lemmas.Bool.Decides.{nat_tests}
-use Rattle.std.proofs.lemmas.Option.{same_Some}
-use Rattle.rb_base.specs.Nodes.{Side}
-use Rattle.rb_base.specs.Nodes.Side.{Biu, Rmu}
+use Rattle.std.proofs.{Common.{◌≡◌, ℕ, zero, suc, ◌+◌, ◌<◌, ◌≤◌, ◌==◌, ◌||◌, ◌⊎◌, Bool, true, false, List, [], ◌∷◌, ◌++◌, append_assoc, flat_map, refl, ap, sym, ◌∙◌, subst, arith, inl, inr, Option, Some, None, slice_get}, lemmas.Bool.{cases_lt, eq-eqb, ltb-true}, lemmas.Bool.Decides.nat_tests, lemmas.Option.same_Some}
+use Rattle.rb_base.specs.{Nodes.Side, Nodes.Side.{Biu, Rmu}}
 use Rattle.rb_base.proofs.Plain.{append-none}
-use Rattle.rb_rules.specs.Book.{in_order, map_from, of_kind}
-use Rattle.rb_rules.specs.Goodness.{Scenario}
-use Rattle.rb_rules.specs.WorldStep.{Due, Site, Timed, World, due_at, due_of, least, needs_no_event, ready_at, tick_at, times_of}
-use Rattle.rb_rules.specs.WorldStep.Pending.{Arrival, Tick}
-use Rattle.rb_laws_events.proofs.DueEvents.{every-weaker, least-of, some-due}
-use Rattle.rb_laws_events.proofs.NodeEvents.{all-after, tick-after}
-use Rattle.rb_laws_events.proofs.OneEvent.{all-pend}
-use Rattle.rb_laws_events.proofs.Progress.{some-time}
-use Rattle.rb_laws_events.proofs.SameHeard.{Every}
-use Rattle.rb_laws_events.proofs.WorldStands.{AllPend}
-use Rattle.rb_laws_events.proofs.Behind.{pend-of}
-use Rattle.rb_laws_sweeps.specs.AheadOf.{IsFirstTick, is_behind, until_tick}
-use Rattle.rb_laws_sweeps.specs.Laws.{NeedsEvent}
-use Rattle.rb_laws_sweeps.specs.Sweeping.{Placed, first_of}
-use Rattle.rb_laws_sweeps.proofs.EachNode.{nodes-order, until-behind, until-not}
-use Rattle.rb_laws_sweeps.proofs.OpenWorlds.{Goes}
-use Rattle.rb_laws_sweeps.proofs.ReadyFirst.{Begins, FirstMade, ReadyFirst, first-made, head-same, ready-first}
+use Rattle.rb_rules.specs.{Book.{in_order, map_from, of_kind}, Goodness.Scenario, WorldStep.{Due, Site, Timed, World, due_at, due_of, least, needs_no_event, ready_at, tick_at, times_of}, WorldStep.Pending.{Arrival, Tick}}
+use Rattle.rb_laws_events.proofs.{DueEvents.{every-weaker, least-of, some-due}, NodeEvents.{all-after, tick-after}, OneEvent.all-pend, Progress.some-time, SameHeard.Every, WorldStands.AllPend, Behind.pend-of}
+use Rattle.rb_laws_sweeps.specs.{AheadOf.{IsFirstTick, is_behind, until_tick}, Laws.NeedsEvent, Sweeping.{Placed, first_of}}
+use Rattle.rb_laws_sweeps.proofs.{EachNode.{nodes-order, until-behind, until-not}, OpenWorlds.Goes, ReadyFirst.{Begins, FirstMade, ReadyFirst, first-made, head-same, ready-first}}
 
 -- Lists.
 

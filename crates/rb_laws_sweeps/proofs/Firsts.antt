@@ -1,13 +1,7 @@
 -- The first of what comes to a node.
-use Rattle.std.proofs.Common.{◌≡◌, ℕ, zero, suc, ◌<◌, ◌≤◌, Bool, true, false, List, [], ◌∷◌, ◌++◌, length, remove, refl, ap, sym, ◌∙◌, subst, arith, Option, Some, None, if◌then◌else◌, ◌⊎◌, inl, inr}
-use Rattle.std.proofs.lemmas.Bool.{cases_lt}
-use Rattle.std.proofs.lemmas.Bool.Decides.{nat_tests}
-use Rattle.std.proofs.lemmas.Option.{same_Some}
+use Rattle.std.proofs.{Common.{◌≡◌, ℕ, zero, suc, ◌<◌, ◌≤◌, Bool, true, false, List, [], ◌∷◌, ◌++◌, length, remove, refl, ap, sym, ◌∙◌, subst, arith, Option, Some, None, if◌then◌else◌, ◌⊎◌, inl, inr}, lemmas.Bool.cases_lt, lemmas.Bool.Decides.nat_tests, lemmas.Option.same_Some}
 use Rattle.rb_rules.specs.Hearing.{Coming}
-use Rattle.rb_laws_events.proofs.PendingLists.{StandsAt}
-use Rattle.rb_laws_events.proofs.SameHeard.{Every}
-use Rattle.rb_laws_events.proofs.DueEvents.{every-append, every-weaker}
-use Rattle.rb_laws_events.proofs.Receiving.{every-stands}
+use Rattle.rb_laws_events.proofs.{PendingLists.StandsAt, SameHeard.Every, DueEvents.{every-append, every-weaker}, Receiving.every-stands}
 use Rattle.rb_laws_sweeps.specs.Sweeping.{Placed, comes_first, first_of, first_with}
 
 -- Tests.

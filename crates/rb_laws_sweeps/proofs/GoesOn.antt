@@ -1,40 +1,12 @@
 -- A world that is ahead of another goes on as its ticks alone make the other go on.
-use Rattle.std.proofs.Common.{◌≡◌, ℕ, suc, ◌+◌, ◌<◌, ◌≤◌, ◌⊎◌, ◌&&◌, Bool, true, false, List, [], ◌∷◌, ◌++◌, append_assoc, refl, ap, sym, ◌∙◌, subst, arith, inl, inr, Option, Some, None, option_map, slice_get, if◌then◌else◌}
-use Rattle.std.proofs.lemmas.Bool.{cases_lt}
-use Rattle.std.proofs.lemmas.List.{append-nil}
-use Rattle.std.proofs.lemmas.Option.{same_Some}
+use Rattle.std.proofs.{Common.{◌≡◌, ℕ, suc, ◌+◌, ◌<◌, ◌≤◌, ◌⊎◌, ◌&&◌, Bool, true, false, List, [], ◌∷◌, ◌++◌, append_assoc, refl, ap, sym, ◌∙◌, subst, arith, inl, inr, Option, Some, None, option_map, slice_get, if◌then◌else◌}, lemmas.Bool.cases_lt, lemmas.List.append-nil, lemmas.Option.same_Some}
 use Rattle.rb_base.specs.Nodes.{Side, other}
 use Rattle.rb_base.proofs.Plain.{option_map-back}
-use Rattle.rb_rules.specs.declared.message.Message.{Message}
-use Rattle.rb_rules.specs.Book.{Each, Record, map_each, of_kind}
-use Rattle.rb_rules.specs.Clock.{time_of}
-use Rattle.rb_rules.specs.Core.{Act}
-use Rattle.rb_rules.specs.Goodness.{Scenario, clock_of}
-use Rattle.rb_rules.specs.Hearing.{Sending, coming_of}
-use Rattle.rb_rules.specs.Lawful.{IsLawful}
-use Rattle.rb_rules.specs.Links.{name_of, same_node}
-use Rattle.rb_rules.specs.Slots.{same_side}
-use Rattle.rb_rules.specs.WorldStep.{Choice, Due, Site, Timed, World, after_act, at_node, due_of, event_of, happens, pass_and_tick, sent_to, settle, take, take_if_due, with_act, with_message, world_after}
-use Rattle.rb_rules.specs.WorldStep.Pending.{Tick}
-use Rattle.rb_rules.specs.WorldStep.Way.{ByAnEvent}
+use Rattle.rb_rules.specs.{declared.message.Message.Message, Book.{Each, Record, map_each, of_kind}, Clock.time_of, Core.Act, Goodness.{Scenario, clock_of}, Hearing.{Sending, coming_of}, Lawful.IsLawful, Links.{name_of, same_node}, Slots.same_side, WorldStep.{Choice, Due, Site, Timed, World, after_act, at_node, due_of, event_of, happens, pass_and_tick, sent_to, settle, take, take_if_due, with_act, with_message, world_after}, WorldStep.Pending.Tick, WorldStep.Way.ByAnEvent}
 use Rattle.rb_rules.proofs.WindowNumbers.{get-each}
-use Rattle.rb_laws_events.proofs.OneEvent.{happens-is}
-use Rattle.rb_laws_events.proofs.WorldNodes.{settle-sites}
-use Rattle.rb_laws_events.proofs.WorldStands.{get-at, is_node, node-is, node-itself}
-use Rattle.rb_laws_sweeps.specs.AheadOf.{GoesOnAhead, IsFirstTick, LeadsToTick, TellsAhead, after_takes, ahead_of, each_swept, is_behind, tick_alone, told_in, until_tick}
-use Rattle.rb_laws_sweeps.specs.Laws.{NeedsEvent, WorldsGoOnAhead}
-use Rattle.rb_laws_sweeps.specs.Sweeping.{swept}
-use Rattle.rb_laws_sweeps.specs.Told.{heard, told_alone, told_next, telling}
-use Rattle.rb_laws_sweeps.proofs.AfterTick.{Later, TicksNow, act-later, takes-are, ticks-now}
-use Rattle.rb_laws_events.proofs.EachAlike.{each-alike}
-use Rattle.rb_laws_sweeps.proofs.EachNode.{KeepsAhead, behind-so-on, first-changed, nodes-order, until-behind, until-least, until-most, until-not, until-own}
-use Rattle.rb_laws_sweeps.proofs.Hearing.{hearing-composes, hears-none, sent-unheard}
-use Rattle.rb_laws_sweeps.proofs.Leads.{leads-to-tick}
-use Rattle.rb_laws_sweeps.proofs.OpenWorlds.{Goes, goes-reached}
-use Rattle.rb_laws_sweeps.proofs.SentLater.{sent-passes}
-use Rattle.rb_laws_sweeps.proofs.Settles.{KeepsTold, each-fuse, settle-changed, settle-turn}
-use Rattle.rb_laws_sweeps.proofs.Sweeps.{all-every, sweep-stays, sweeps-compose, sweeps-keep}
-use Rattle.rb_laws_sweeps.proofs.Telling.{named-itself, same-named, told-one}
+use Rattle.rb_laws_events.proofs.{OneEvent.happens-is, WorldNodes.settle-sites, WorldStands.{get-at, is_node, node-is, node-itself}, EachAlike.each-alike}
+use Rattle.rb_laws_sweeps.specs.{AheadOf.{GoesOnAhead, IsFirstTick, LeadsToTick, TellsAhead, after_takes, ahead_of, each_swept, is_behind, tick_alone, told_in, until_tick}, Laws.{NeedsEvent, WorldsGoOnAhead}, Sweeping.swept, Told.{heard, told_alone, told_next, telling}}
+use Rattle.rb_laws_sweeps.proofs.{AfterTick.{Later, TicksNow, act-later, takes-are, ticks-now}, EachNode.{KeepsAhead, behind-so-on, first-changed, nodes-order, until-behind, until-least, until-most, until-not, until-own}, Hearing.{hearing-composes, hears-none, sent-unheard}, Leads.leads-to-tick, OpenWorlds.{Goes, goes-reached}, SentLater.sent-passes, Settles.{KeepsTold, each-fuse, settle-changed, settle-turn}, Sweeps.{all-every, sweep-stays, sweeps-compose, sweeps-keep}, Telling.{named-itself, same-named, told-one}}
 
 -- Sweeps of all nodes.
 

@@ -1,28 +1,10 @@
 -- In every world what came to a node came from nodes that there are.
-use Rattle.std.proofs.Common.{◌≡◌, ℕ, ◌<◌, ◌&&◌, Bool, true, false, List, [], ◌∷◌, ◌++◌, fold, length, refl, ap, sym, ◌∙◌, subst, arith, Option, Some, None, slice_get}
-use Rattle.std.proofs.lemmas.Option.{same_Some, slice_get_within}
+use Rattle.std.proofs.{Common.{◌≡◌, ℕ, ◌<◌, ◌&&◌, Bool, true, false, List, [], ◌∷◌, ◌++◌, fold, length, refl, ap, sym, ◌∙◌, subst, arith, Option, Some, None, slice_get}, lemmas.Option.{same_Some, slice_get_within}}
 use Rattle.rb_base.specs.Nodes.{Side, other}
 use Rattle.rb_base.proofs.Plain.{option_map-back}
-use Rattle.rb_rules.specs.declared.closing.Closed.{Closed}
-use Rattle.rb_rules.specs.declared.message.Message.{Message}
-use Rattle.rb_rules.specs.declared.record.Epoch.{Epoch}
-use Rattle.rb_rules.specs.Book.{Each, each_of, map_each, of_kind}
-use Rattle.rb_rules.specs.Core.{Act}
-use Rattle.rb_rules.specs.Goodness.{Scenario, is_good}
-use Rattle.rb_rules.specs.Hearing.{Sending, Span, coming_of}
-use Rattle.rb_rules.specs.Ports.{PortState}
-use Rattle.rb_rules.specs.Slots.{count_of, same_side}
-use Rattle.rb_rules.specs.WorldStep.{Choice, Due, Pending, Site, World, after_act, after_arrival, at_node, await, choose, due_of, enter, first_world, fresh_site, go_on, happens, pass_and_tick, proceed, says_in, sent_to, settle, span_from, stop, take, take_if_due, with_act, with_close, with_epoch, with_message, with_pending, world_after}
-use Rattle.rb_rules.specs.WorldStep.Choice.{GoOn, Hand, Take}
-use Rattle.rb_rules.specs.WorldStep.Pending.{Arrival, Tick}
-use Rattle.rb_rules.specs.WorldStep.Way.{ByAnEvent, ByItself}
+use Rattle.rb_rules.specs.{declared.closing.Closed.Closed, declared.message.Message.Message, declared.record.Epoch.Epoch, Book.{Each, each_of, map_each, of_kind}, Core.Act, Goodness.{Scenario, is_good}, Hearing.{Sending, Span, coming_of}, Ports.PortState, Slots.{count_of, same_side}, WorldStep.{Choice, Due, Pending, Site, World, after_act, after_arrival, at_node, await, choose, due_of, enter, first_world, fresh_site, go_on, happens, pass_and_tick, proceed, says_in, sent_to, settle, span_from, stop, take, take_if_due, with_act, with_close, with_epoch, with_message, with_pending, world_after}, WorldStep.Choice.{GoOn, Hand, Take}, WorldStep.Pending.{Arrival, Tick}, WorldStep.Way.{ByAnEvent, ByItself}}
 use Rattle.rb_rules.proofs.WindowNumbers.{get-each, get-made}
-use Rattle.rb_laws_events.proofs.DueEvents.{IsDue, IsReady, due-is}
-use Rattle.rb_laws_events.proofs.OneEvent.{happens-is}
-use Rattle.rb_laws_events.proofs.Receiving.{every-stands}
-use Rattle.rb_laws_events.proofs.WorldNodes.{Known, NodesKnown, choose-known, first-counts, first-known, known-append, settle-sites}
-use Rattle.rb_laws_events.proofs.WorldStands.{is_node, node-is}
-use Rattle.rb_laws_events.proofs.WorldBooks.{hand-leaves}
+use Rattle.rb_laws_events.proofs.{DueEvents.{IsDue, IsReady, due-is}, OneEvent.happens-is, Receiving.every-stands, WorldNodes.{Known, NodesKnown, choose-known, first-counts, first-known, known-append, settle-sites}, WorldStands.{is_node, node-is}, WorldBooks.hand-leaves}
 
 abbrev pub GotKnown : Scenario → Each Site → Type 0
 GotKnown sc sites = (me : Side) (i : ℕ) (s : Site) → slice_get (of_kind me sites) i ≡ Some s → Known sc.sizes me s.got

@@ -1,39 +1,13 @@
 -- For the law that what is pending behind is few: if the run breaks off in a sync slot the nodes
 -- keep room for what came to them, too.
-use Rattle.std.proofs.Common.{◌≡◌, ℕ, zero, suc, ◌+◌, ◌*◌, ◌<◌, ◌≤◌, ◌&&◌, Bool, true, false, List, [], ◌∷◌, ◌++◌, append_assoc, cond, filter, length, length-append, refl, remove, ap, sym, ◌∙◌, subst, arith, inl, Option, Some, None, option_map, slice_get}
-use Rattle.std.proofs.lemmas.Option.{same_Some, slice_get_within}
-use Rattle.rb_base.specs.Nodes.{Side, other}
-use Rattle.rb_base.specs.Sizes.{Sizes}
+use Rattle.std.proofs.{Common.{◌≡◌, ℕ, zero, suc, ◌+◌, ◌*◌, ◌<◌, ◌≤◌, ◌&&◌, Bool, true, false, List, [], ◌∷◌, ◌++◌, append_assoc, cond, filter, length, length-append, refl, remove, ap, sym, ◌∙◌, subst, arith, inl, Option, Some, None, option_map, slice_get}, lemmas.Option.{same_Some, slice_get_within}}
+use Rattle.rb_base.specs.{Nodes.{Side, other}, Sizes.Sizes}
 use Rattle.rb_base.proofs.Plain.{option_map-back}
-use Rattle.rb_rules.specs.declared.message.Message.{Message}
-use Rattle.rb_rules.specs.Book.{Each, of_kind}
-use Rattle.rb_rules.specs.Core.{Act}
-use Rattle.rb_rules.specs.Entries.{IsListed}
-use Rattle.rb_rules.specs.Goodness.{Scenario, is_good}
-use Rattle.rb_rules.specs.Hearing.{Coming, coming_of}
-use Rattle.rb_rules.specs.Lawful.{IsLawful}
-use Rattle.rb_rules.specs.Ports.{HandIn, PortState}
-use Rattle.rb_rules.specs.Slots.{count_of, same_side}
-use Rattle.rb_rules.specs.WorldStep.{Site, after_act, after_arrival, at_node, pass_and_tick, with_message}
+use Rattle.rb_rules.specs.{declared.message.Message.Message, Book.{Each, of_kind}, Core.Act, Entries.IsListed, Goodness.{Scenario, is_good}, Hearing.{Coming, coming_of}, Lawful.IsLawful, Ports.{HandIn, PortState}, Slots.{count_of, same_side}, WorldStep.{Site, after_act, after_arrival, at_node, pass_and_tick, with_message}, declared.closing.Closed.Closed, declared.record.Epoch.Epoch, Hearing.{Sending, Span}, Book.map_each, WorldStep.{await, enter, proceed, says_in, sent_to, span_from, stop, with_close, with_epoch}}
 use Rattle.rb_laws_events.specs.PendingEvents.{most_coming}
-use Rattle.rb_laws_events.proofs.BreakBegins.{FirstCloses}
-use Rattle.rb_laws_events.proofs.BreakNodes.{KeepsNodes}
-use Rattle.rb_laws_events.proofs.EventsHold.{keeps, nodes_at}
-use Rattle.rb_laws_events.proofs.FewKeeps.{may-arrives, may-reached, may_at, steps-at, sum-same, tick-small}
-use Rattle.rb_laws_events.proofs.FewOff.{HaveRooms, messages_in, rooms-change}
-use Rattle.rb_laws_events.proofs.PendingLists.{StandsAt, filter-last}
-use Rattle.rb_laws_events.proofs.Takes.{length-without}
-use Rattle.rb_laws_events.proofs.WorldStands.{IsDown, IsUp, is_node, node-is, sent_by}
-use Rattle.rb_laws_events.proofs.WorldTicks.{after_tick, get-after, length-after, moved}
-use Rattle.rb_rules.specs.declared.closing.Closed.{Closed}
-use Rattle.rb_rules.specs.declared.record.Epoch.{Epoch}
-use Rattle.rb_rules.specs.Hearing.{Sending, Span}
-use Rattle.rb_rules.specs.Book.{map_each}
-use Rattle.rb_rules.specs.WorldStep.{await, enter, proceed, says_in, sent_to, span_from, stop, with_close, with_epoch}
+use Rattle.rb_laws_events.proofs.{BreakBegins.FirstCloses, BreakNodes.KeepsNodes, EventsHold.{keeps, nodes_at}, FewKeeps.{may-arrives, may-reached, may_at, steps-at, sum-same, tick-small}, FewOff.{HaveRooms, messages_in, rooms-change}, PendingLists.{StandsAt, filter-last}, Takes.length-without, WorldStands.{IsDown, IsUp, is_node, node-is, sent_by}, WorldTicks.{after_tick, get-after, length-after, moved}, EachAlike.each-alike}
 use Rattle.rb_rules.proofs.WindowNumbers.{get-each}
-use Rattle.rb_laws_events.proofs.EachAlike.{each-alike}
-use Rattle.rb_laws_sweeps.proofs.HadThere.{had-where-it-stands, had_of, is_known}
-use Rattle.rb_laws_sweeps.proofs.Settles.{each-fuse}
+use Rattle.rb_laws_sweeps.proofs.{HadThere.{had-where-it-stands, had_of, is_known}, Settles.each-fuse}
 
 -- the site to which what came still comes
 abbrev pub with_had : Sizes → Side → ℕ → Site → Site

@@ -1,23 +1,9 @@
 -- What came to a node for its open window and what is pending there are few together, if the nodes
 -- stand in the rounds.
-use Rattle.std.proofs.Common.{◌≡◌, ℕ, zero, suc, ◌+◌, ◌*◌, ◌≤◌, ◌==◌, nat_lt, Bool, true, false, List, [], ◌∷◌, cond, filter, length, refl, ap, sym, subst, arith}
-use Rattle.std.proofs.lemmas.Bool.{ltb-true}
-use Rattle.std.proofs.lemmas.Bool.Decides.{nat_tests}
-use Rattle.rb_base.specs.Nodes.{Side, other}
-use Rattle.rb_base.specs.Sizes.{Sizes}
-use Rattle.rb_rules.specs.Clock.{time_of}
-use Rattle.rb_rules.specs.Entries.{IsListed, is_said}
-use Rattle.rb_rules.specs.Goodness.{Scenario, clock_of}
-use Rattle.rb_rules.specs.Hearing.{Coming, Span, span_of}
-use Rattle.rb_rules.specs.NodeState.{NodeState}
-use Rattle.rb_rules.specs.Ports.{HandIn}
-use Rattle.rb_rules.specs.Rounds.{Moment, moment, window_in}
-use Rattle.rb_rules.specs.Slots.{count_of}
-use Rattle.rb_rules.specs.WorldStep.{Site, Timed, coming_from}
-use Rattle.rb_laws_events.proofs.FewThere.{ahead-few, entries_of, heard-few, said-once}
-use Rattle.rb_laws_events.proofs.Invariant.{NodeStands, ahead_so_far, heard_so_far, last_tick, next_stage}
-use Rattle.rb_laws_events.proofs.PendingLists.{Hears}
-use Rattle.rb_laws_events.proofs.SourceSums.{all-of-sources, coming_of_source, items-once, sum-larger, sum-le, sum-plus, sum-twos, sum_to}
+use Rattle.std.proofs.{Common.{◌≡◌, ℕ, zero, suc, ◌+◌, ◌*◌, ◌≤◌, ◌==◌, nat_lt, Bool, true, false, List, [], ◌∷◌, cond, filter, length, refl, ap, sym, subst, arith}, lemmas.Bool.ltb-true, lemmas.Bool.Decides.nat_tests}
+use Rattle.rb_base.specs.{Nodes.{Side, other}, Sizes.Sizes}
+use Rattle.rb_rules.specs.{Clock.time_of, Entries.{IsListed, is_said}, Goodness.{Scenario, clock_of}, Hearing.{Coming, Span, span_of}, NodeState.NodeState, Ports.HandIn, Rounds.{Moment, moment, window_in}, Slots.count_of, WorldStep.{Site, Timed, coming_from}}
+use Rattle.rb_laws_events.proofs.{FewThere.{ahead-few, entries_of, heard-few, said-once}, Invariant.{NodeStands, ahead_so_far, heard_so_far, last_tick, next_stage}, PendingLists.Hears, SourceSums.{all-of-sources, coming_of_source, items-once, sum-larger, sum-le, sum-plus, sum-twos, sum_to}}
 
 -- the entry is from a node of the bus
 abbrev pub is_known : Sizes → Side → Coming → Bool

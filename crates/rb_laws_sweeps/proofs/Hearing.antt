@@ -1,23 +1,10 @@
 -- What a node hears in a sweep.
-use Rattle.std.proofs.Common.{◌≡◌, ℕ, zero, suc, ◌+◌, ◌<◌, ◌≤◌, ◌&&◌, Bool, true, false, List, [], ◌∷◌, ◌++◌, length, remove, refl, ap, sym, ◌∙◌, arith, Option, Some, None}
-use Rattle.std.proofs.lemmas.Bool.{lt-ltb, le-ltb}
+use Rattle.std.proofs.{Common.{◌≡◌, ℕ, zero, suc, ◌+◌, ◌<◌, ◌≤◌, ◌&&◌, Bool, true, false, List, [], ◌∷◌, ◌++◌, length, remove, refl, ap, sym, ◌∙◌, arith, Option, Some, None}, lemmas.Bool.{lt-ltb, le-ltb}}
 use Rattle.rb_base.specs.Nodes.{Side, other}
-use Rattle.rb_rules.specs.Clock.{time_of}
-use Rattle.rb_rules.specs.Goodness.{Scenario, clock_of}
-use Rattle.rb_rules.specs.Hearing.{Coming, Sending, coming_of}
-use Rattle.rb_rules.specs.Lawful.{IsLawful}
-use Rattle.rb_rules.specs.Slots.{same_side}
-use Rattle.rb_rules.specs.WorldStep.{Site, Timed, after_arrival, sent_to}
-use Rattle.rb_rules.specs.WorldStep.Pending.{Arrival}
-use Rattle.rb_laws_events.proofs.SameHeard.{Every}
-use Rattle.rb_laws_events.proofs.Receiving.{every-stands}
-use Rattle.rb_laws_events.proofs.DueEvents.{every-append, every-weaker}
-use Rattle.rb_laws_sweeps.specs.Laws.{HearingComposes, HearingTakesTheFirst, NothingIsHeard, with_more}
-use Rattle.rb_laws_sweeps.specs.Sweeping.{Placed, after_first, first_of, swept}
-use Rattle.rb_laws_sweeps.specs.Told.{Told, heard, heard_by, heard_first, telling}
-use Rattle.rb_laws_sweeps.proofs.Firsts.{first-append, first-stands, length-without}
-use Rattle.rb_laws_sweeps.proofs.SentLater.{message-later, sent_where}
-use Rattle.rb_laws_sweeps.proofs.Sweeps.{all-every, arrival-more, step-stays, step-takes, sweep-of, sweep-stays, sweep-takes}
+use Rattle.rb_rules.specs.{Clock.time_of, Goodness.{Scenario, clock_of}, Hearing.{Coming, Sending, coming_of}, Lawful.IsLawful, Slots.same_side, WorldStep.{Site, Timed, after_arrival, sent_to}, WorldStep.Pending.Arrival}
+use Rattle.rb_laws_events.proofs.{SameHeard.Every, Receiving.every-stands, DueEvents.{every-append, every-weaker}}
+use Rattle.rb_laws_sweeps.specs.{Laws.{HearingComposes, HearingTakesTheFirst, NothingIsHeard, with_more}, Sweeping.{Placed, after_first, first_of, swept}, Told.{Told, heard, heard_by, heard_first, telling}}
+use Rattle.rb_laws_sweeps.proofs.{Firsts.{first-append, first-stands, length-without}, SentLater.{message-later, sent_where}, Sweeps.{all-every, arrival-more, step-stays, step-takes, sweep-of, sweep-stays, sweep-takes}}
 
 -- One arrival.
 

@@ -1,43 +1,12 @@
 -- The first tick of a world behind is in time.
-use Rattle.std.proofs.Common.{◌≡◌, ℕ, zero, suc, ◌+◌, ◌^◌, ◌<◌, ◌≤◌, true, false, List, [], ◌∷◌, ◌++◌, remove, ap, sym, ◌∙◌, subst, arith, inl, inr, Some, option_map, slice_get}
-use Rattle.std.proofs.lemmas.Option.{same_Some}
-use Rattle.rb_base.specs.Nodes.{Side, other}
-use Rattle.rb_base.specs.Sizes.{Sizes}
+use Rattle.std.proofs.{Common.{◌≡◌, ℕ, zero, suc, ◌+◌, ◌^◌, ◌<◌, ◌≤◌, true, false, List, [], ◌∷◌, ◌++◌, remove, ap, sym, ◌∙◌, subst, arith, inl, inr, Some, option_map, slice_get}, lemmas.Option.same_Some}
+use Rattle.rb_base.specs.{Nodes.{Side, other}, Sizes.Sizes}
 use Rattle.rb_base.proofs.Plain.{true-false}
-use Rattle.rb_rules.specs.Book.{of_kind}
-use Rattle.rb_rules.specs.Clock.{time_of}
-use Rattle.rb_rules.specs.Goodness.{Scenario, clock_of}
-use Rattle.rb_rules.specs.Hearing.{Coming}
-use Rattle.rb_rules.specs.Lawful.{IsLawful}
-use Rattle.rb_rules.specs.Rounds.{moment}
-use Rattle.rb_rules.specs.Slots.{count_of}
-use Rattle.rb_rules.specs.WorldStep.{Choice, Due, Site, Timed, World, after_arrival, due_of, world_after}
-use Rattle.rb_rules.specs.WorldStep.Pending.{Tick}
+use Rattle.rb_rules.specs.{Book.of_kind, Clock.time_of, Goodness.{Scenario, clock_of}, Hearing.Coming, Lawful.IsLawful, Rounds.moment, Slots.count_of, WorldStep.{Choice, Due, Site, Timed, World, after_arrival, due_of, world_after}, WorldStep.Pending.Tick}
 use Rattle.rb_rules.proofs.WindowNumbers.{get-each}
-use Rattle.rb_laws_events.proofs.BreakNodes.{KeepsNodes}
-use Rattle.rb_laws_events.proofs.BreakOff.{BreakStands}
-use Rattle.rb_laws_events.proofs.BreakRooms.{HasLater, has-later}
-use Rattle.rb_laws_events.proofs.BreakRuns.{WaitsYet, first-of, waits-yet}
-use Rattle.rb_laws_events.proofs.DueEvents.{IsDue}
-use Rattle.rb_laws_events.proofs.EventsHold.{any, keeps, nodes_at}
-use Rattle.rb_laws_events.proofs.EveryWorld.{AnyWorld, due-going}
-use Rattle.rb_laws_events.proofs.Invariant.{is_good_at}
-use Rattle.rb_laws_events.proofs.NodeEvents.{tick-after}
-use Rattle.rb_laws_events.proofs.OneEvent.{all-pend}
-use Rattle.rb_laws_events.proofs.OneTake.{StandsInRounds}
-use Rattle.rb_laws_events.proofs.PendingLists.{StandsAt}
-use Rattle.rb_laws_events.proofs.WorldNodes.{Known, events-due, worlds-known}
-use Rattle.rb_laws_events.proofs.WorldStands.{AllPend, IsUp, sent_by}
-use Rattle.rb_laws_events.proofs.Behind.{pend-of}
-use Rattle.rb_laws_sweeps.specs.AheadOf.{GoesOnAhead, LeadsToTick, after_takes, ahead_of, each_swept, until_tick}
-use Rattle.rb_laws_sweeps.specs.Room.{TicksBehindAreInTime}
-use Rattle.rb_laws_sweeps.specs.Sweeping.{Placed, first_of, swept}
-use Rattle.rb_laws_sweeps.proofs.AfterTick.{TicksNow, takes-are, ticks-now}
-use Rattle.rb_laws_sweeps.proofs.EachNode.{until-own}
-use Rattle.rb_laws_sweeps.proofs.Firsts.{first-stands}
-use Rattle.rb_laws_sweeps.proofs.GoesOn.{each-compose, sweep_to, worlds-go-on}
-use Rattle.rb_laws_sweeps.proofs.GotKnown.{worlds-got}
-use Rattle.rb_laws_sweeps.proofs.Sweeps.{every-all, sweep-of, sweep-stays, sweep-takes, sweeps-keep}
+use Rattle.rb_laws_events.proofs.{BreakNodes.KeepsNodes, BreakOff.BreakStands, BreakRooms.{HasLater, has-later}, BreakRuns.{WaitsYet, first-of, waits-yet}, DueEvents.IsDue, EventsHold.{any, keeps, nodes_at}, EveryWorld.{AnyWorld, due-going}, Invariant.is_good_at, NodeEvents.tick-after, OneEvent.all-pend, OneTake.StandsInRounds, PendingLists.StandsAt, WorldNodes.{Known, events-due, worlds-known}, WorldStands.{AllPend, IsUp, sent_by}, Behind.pend-of}
+use Rattle.rb_laws_sweeps.specs.{AheadOf.{GoesOnAhead, LeadsToTick, after_takes, ahead_of, each_swept, until_tick}, Room.TicksBehindAreInTime, Sweeping.{Placed, first_of, swept}}
+use Rattle.rb_laws_sweeps.proofs.{AfterTick.{TicksNow, takes-are, ticks-now}, EachNode.until-own, Firsts.first-stands, GoesOn.{each-compose, sweep_to, worlds-go-on}, GotKnown.worlds-got, Sweeps.{every-all, sweep-of, sweep-stays, sweep-takes, sweeps-keep}}
 
 -- Ticks that nodes have.
 

@@ -1,31 +1,11 @@
 -- Takes of arrivals lead to the first tick.
-use Rattle.std.proofs.Common.{◌≡◌, ℕ, zero, suc, ◌+◌, ◌<◌, ◌≤◌, Bool, true, false, [], ◌∷◌, ◌++◌, refl, ap, sym, ◌∙◌, subst, arith, inl, inr, Some, None, option_map, slice_get, if◌then◌else◌}
-use Rattle.std.proofs.lemmas.Option.{same_Some}
+use Rattle.std.proofs.{Common.{◌≡◌, ℕ, zero, suc, ◌+◌, ◌<◌, ◌≤◌, Bool, true, false, [], ◌∷◌, ◌++◌, refl, ap, sym, ◌∙◌, subst, arith, inl, inr, Some, None, option_map, slice_get, if◌then◌else◌}, lemmas.Option.same_Some}
 use Rattle.rb_base.specs.Nodes.{Side}
-use Rattle.rb_rules.specs.Book.{Each, of_kind}
-use Rattle.rb_rules.specs.Goodness.{Scenario}
-use Rattle.rb_rules.specs.Hearing.{Coming}
-use Rattle.rb_rules.specs.Links.{name_of, same_node}
-use Rattle.rb_rules.specs.WorldStep.{Due, Site, Timed, World, after_arrival, at_node, due_of, event_of, take, world_after}
-use Rattle.rb_rules.specs.WorldStep.Choice.{Take}
-use Rattle.rb_rules.specs.WorldStep.Pending.{Arrival}
+use Rattle.rb_rules.specs.{Book.{Each, of_kind}, Goodness.Scenario, Hearing.Coming, Links.{name_of, same_node}, WorldStep.{Due, Site, Timed, World, after_arrival, at_node, due_of, event_of, take, world_after}, WorldStep.Choice.Take, WorldStep.Pending.Arrival}
 use Rattle.rb_laws_events.specs.Laws.{most_at_once}
-use Rattle.rb_laws_events.proofs.Takes.{all_left, arrival-left, one-less}
-use Rattle.rb_laws_events.proofs.WorldNodes.{NodesKnown, choose-known}
-use Rattle.rb_laws_events.proofs.WorldStands.{get-at, is_node, node-is}
-use Rattle.rb_laws_sweeps.specs.AheadOf.{ArrivalIsFirst, IsFirstTick, LeadsToTick, after_takes, ahead_of, each_swept, told_in, until_tick}
-use Rattle.rb_laws_sweeps.specs.Laws.{TakesLeadToTheFirstTick}
-use Rattle.rb_laws_sweeps.specs.Sweeping.{Placed, first_of, swept}
-use Rattle.rb_laws_sweeps.specs.Told.{heard, told_next}
-use Rattle.rb_laws_sweeps.proofs.DueFirst.{ArrivalDue, TickDue, WhatIsDue, what-is-due, which-due}
-use Rattle.rb_laws_events.proofs.EachAlike.{each-alike}
-use Rattle.rb_laws_sweeps.proofs.EachNode.{KeepsAhead, each-itself, first-changed}
-use Rattle.rb_laws_sweeps.proofs.Firsts.{first-stands}
-use Rattle.rb_laws_sweeps.proofs.Hearing.{hears-first, hears-none}
-use Rattle.rb_laws_sweeps.proofs.OpenWorlds.{Goes, after_one, arrival-still, arrival-told, goes-reached}
-use Rattle.rb_laws_sweeps.proofs.Settles.{complete-same, each-fuse}
-use Rattle.rb_laws_sweeps.proofs.Sweeps.{sweep-stays, sweep-takes}
-use Rattle.rb_laws_sweeps.proofs.Telling.{named-itself, same-named, takes-shift, told-one, told-shift}
+use Rattle.rb_laws_events.proofs.{Takes.{all_left, arrival-left, one-less}, WorldNodes.{NodesKnown, choose-known}, WorldStands.{get-at, is_node, node-is}, EachAlike.each-alike}
+use Rattle.rb_laws_sweeps.specs.{AheadOf.{ArrivalIsFirst, IsFirstTick, LeadsToTick, after_takes, ahead_of, each_swept, told_in, until_tick}, Laws.TakesLeadToTheFirstTick, Sweeping.{Placed, first_of, swept}, Told.{heard, told_next}}
+use Rattle.rb_laws_sweeps.proofs.{DueFirst.{ArrivalDue, TickDue, WhatIsDue, what-is-due, which-due}, EachNode.{KeepsAhead, each-itself, first-changed}, Firsts.first-stands, Hearing.{hears-first, hears-none}, OpenWorlds.{Goes, after_one, arrival-still, arrival-told, goes-reached}, Settles.{complete-same, each-fuse}, Sweeps.{sweep-stays, sweep-takes}, Telling.{named-itself, same-named, takes-shift, told-one, told-shift}}
 
 -- the site of node `n` after node `i` has taken the arrival
 abbrev pub arrives_at : Scenario → Side → ℕ → ℕ → Coming → Side → ℕ → Site → Site

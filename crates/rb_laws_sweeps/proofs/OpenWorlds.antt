@@ -1,32 +1,11 @@
 -- What comes next in a world that was reached, and needs an event, still waits for a node. So an
 -- arrival settles nothing.
-use Rattle.std.proofs.Common.{◌≡◌, ℕ, ◌+◌, ◌<◌, ◌==◌, Bool, true, false, List, refl, ap, sym, ◌∙◌, arith, inl, inr, Some, None, slice_get, if◌then◌else◌}
-use Rattle.std.proofs.lemmas.Bool.{and_right, lt-ltb}
+use Rattle.std.proofs.{Common.{◌≡◌, ℕ, ◌+◌, ◌<◌, ◌==◌, Bool, true, false, List, refl, ap, sym, ◌∙◌, arith, inl, inr, Some, None, slice_get, if◌then◌else◌}, lemmas.Bool.{and_right, lt-ltb}}
 use Rattle.rb_base.specs.Nodes.{Side}
 use Rattle.rb_base.proofs.Plain.{true-false}
-use Rattle.rb_rules.specs.Book.{Book}
-use Rattle.rb_rules.specs.Book.Milestone.{Begin, End, Stage}
-use Rattle.rb_rules.specs.Goodness.{Scenario}
-use Rattle.rb_rules.specs.Hearing.{Coming}
-use Rattle.rb_rules.specs.Lawful.{IsLawful}
-use Rattle.rb_rules.specs.Ports.{HandIn}
-use Rattle.rb_rules.specs.Rounds.{Moment, moment}
-use Rattle.rb_rules.specs.WorldStep.{Choice, Due, Site, World, after_arrival, at_node, comes_so, due_of, is_complete, needs_no_event, settle, settle_next, take, take_if_due, world_after}
-use Rattle.rb_rules.specs.WorldStep.Pending.{Arrival}
-use Rattle.rb_rules.specs.WorldStep.Way.{ByAnEvent}
+use Rattle.rb_rules.specs.{Book.Book, Book.Milestone.{Begin, End, Stage}, Goodness.Scenario, Hearing.Coming, Lawful.IsLawful, Ports.HandIn, Rounds.{Moment, moment}, WorldStep.{Choice, Due, Site, World, after_arrival, at_node, comes_so, due_of, is_complete, needs_no_event, settle, settle_next, take, take_if_due, world_after}, WorldStep.Pending.Arrival, WorldStep.Way.ByAnEvent}
 use Rattle.rb_laws_events.specs.Closing.{stages_in}
-use Rattle.rb_laws_events.proofs.Behind.{settled-next}
-use Rattle.rb_laws_events.proofs.BreakNodes.{BreaksAt}
-use Rattle.rb_laws_events.proofs.BreakOff.{BreakStands}
-use Rattle.rb_laws_events.proofs.DueEvents.{IsDue, due-is}
-use Rattle.rb_laws_events.proofs.EventsHold.{any, nodes_at}
-use Rattle.rb_laws_events.proofs.EveryWorld.{AnyWorld, due-going}
-use Rattle.rb_laws_events.proofs.MomentBooks.{place_at}
-use Rattle.rb_laws_events.proofs.OneEvent.{happens-is}
-use Rattle.rb_laws_events.proofs.OneTake.{StandsInRounds, is-paced}
-use Rattle.rb_laws_events.proofs.SettledOnce.{settle-still, waits-still}
-use Rattle.rb_laws_events.proofs.WorldNodes.{NodesKnown, worlds-known}
-use Rattle.rb_laws_events.proofs.WorldStands.{is_node}
+use Rattle.rb_laws_events.proofs.{Behind.settled-next, BreakNodes.BreaksAt, BreakOff.BreakStands, DueEvents.{IsDue, due-is}, EventsHold.{any, nodes_at}, EveryWorld.{AnyWorld, due-going}, MomentBooks.place_at, OneEvent.happens-is, OneTake.{StandsInRounds, is-paced}, SettledOnce.{settle-still, waits-still}, WorldNodes.{NodesKnown, worlds-known}, WorldStands.is_node}
 use Rattle.rb_laws_sweeps.specs.Laws.{ArrivalsSettleNothing, NeedsEvent}
 use Rattle.rb_laws_sweeps.proofs.Settles.{KeepsTold, changed, settle-changed}
 

@@ -1,21 +1,10 @@
 -- What is due first: at the first node that has something ready at the least time, its first
 -- arrival, else its tick.
-use Rattle.std.proofs.Common.{◌≡◌, ℕ, zero, suc, ◌+◌, ◌<◌, ◌≤◌, ◌==◌, ◌&&◌, ◌⊎◌, Bool, true, false, List, [], ◌∷◌, ◌++◌, cond, filter, flat_map, map, refl, ap, sym, ◌∙◌, subst, arith, inl, inr, Option, Some, None, slice_get}
+use Rattle.std.proofs.{Common.{◌≡◌, ℕ, zero, suc, ◌+◌, ◌<◌, ◌≤◌, ◌==◌, ◌&&◌, ◌⊎◌, Bool, true, false, List, [], ◌∷◌, ◌++◌, cond, filter, flat_map, map, refl, ap, sym, ◌∙◌, subst, arith, inl, inr, Option, Some, None, slice_get}, lemmas.Bool.Decides.nat_tests, lemmas.Option.same_Some}
 use Rattle.std.specs.List.{enumerate_from, range_with_len}
-use Rattle.std.proofs.lemmas.Bool.Decides.{nat_tests}
-use Rattle.std.proofs.lemmas.Option.{same_Some}
-use Rattle.rb_base.specs.Counting.{numbers}
-use Rattle.rb_base.specs.Nodes.{Side, other}
-use Rattle.rb_base.specs.Sizes.{Sizes}
-use Rattle.rb_rules.specs.Book.{map_from}
-use Rattle.rb_rules.specs.Hearing.{Coming}
-use Rattle.rb_rules.specs.Slots.{count_of}
-use Rattle.rb_rules.specs.WorldStep.{Due, Site, arrivals_at, ready_at, tick_at, unless_any}
-use Rattle.rb_rules.specs.WorldStep.Pending.{Arrival}
-use Rattle.rb_laws_events.proofs.SameHeard.{Every}
-use Rattle.rb_laws_events.proofs.WorldNodes.{Known}
-use Rattle.rb_laws_events.proofs.DueEvents.{every-weaker}
-use Rattle.rb_laws_events.proofs.Receiving.{every-stands}
+use Rattle.rb_base.specs.{Counting.numbers, Nodes.{Side, other}, Sizes.Sizes}
+use Rattle.rb_rules.specs.{Book.map_from, Hearing.Coming, Slots.count_of, WorldStep.{Due, Site, arrivals_at, ready_at, tick_at, unless_any}, WorldStep.Pending.Arrival}
+use Rattle.rb_laws_events.proofs.{SameHeard.Every, WorldNodes.Known, DueEvents.every-weaker, Receiving.every-stands}
 use Rattle.rb_laws_sweeps.specs.Sweeping.{Placed, comes_first, first_of, first_with}
 use Rattle.rb_laws_sweeps.proofs.Firsts.{first-least, first-stands, pick, which-first}
 

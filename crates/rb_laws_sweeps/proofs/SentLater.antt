@@ -1,25 +1,10 @@
 -- What is sent, and what is said in a window, comes later than the tick before.
 use Rattle.std.proofs.Common.{◌≡◌, ℕ, ◌+◌, ◌<◌, ◌≤◌, ◌&&◌, Bool, true, false, [], ◌∷◌, ◌++◌, length, refl, ap, sym, ◌∙◌, arith}
-use Rattle.rb_base.specs.Nodes.{Side, other}
-use Rattle.rb_base.specs.declared.values.Place.{Place}
-use Rattle.rb_rules.specs.Clock.{time_of}
-use Rattle.rb_rules.specs.Goodness.{Scenario, clock_of, clock_place}
-use Rattle.rb_rules.specs.Hearing.{Coming, Sending, Span, coming_of}
-use Rattle.rb_rules.specs.Lawful.{IsLawful}
-use Rattle.rb_rules.specs.Links.{delay_of, name_of}
-use Rattle.rb_rules.specs.Plan.{longest_of, shortest_of}
-use Rattle.rb_rules.specs.Slots.{count_of, same_side}
-use Rattle.rb_rules.specs.WorldStep.{Site, says_in, sent_to}
-use Rattle.rb_rules.proofs.Drift.{HasLengths, has_lengths}
-use Rattle.rb_rules.proofs.Slots.{other_twice, place-within, same_side-is}
-use Rattle.rb_rules.proofs.Stamps.{Moves}
-use Rattle.rb_laws_events.proofs.CloseOrder.{shortest-some}
-use Rattle.rb_laws_events.proofs.DueEvents.{every-weaker}
-use Rattle.rb_laws_events.proofs.ReceiverHears.{way-least}
-use Rattle.rb_laws_events.proofs.SameHeard.{Every}
-use Rattle.rb_laws_events.proofs.SayLists.{ComesIn, says-come-in}
-use Rattle.rb_laws_sweeps.specs.Laws.{SweepsFrom, WhatIsSentComesLaterInLawful, with_more}
-use Rattle.rb_laws_sweeps.specs.Sweeping.{swept}
+use Rattle.rb_base.specs.{Nodes.{Side, other}, declared.values.Place.Place}
+use Rattle.rb_rules.specs.{Clock.time_of, Goodness.{Scenario, clock_of, clock_place}, Hearing.{Coming, Sending, Span, coming_of}, Lawful.IsLawful, Links.{delay_of, name_of}, Plan.{longest_of, shortest_of}, Slots.{count_of, same_side}, WorldStep.{Site, says_in, sent_to}}
+use Rattle.rb_rules.proofs.{Drift.{HasLengths, has_lengths}, Slots.{other_twice, place-within, same_side-is}, Stamps.Moves}
+use Rattle.rb_laws_events.proofs.{CloseOrder.shortest-some, DueEvents.every-weaker, ReceiverHears.way-least, SameHeard.Every, SayLists.{ComesIn, says-come-in}}
+use Rattle.rb_laws_sweeps.specs.{Laws.{SweepsFrom, WhatIsSentComesLaterInLawful, with_more}, Sweeping.swept}
 use Rattle.rb_laws_sweeps.proofs.Sweeps.{every-all, push-passes, sweeps-keep}
 
 -- A message.

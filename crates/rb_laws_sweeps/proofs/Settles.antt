@@ -2,15 +2,9 @@
 -- this may come before or after it.
 use Rattle.std.proofs.Common.{◌≡◌, ℕ, zero, suc, ◌+◌, ◌&&◌, ◌||◌, not, Bool, true, false, List, [], ◌∷◌, refl, ap, ◌∙◌, Option, Some, None, is_some}
 use Rattle.std.specs.List.{list_all}
-use Rattle.rb_base.specs.Nodes.{Side}
-use Rattle.rb_base.specs.Nodes.Side.{Biu, Rmu}
-use Rattle.rb_rules.specs.Book.{Begun, Book, Each, Milestone, Record, Row, in_order, map_each, map_from, with_frame, with_stage}
-use Rattle.rb_rules.specs.Book.Milestone.{Begin, End, Stage}
-use Rattle.rb_rules.specs.ExactStage.{present}
-use Rattle.rb_rules.specs.Goodness.{Scenario, is_good}
-use Rattle.rb_rules.specs.WorldStep.{Site, Way, World, all_have_told, begun_for, book_with, comes_so, is_complete, record_since, row_for, settle, settle_next, told_by_good}
-use Rattle.rb_laws_events.proofs.EachAlike.{each-is}
-use Rattle.rb_laws_events.proofs.WorldBooks.{settle_rest}
+use Rattle.rb_base.specs.{Nodes.Side, Nodes.Side.{Biu, Rmu}}
+use Rattle.rb_rules.specs.{Book.{Begun, Book, Each, Milestone, Record, Row, in_order, map_each, map_from, with_frame, with_stage}, Book.Milestone.{Begin, End, Stage}, ExactStage.present, Goodness.{Scenario, is_good}, WorldStep.{Site, Way, World, all_have_told, begun_for, book_with, comes_so, is_complete, record_since, row_for, settle, settle_next, told_by_good}}
+use Rattle.rb_laws_events.proofs.{EachAlike.each-is, WorldBooks.settle_rest}
 
 -- Each node.
 

@@ -1,26 +1,11 @@
 -- As long as a record needs an event some tick is pending, and so one of them is the first.
-use Rattle.std.proofs.Common.{◌≡◌, ℕ, zero, suc, ◌<◌, ◌≤◌, ◌⊎◌, true, List, [], ◌∷◌, refl, ap, sym, ◌∙◌, subst, arith, inl, inr, Option, Some, None, slice_get}
-use Rattle.std.proofs.lemmas.Bool.{cases_lt, ltb-true}
-use Rattle.std.proofs.lemmas.Option.{same_Some}
-use Rattle.rb_base.specs.Nodes.{Side}
-use Rattle.rb_base.specs.Nodes.Side.{Biu, Rmu}
+use Rattle.std.proofs.{Common.{◌≡◌, ℕ, zero, suc, ◌<◌, ◌≤◌, ◌⊎◌, true, List, [], ◌∷◌, refl, ap, sym, ◌∙◌, subst, arith, inl, inr, Option, Some, None, slice_get}, lemmas.Bool.{cases_lt, ltb-true}, lemmas.Option.same_Some}
+use Rattle.rb_base.specs.{Nodes.Side, Nodes.Side.{Biu, Rmu}}
 use Rattle.rb_base.proofs.Plain.{true-false}
-use Rattle.rb_rules.specs.Book.{of_kind}
-use Rattle.rb_rules.specs.Goodness.{Scenario}
-use Rattle.rb_rules.specs.Lawful.{IsLawful}
-use Rattle.rb_rules.specs.WorldStep.{Site, Timed, World, world_after}
-use Rattle.rb_laws_events.proofs.Behind.{IsBehind}
-use Rattle.rb_laws_events.proofs.BreakOff.{BreakStands}
-use Rattle.rb_laws_events.proofs.BreakRuns.{WaitsYet, waits-yet}
-use Rattle.rb_laws_events.proofs.EventsHold.{any, keeps, nodes_at}
-use Rattle.rb_laws_events.proofs.EveryWorld.{AnyWorld}
-use Rattle.rb_laws_events.proofs.OneTake.{StandsInRounds, world-waits}
-use Rattle.rb_laws_events.proofs.Progress.{SomePends}
-use Rattle.rb_laws_events.proofs.WorldStands.{IsUp, sent_by}
-use Rattle.rb_laws_sweeps.specs.AheadOf.{IsFirstTick, is_behind}
-use Rattle.rb_laws_sweeps.specs.Laws.{NeedsEvent, SomeTickIsFirst}
-use Rattle.rb_laws_sweeps.proofs.EachNode.{first-back}
-use Rattle.rb_laws_sweeps.proofs.GoesOn.{swept-ahead, sweep_to}
+use Rattle.rb_rules.specs.{Book.of_kind, Goodness.Scenario, Lawful.IsLawful, WorldStep.{Site, Timed, World, world_after}}
+use Rattle.rb_laws_events.proofs.{Behind.IsBehind, BreakOff.BreakStands, BreakRuns.{WaitsYet, waits-yet}, EventsHold.{any, keeps, nodes_at}, EveryWorld.AnyWorld, OneTake.{StandsInRounds, world-waits}, Progress.SomePends, WorldStands.{IsUp, sent_by}}
+use Rattle.rb_laws_sweeps.specs.{AheadOf.{IsFirstTick, is_behind}, Laws.{NeedsEvent, SomeTickIsFirst}}
+use Rattle.rb_laws_sweeps.proofs.{EachNode.first-back, GoesOn.{swept-ahead, sweep_to}}
 
 none-some : {P : Type 0} (a : Timed) → None ≡ Some a → P
 none-some a e = absurd (no a e)

@@ -1,33 +1,8 @@
 -- For the law that stamps make no difference: what a close below the sync slot makes of what came
 -- needs only the bytes of each source.
-use Rattle.std.proofs.Common.{◌≡◌, ℕ, ◌+◌, ◌^◌, ◌<◌, ◌≤◌, ◌==◌, ◌&&◌, max, nat_le, Bool, true, false, if◌then◌else◌, List, [], ◌∷◌, map, filter, cond, refl, ap, sym, ◌∙◌, arith, Option, Some, None}
-use Rattle.std.proofs.lemmas.Bool.Decides.{nat_tests}
-use Rattle.std.proofs.Math.Path.{fun_ext}
-use Rattle.rb_base.specs.Nodes.{Side, has}
-use Rattle.rb_base.specs.Sizes.{Sizes, sync_slot_of}
-use Rattle.rb_base.specs.declared.values.Heard.{Heard}
-use Rattle.rb_rules.specs.declared.closing.Closing.{Closing}
-use Rattle.rb_rules.specs.declared.message.Message.{Message}
-use Rattle.rb_rules.specs.declared.plan.Plan.{Plan}
-use Rattle.rb_rules.specs.declared.plan.Window.{Window}
-use Rattle.rb_rules.specs.declared.role.Role.{Role}
-use Rattle.rb_rules.specs.declared.sense.Expect.{Expect}
-use Rattle.rb_rules.specs.declared.sense.Sense.{Sense}
-use Rattle.rb_rules.specs.declared.sense.Sense.TheVariants.{Silent, One, Bad}
-use Rattle.rb_rules.specs.Core.{Act, Core, act_at, act_on, epoch_at, is_last, is_spent, of_source, pass_to, said_at, slot_wanted, state_at, state_kept, tick, wants, window_here}
-use Rattle.rb_rules.specs.ExactStage.{Outcome, close_exact, closing_of, compare_with, each_node, outcome_of, present, reference_value}
-use Rattle.rb_rules.specs.Goodness.{Scenario}
-use Rattle.rb_rules.specs.Hearing.{close_window}
-use Rattle.rb_rules.specs.Majority.{majority_of}
-use Rattle.rb_rules.specs.NodeState.{NodeState, sender_at}
-use Rattle.rb_rules.specs.NodeSteps.{expect_of}
-use Rattle.rb_rules.specs.Ports.{PortState}
-use Rattle.rb_rules.specs.Sense.{Arrival, sense_of, sense_of_one, suits, value_in}
-use Rattle.rb_rules.specs.Slots.{Sender, expects, role_of}
-use Rattle.rb_rules.specs.Spelling.{message_in}
-use Rattle.rb_rules.specs.Standing.{does_wrong, has_evidence, is_eligible, with_evidence}
-use Rattle.rb_rules.specs.SyncStage.{close_sync}
-use Rattle.rb_rules.specs.WorldStep.{pass_and_tick, wants_in, word_of}
+use Rattle.std.proofs.{Common.{◌≡◌, ℕ, ◌+◌, ◌^◌, ◌<◌, ◌≤◌, ◌==◌, ◌&&◌, max, nat_le, Bool, true, false, if◌then◌else◌, List, [], ◌∷◌, map, filter, cond, refl, ap, sym, ◌∙◌, arith, Option, Some, None}, lemmas.Bool.Decides.nat_tests, Math.Path.fun_ext}
+use Rattle.rb_base.specs.{Nodes.{Side, has}, Sizes.{Sizes, sync_slot_of}, declared.values.Heard.Heard}
+use Rattle.rb_rules.specs.{declared.closing.Closing.Closing, declared.message.Message.Message, declared.plan.Plan.Plan, declared.plan.Window.Window, declared.role.Role.Role, declared.sense.Expect.Expect, declared.sense.Sense.Sense, declared.sense.Sense.TheVariants.{Silent, One, Bad}, Core.{Act, Core, act_at, act_on, epoch_at, is_last, is_spent, of_source, pass_to, said_at, slot_wanted, state_at, state_kept, tick, wants, window_here}, ExactStage.{Outcome, close_exact, closing_of, compare_with, each_node, outcome_of, present, reference_value}, Goodness.Scenario, Hearing.close_window, Majority.majority_of, NodeState.{NodeState, sender_at}, NodeSteps.expect_of, Ports.PortState, Sense.{Arrival, sense_of, sense_of_one, suits, value_in}, Slots.{Sender, expects, role_of}, Spelling.message_in, Standing.{does_wrong, has_evidence, is_eligible, with_evidence}, SyncStage.close_sync, WorldStep.{pass_and_tick, wants_in, word_of}}
 use Rattle.rb_laws_sweeps.specs.Stamps.{StampsMakeNoDifference, restamped, stamped_anew}
 
 -- Senses.

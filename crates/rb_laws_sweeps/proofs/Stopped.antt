@@ -1,32 +1,11 @@
 -- At a node that has stopped nothing is pending.
-use Rattle.std.proofs.Common.{◌≡◌, ℕ, ◌+◌, ◌<◌, ◌≤◌, ◌&&◌, Bool, true, false, List, [], ◌∷◌, ◌++◌, fold, length, refl, ap, sym, ◌∙◌, subst, arith, Option, Some, None, option_map, slice_get}
-use Rattle.std.proofs.lemmas.Option.{same_Some, slice_get_within}
+use Rattle.std.proofs.{Common.{◌≡◌, ℕ, ◌+◌, ◌<◌, ◌≤◌, ◌&&◌, Bool, true, false, List, [], ◌∷◌, ◌++◌, fold, length, refl, ap, sym, ◌∙◌, subst, arith, Option, Some, None, option_map, slice_get}, lemmas.Option.{same_Some, slice_get_within}}
 use Rattle.rb_base.specs.Nodes.{Side, other}
 use Rattle.rb_base.proofs.Plain.{option_map-back, true-false}
-use Rattle.rb_rules.specs.declared.closing.Closed.{Closed}
-use Rattle.rb_rules.specs.declared.message.Message.{Message}
-use Rattle.rb_rules.specs.declared.record.Epoch.{Epoch}
-use Rattle.rb_rules.specs.Book.{Each, each_of, map_each, of_kind}
-use Rattle.rb_rules.specs.Core.{Act}
-use Rattle.rb_rules.specs.Goodness.{Scenario, is_good}
-use Rattle.rb_rules.specs.Hearing.{Coming, Sending, Span, coming_of}
-use Rattle.rb_rules.specs.Ports.{PortState}
-use Rattle.rb_rules.specs.Slots.{count_of, same_side}
-use Rattle.rb_rules.specs.WorldStep.{Choice, Due, Pending, Site, Timed, World, after_act, after_arrival, at_node, await, choose, due_of, enter, first_world, fresh_site, go_on, happens, pass_and_tick, proceed, says_in, sent_to, settle, span_from, stop, take, take_if_due, with_act, with_close, with_epoch, with_message, with_pending}
-use Rattle.rb_rules.specs.WorldStep.Choice.{GoOn, Hand, Take}
-use Rattle.rb_rules.specs.WorldStep.Pending.{Arrival, Tick}
-use Rattle.rb_rules.specs.WorldStep.Way.{ByAnEvent, ByItself}
+use Rattle.rb_rules.specs.{declared.closing.Closed.Closed, declared.message.Message.Message, declared.record.Epoch.Epoch, Book.{Each, each_of, map_each, of_kind}, Core.Act, Goodness.{Scenario, is_good}, Hearing.{Coming, Sending, Span, coming_of}, Ports.PortState, Slots.{count_of, same_side}, WorldStep.{Choice, Due, Pending, Site, Timed, World, after_act, after_arrival, at_node, await, choose, due_of, enter, first_world, fresh_site, go_on, happens, pass_and_tick, proceed, says_in, sent_to, settle, span_from, stop, take, take_if_due, with_act, with_close, with_epoch, with_message, with_pending}, WorldStep.Choice.{GoOn, Hand, Take}, WorldStep.Pending.{Arrival, Tick}, WorldStep.Way.{ByAnEvent, ByItself}}
 use Rattle.rb_rules.proofs.WindowNumbers.{get-each, get-made}
-use Rattle.rb_laws_events.proofs.DueEvents.{IsDue, IsReady, due-is}
-use Rattle.rb_laws_events.proofs.OneEvent.{happens-is}
-use Rattle.rb_laws_events.proofs.PendingLists.{StandsAt}
-use Rattle.rb_laws_events.proofs.SameHeard.{Every}
-use Rattle.rb_laws_events.proofs.WorldNodes.{NodesKnown, choose-known, first-counts, first-known, settle-sites}
-use Rattle.rb_laws_events.proofs.WorldStands.{get-at, is_node, node-is, node-itself}
-use Rattle.rb_laws_events.proofs.WorldBooks.{hand-leaves}
-use Rattle.rb_laws_sweeps.specs.AheadOf.{IsFirstTick, tick_alone}
-use Rattle.rb_laws_sweeps.specs.Room.{StoppedHaveNothing, StoppedStayEmptyInEach}
-use Rattle.rb_laws_sweeps.specs.Sweeping.{swept}
+use Rattle.rb_laws_events.proofs.{DueEvents.{IsDue, IsReady, due-is}, OneEvent.happens-is, PendingLists.StandsAt, SameHeard.Every, WorldNodes.{NodesKnown, choose-known, first-counts, first-known, settle-sites}, WorldStands.{get-at, is_node, node-is, node-itself}, WorldBooks.hand-leaves}
+use Rattle.rb_laws_sweeps.specs.{AheadOf.{IsFirstTick, tick_alone}, Room.{StoppedHaveNothing, StoppedStayEmptyInEach}, Sweeping.swept}
 use Rattle.rb_laws_sweeps.proofs.Sweeps.{sweep-stays, sweeps-keep}
 
 -- the node runs, or nothing is pending at it

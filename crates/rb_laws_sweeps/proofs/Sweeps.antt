@@ -1,22 +1,12 @@
 -- Sweeps of one node.
-use Rattle.std.proofs.Common.{◌≡◌, ℕ, zero, suc, ◌<◌, ◌≤◌, true, false, All, List, [], ◌∷◌, length, remove, refl, ap, sym, ◌∙◌, subst, arith, Option, Some, None, inl, inr}
-use Rattle.std.proofs.lemmas.Bool.{lt-ltb, le-ltb}
-use Rattle.std.proofs.lemmas.List.Elements.{All-nil, All-cons}
+use Rattle.std.proofs.{Common.{◌≡◌, ℕ, zero, suc, ◌<◌, ◌≤◌, true, false, All, List, [], ◌∷◌, length, remove, refl, ap, sym, ◌∙◌, subst, arith, Option, Some, None, inl, inr}, lemmas.Bool.{lt-ltb, le-ltb}, lemmas.List.Elements.{All-nil, All-cons}}
 use Rattle.rb_base.specs.Nodes.{Side}
-use Rattle.rb_rules.specs.Clock.{stamp_of}
-use Rattle.rb_rules.specs.Core.{Core, pass_to}
-use Rattle.rb_rules.specs.Goodness.{Scenario, clock_of}
-use Rattle.rb_rules.specs.Hearing.{Coming}
-use Rattle.rb_rules.specs.WorldStep.{Site, Timed, after_arrival}
+use Rattle.rb_rules.specs.{Clock.stamp_of, Core.{Core, pass_to}, Goodness.{Scenario, clock_of}, Hearing.Coming, WorldStep.{Site, Timed, after_arrival}}
 use Rattle.rb_rules.proofs.QuietTicks.{arrive-same}
-use Rattle.rb_laws_events.proofs.PendingLists.{StandsAt}
-use Rattle.rb_laws_events.proofs.Receiving.{every-stands}
-pub use Rattle.rb_laws_events.proofs.SameHeard.{all-every}
-use Rattle.rb_laws_events.proofs.SameHeard.{Every}
-use Rattle.rb_laws_events.proofs.DueEvents.{every-append, every-weaker}
-use Rattle.rb_laws_sweeps.specs.Laws.{NothingIsSwept, PushesPassASweep, SweepsCompose, SweepsFrom, SweepsKeepTheRest, SweepsTakeTheFirst, with_more}
-use Rattle.rb_laws_sweeps.specs.Sweeping.{Placed, after_first, first_of, swept, swept_by}
+use Rattle.rb_laws_events.proofs.{PendingLists.StandsAt, Receiving.every-stands, SameHeard.Every, DueEvents.{every-append, every-weaker}}
+use Rattle.rb_laws_sweeps.specs.{Laws.{NothingIsSwept, PushesPassASweep, SweepsCompose, SweepsFrom, SweepsKeepTheRest, SweepsTakeTheFirst, with_more}, Sweeping.{Placed, after_first, first_of, swept, swept_by}}
 use Rattle.rb_laws_sweeps.proofs.Firsts.{first-append, first-stands, length-without, which-first, without-append}
+pub use Rattle.rb_laws_events.proofs.SameHeard.{all-every}
 
 pub every-all : {X : Type 0} (P : X → Type 0) (xs : List X) → Every P xs → All P xs
 every-all P [] a = All-nil P

@@ -1,20 +1,9 @@
 -- What a node is told in takes.
-use Rattle.std.proofs.Common.{◌≡◌, ℕ, zero, suc, ◌==◌, true, List, [], ◌∷◌, ◌++◌, append_assoc, refl, ap, sym, ◌∙◌, arith, Option, Some, option_and_then, option_map, slice_get, if◌then◌else◌}
-use Rattle.std.proofs.lemmas.Bool.Decides.{nat_tests}
-use Rattle.std.proofs.lemmas.List.{append-nil}
-use Rattle.rb_base.specs.Nodes.{Side}
-use Rattle.rb_base.specs.Nodes.Side.{Biu, Rmu}
-use Rattle.rb_base.specs.declared.event.Event.{Event}
-use Rattle.rb_rules.specs.Book.{of_kind}
-use Rattle.rb_rules.specs.Core.{Core}
-use Rattle.rb_rules.specs.Goodness.{Scenario}
-use Rattle.rb_rules.specs.Links.{name_of, same_node}
-use Rattle.rb_rules.specs.Ports.{PortState}
-use Rattle.rb_rules.specs.WorldStep.{Due, Pending, Site, World, due_of, event_at, event_of, take}
-use Rattle.rb_rules.specs.WorldStep.Pending.{Arrival, Tick}
+use Rattle.std.proofs.{Common.{◌≡◌, ℕ, zero, suc, ◌==◌, true, List, [], ◌∷◌, ◌++◌, append_assoc, refl, ap, sym, ◌∙◌, arith, Option, Some, option_and_then, option_map, slice_get, if◌then◌else◌}, lemmas.Bool.Decides.nat_tests, lemmas.List.append-nil}
+use Rattle.rb_base.specs.{Nodes.Side, Nodes.Side.{Biu, Rmu}, declared.event.Event.Event}
+use Rattle.rb_rules.specs.{Book.of_kind, Core.Core, Goodness.Scenario, Links.{name_of, same_node}, Ports.PortState, WorldStep.{Due, Pending, Site, World, due_of, event_at, event_of, take}, WorldStep.Pending.{Arrival, Tick}}
 use Rattle.rb_laws_events.proofs.WorldStands.{is_node, node-itself}
-use Rattle.rb_laws_sweeps.specs.AheadOf.{after_takes, told_in}
-use Rattle.rb_laws_sweeps.specs.Told.{Told, if_told, told_next}
+use Rattle.rb_laws_sweeps.specs.{AheadOf.{after_takes, told_in}, Told.{Told, if_told, told_next}}
 
 -- Takes in a row.
 

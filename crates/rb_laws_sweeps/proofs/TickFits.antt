@@ -1,22 +1,10 @@
 -- What a tick makes pending behind is few, too.
 use Rattle.std.proofs.Common.{◌≡◌, suc, ◌+◌, true, false, List, ap, sym, ◌∙◌, subst, Some, option_map, slice_get}
 use Rattle.rb_base.specs.Nodes.{other}
-use Rattle.rb_rules.specs.Book.{of_kind}
-use Rattle.rb_rules.specs.Core.{Act}
-use Rattle.rb_rules.specs.WorldStep.{Choice, Due, Site, World, after_act, at_node, happens, pass_and_tick, with_act, world_after}
-use Rattle.rb_rules.specs.WorldStep.Pending.{Tick}
-use Rattle.rb_rules.specs.WorldStep.Way.{ByAnEvent}
-use Rattle.rb_laws_events.proofs.FewPending.{HaveRoom, message-few, own-few}
-use Rattle.rb_laws_events.proofs.OneEvent.{happens-is}
-use Rattle.rb_laws_events.proofs.WorldNodes.{settle-sites}
-use Rattle.rb_laws_events.proofs.WorldStands.{get-at, is_node, node-itself, not-other}
-use Rattle.rb_laws_sweeps.specs.AheadOf.{GoesOnAhead, after_takes, ahead_of, tick_alone, until_tick}
-use Rattle.rb_laws_sweeps.specs.Room.{TicksBehindFit}
-use Rattle.rb_laws_sweeps.specs.Sweeping.{swept}
-use Rattle.rb_laws_sweeps.proofs.AfterTick.{takes-are}
-use Rattle.rb_laws_sweeps.proofs.BehindFew.{behind-few}
-use Rattle.rb_laws_sweeps.proofs.GoesOn.{worlds-go-on}
-use Rattle.rb_laws_sweeps.proofs.Stopped.{stopped-stay-empty}
+use Rattle.rb_rules.specs.{Book.of_kind, Core.Act, WorldStep.{Choice, Due, Site, World, after_act, at_node, happens, pass_and_tick, with_act, world_after}, WorldStep.Pending.Tick, WorldStep.Way.ByAnEvent}
+use Rattle.rb_laws_events.proofs.{FewPending.{HaveRoom, message-few, own-few}, OneEvent.happens-is, WorldNodes.settle-sites, WorldStands.{get-at, is_node, node-itself, not-other}}
+use Rattle.rb_laws_sweeps.specs.{AheadOf.{GoesOnAhead, after_takes, ahead_of, tick_alone, until_tick}, Room.TicksBehindFit, Sweeping.swept}
+use Rattle.rb_laws_sweeps.proofs.{AfterTick.takes-are, BehindFew.behind-few, GoesOn.worlds-go-on, Stopped.stopped-stay-empty}
 
 pub ticks-behind-fit : TicksBehindFit
 unfolding with_act

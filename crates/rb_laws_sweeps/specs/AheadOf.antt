@@ -1,15 +1,8 @@
 -- A world that is ahead of another by arrivals alone, and how both go on from tick to tick.
 use Rattle.std.specs.Prelude.{ℕ, zero, suc, ◌≡◌, ◌+◌, ◌<◌, ◌≤◌, nat_lt, Bool, true, false, if◌then◌else◌, None, Some, slice_get, List, [], ◌++◌}
-use Rattle.rb_base.specs.Nodes.{Side}
-use Rattle.rb_base.specs.Nodes.Side.{Biu, Rmu}
-use Rattle.rb_rules.specs.Book.{Each, map_each, of_kind}
-use Rattle.rb_rules.specs.Goodness.{Scenario}
-use Rattle.rb_rules.specs.Hearing.{Coming}
-use Rattle.rb_rules.specs.WorldStep.{Choice, Site, Timed, World, at_node, due_of, happens, settle, take, world_after}
-use Rattle.rb_rules.specs.WorldStep.Pending.{Arrival, Tick}
-use Rattle.rb_rules.specs.WorldStep.Way.{ByAnEvent}
-use Rattle.rb_laws_sweeps.specs.Sweeping.{swept}
-use Rattle.rb_laws_sweeps.specs.Told.{Told, heard, told_alone, told_next}
+use Rattle.rb_base.specs.{Nodes.Side, Nodes.Side.{Biu, Rmu}}
+use Rattle.rb_rules.specs.{Book.{Each, map_each, of_kind}, Goodness.Scenario, Hearing.Coming, WorldStep.{Choice, Site, Timed, World, at_node, due_of, happens, settle, take, world_after}, WorldStep.Pending.{Arrival, Tick}, WorldStep.Way.ByAnEvent}
+use Rattle.rb_laws_sweeps.specs.{Sweeping.swept, Told.{Told, heard, told_alone, told_next}}
 
 -- Ticks.
 

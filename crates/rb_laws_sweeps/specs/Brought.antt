@@ -1,13 +1,7 @@
 -- What a sweep brings a node, source by source, and what it leaves pending.
 use Rattle.std.specs.Prelude.{ℕ, ◌≡◌, ◌+◌, ◌^◌, ◌<◌, ◌==◌, ◌&&◌, All, nat_le, nat_lt, List, [], ◌∷◌, filter, length, map}
 use Rattle.rb_base.specs.Nodes.{Side, other}
-use Rattle.rb_rules.specs.Clock.{stamp_of}
-use Rattle.rb_rules.specs.Core.{of_source}
-use Rattle.rb_rules.specs.Goodness.{Scenario, clock_of}
-use Rattle.rb_rules.specs.Hearing.{Coming}
-use Rattle.rb_rules.specs.Sense.{Arrival}
-use Rattle.rb_rules.specs.Slots.{count_of}
-use Rattle.rb_rules.specs.WorldStep.{Site, coming_from}
+use Rattle.rb_rules.specs.{Clock.stamp_of, Core.of_source, Goodness.{Scenario, clock_of}, Hearing.Coming, Sense.Arrival, Slots.count_of, WorldStep.{Site, coming_from}}
 use Rattle.rb_laws_sweeps.specs.Sweeping.{swept}
 
 -- what comes of source j before a time, in the order of pushing

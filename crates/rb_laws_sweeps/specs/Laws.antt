@@ -1,16 +1,8 @@
 -- What is proved of sweeps.
 use Rattle.std.specs.Prelude.{ℕ, ◌≡◌, ◌+◌, ◌<◌, ◌≤◌, All, false, Option, Some, None, List, [], ◌∷◌, ◌++◌, slice_get}
 use Rattle.rb_base.specs.Nodes.{Side}
-use Rattle.rb_rules.specs.Clock.{time_of}
-use Rattle.rb_rules.specs.Goodness.{Scenario, clock_of}
-use Rattle.rb_rules.specs.Hearing.{Coming, Sending, Span}
-use Rattle.rb_rules.specs.Lawful.{IsLawful}
-use Rattle.rb_rules.specs.Slots.{count_of}
-use Rattle.rb_rules.specs.WorldStep.{Choice, Site, Timed, World, after_arrival, at_node, due_of, go_on, needs_no_event, says_in, sent_to, take, world_after}
-use Rattle.rb_rules.specs.WorldStep.Pending.{Arrival}
-use Rattle.rb_laws_sweeps.specs.AheadOf.{GoesOnAhead, IsFirstTick, LeadsToTick, ahead_of, until_tick}
-use Rattle.rb_laws_sweeps.specs.Sweeping.{Placed, first_of, swept}
-use Rattle.rb_laws_sweeps.specs.Told.{heard, telling}
+use Rattle.rb_rules.specs.{Clock.time_of, Goodness.{Scenario, clock_of}, Hearing.{Coming, Sending, Span}, Lawful.IsLawful, Slots.count_of, WorldStep.{Choice, Site, Timed, World, after_arrival, at_node, due_of, go_on, needs_no_event, says_in, sent_to, take, world_after}, WorldStep.Pending.Arrival}
+use Rattle.rb_laws_sweeps.specs.{AheadOf.{GoesOnAhead, IsFirstTick, LeadsToTick, ahead_of, until_tick}, Sweeping.{Placed, first_of, swept}, Told.{heard, telling}}
 
 -- Nodes.
 

@@ -1,19 +1,9 @@
 -- How much may be pending at a node that leaves arrivals behind.
 use Rattle.std.specs.Prelude.{ℕ, ◌≡◌, ◌+◌, ◌^◌, ◌<◌, ◌≤◌, All, true, false, Some, None, List, [], length, slice_get}
 use Rattle.rb_base.specs.Nodes.{Side, other}
-use Rattle.rb_rules.specs.declared.message.Message.{Message}
-use Rattle.rb_rules.specs.Book.{of_kind}
-use Rattle.rb_rules.specs.Clock.{time_of}
-use Rattle.rb_rules.specs.Core.{Act}
-use Rattle.rb_rules.specs.Entries.{IsListed}
-use Rattle.rb_rules.specs.Goodness.{Scenario, clock_of}
-use Rattle.rb_rules.specs.Lawful.{IsLawful}
-use Rattle.rb_rules.specs.Slots.{count_of}
-use Rattle.rb_rules.specs.WorldStep.{Choice, Site, Timed, World, after_act, pass_and_tick, times_of, world_after}
+use Rattle.rb_rules.specs.{declared.message.Message.Message, Book.of_kind, Clock.time_of, Core.Act, Entries.IsListed, Goodness.{Scenario, clock_of}, Lawful.IsLawful, Slots.count_of, WorldStep.{Choice, Site, Timed, World, after_act, pass_and_tick, times_of, world_after}}
 use Rattle.rb_laws_events.specs.PendingEvents.{most_pending}
-use Rattle.rb_laws_sweeps.specs.AheadOf.{IsFirstTick, ahead_of, tick_alone, until_tick}
-use Rattle.rb_laws_sweeps.specs.Laws.{NeedsEvent}
-use Rattle.rb_laws_sweeps.specs.Sweeping.{swept}
+use Rattle.rb_laws_sweeps.specs.{AheadOf.{IsFirstTick, ahead_of, tick_alone, until_tick}, Laws.NeedsEvent, Sweeping.swept}
 
 -- at a node that has stopped nothing is pending
 abbrev pub StoppedHaveNothing : World → Type 0

@@ -1,12 +1,7 @@
 -- What came to a node, with other stamps.
 use Rattle.std.specs.Prelude.{ℕ, ◌≡◌, ◌^◌, ◌<◌, ◌≤◌, true, List, map}
-use Rattle.rb_base.specs.Nodes.{Side}
-use Rattle.rb_base.specs.Sizes.{sync_slot_of}
-use Rattle.rb_rules.specs.Core.{Core, is_last, state_at, window_here}
-use Rattle.rb_rules.specs.Goodness.{Scenario}
-use Rattle.rb_rules.specs.Ports.{PortState}
-use Rattle.rb_rules.specs.Sense.{Arrival}
-use Rattle.rb_rules.specs.WorldStep.{pass_and_tick}
+use Rattle.rb_base.specs.{Nodes.Side, Sizes.sync_slot_of}
+use Rattle.rb_rules.specs.{Core.{Core, is_last, state_at, window_here}, Goodness.Scenario, Ports.PortState, Sense.Arrival, WorldStep.pass_and_tick}
 
 -- what came, with other stamps: each has the one of its source
 abbrev pub restamped : (ℕ → ℕ) → List (ℕ × Arrival) → List (ℕ × Arrival)

@@ -2,9 +2,7 @@
 -- in their order.
 use Rattle.std.specs.Prelude.{ℕ, zero, suc, ◌==◌, ◌&&◌, ◌||◌, nat_le, nat_lt, Bool, true, false, if◌then◌else◌, Option, Some, None, List, [], ◌∷◌, length}
 use Rattle.rb_base.specs.Nodes.{Side}
-use Rattle.rb_rules.specs.Goodness.{Scenario}
-use Rattle.rb_rules.specs.Hearing.{Coming}
-use Rattle.rb_rules.specs.WorldStep.{Site, after_arrival}
+use Rattle.rb_rules.specs.{Goodness.Scenario, Hearing.Coming, WorldStep.{Site, after_arrival}}
 
 -- c comes before d, or with it from no higher source
 abbrev pub comes_first : Coming → Coming → Bool

@@ -1,14 +1,7 @@
 -- What a node is told, and what it hears of that in a sweep.
 use Rattle.std.specs.Prelude.{ℕ, zero, suc, ◌+◌, nat_lt, true, false, if◌then◌else◌, Option, Some, None, List, [], ◌∷◌, ◌++◌, length, slice_get}
-use Rattle.rb_base.specs.Nodes.{Side}
-use Rattle.rb_base.specs.declared.event.Event.{Event}
-use Rattle.rb_base.specs.declared.node.NodeName.{NodeName}
-use Rattle.rb_rules.specs.Book.{of_kind}
-use Rattle.rb_rules.specs.Goodness.{Scenario}
-use Rattle.rb_rules.specs.Links.{name_of, same_node}
-use Rattle.rb_rules.specs.Ports.{PortState}
-use Rattle.rb_rules.specs.WorldStep.{Pending, Site, Timed, World, event_at, event_of}
-use Rattle.rb_rules.specs.WorldStep.Pending.{Arrival, Tick}
+use Rattle.rb_base.specs.{Nodes.Side, declared.event.Event.Event, declared.node.NodeName.NodeName}
+use Rattle.rb_rules.specs.{Book.of_kind, Goodness.Scenario, Links.{name_of, same_node}, Ports.PortState, WorldStep.{Pending, Site, Timed, World, event_at, event_of}, WorldStep.Pending.{Arrival, Tick}}
 use Rattle.rb_laws_sweeps.specs.Sweeping.{Placed, after_first, first_of, swept}
 
 -- an event at a node, as it is shown, and the frame in which the node stands before it

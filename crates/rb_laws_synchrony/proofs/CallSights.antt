@@ -1,43 +1,12 @@
 -- A stage of the sync slot as it is judged: of whom a good node takes something is seen, and of a
 -- source that is not asymmetric good nodes take what comes to them at near times.
-use Rattle.std.proofs.Common.{◌≡◌, ℕ, zero, suc, ◌+◌, ◌-◌, ◌*◌, ◌≤◌, ◌<◌, not, nat_le, true, false, List, [], ◌∷◌, map, Option, Some, None, is_some, get_or, refl, sym, ◌∙◌, ap, subst, arith, inl, inr, zero-add}
-use Rattle.std.specs.Prelude.{⊤, All}
-use Rattle.std.specs.List.{list_any}
-use Rattle.std.proofs.lemmas.Bool.{and_parts, leb-true, or_left}
-use Rattle.std.proofs.lemmas.List.FromFn.{get_or-map-range_with_len}
-use Rattle.rb_base.specs.Nodes.{Side, other, has}
-use Rattle.rb_base.specs.Sizes.{sync_slot_of}
-use Rattle.rb_base.specs.declared.values.Place.{Place}
-use Rattle.rb_base.specs.declared.values.See.TheVariants.{Nothing}
-use Rattle.rb_rules.specs.declared.sense.Sense.{Sense}
-use Rattle.rb_rules.specs.Book.{judged_of}
-use Rattle.rb_rules.specs.Clock.{IsStamp, Timeline, stamp_of, time_of}
-use Rattle.rb_rules.specs.ExactStage.{each_node}
-use Rattle.rb_rules.specs.Goodness.{Scenario, clock_of, is_good}
-use Rattle.rb_rules.specs.Hearing.{Span, judged_see, said_by, sole_time}
-use Rattle.rb_rules.specs.Judging.{JudgedStage, are_alike, is_asymmetric, is_something, was_taken, was_unlike}
-use Rattle.rb_rules.specs.NodeState.{NodeState}
-use Rattle.rb_rules.specs.NodeSteps.{close}
-use Rattle.rb_rules.specs.Plan.{shortest_of}
-use Rattle.rb_rules.specs.Ports.{HandIn}
-use Rattle.rb_rules.specs.Rounds.{Moment}
-use Rattle.rb_rules.specs.SyncStage.{close_sync, see_time, sync_outcome_of}
-use Rattle.rb_rules.proofs.Middles.{AreNear}
-use Rattle.rb_rules.proofs.Stamps.{stamp_of-is}
-use Rattle.rb_laws_agreement.proofs.ExactWindows.{keeping-is}
-use Rattle.rb_laws_agreement.proofs.SaidWindows.{all-said}
-use Rattle.rb_laws_agreement.proofs.Exchanges.{far-held}
-use Rattle.rb_laws_agreement.proofs.Goodnesses.{good_below_16}
-use Rattle.rb_laws_agreement.proofs.Invariant.{IsGoodNode, Shared}
-use Rattle.rb_laws_agreement.proofs.JudgedWindows.{rows_of, sight-is, taken_in_stage, unlike_in_stage}
-use Rattle.rb_laws_agreement.proofs.NodeWindows.{HasTick, Windows, heard_in, kept_in, sense_in, sync_tick, sync_windows_are, word_at}
-use Rattle.rb_laws_agreement.proofs.StageVotes.{IsSeen}
-use Rattle.rb_laws_agreement.proofs.SyncWindows.{close-sync}
-use Rattle.rb_laws_agreement.proofs.Tests.{or_neither_first, true_or_false}
-use Rattle.rb_laws_synchrony.proofs.PlanNumbers.{drift_of}
-use Rattle.rb_laws_synchrony.proofs.TakenCalls.{IsStage, is_set, taken_from, took, windows}
-use Rattle.rb_laws_synchrony.proofs.TimelyWindows.{good_here}
-use Rattle.rb_laws_synchrony.proofs.Times.{Steady, steady}
+use Rattle.std.proofs.{Common.{◌≡◌, ℕ, zero, suc, ◌+◌, ◌-◌, ◌*◌, ◌≤◌, ◌<◌, not, nat_le, true, false, List, [], ◌∷◌, map, Option, Some, None, is_some, get_or, refl, sym, ◌∙◌, ap, subst, arith, inl, inr, zero-add}, lemmas.Bool.{and_parts, leb-true, or_left}, lemmas.List.FromFn.get_or-map-range_with_len}
+use Rattle.std.specs.{Prelude.{⊤, All}, List.list_any}
+use Rattle.rb_base.specs.{Nodes.{Side, other, has}, Sizes.sync_slot_of, declared.values.Place.Place, declared.values.See.TheVariants.Nothing}
+use Rattle.rb_rules.specs.{declared.sense.Sense.Sense, Book.judged_of, Clock.{IsStamp, Timeline, stamp_of, time_of}, ExactStage.each_node, Goodness.{Scenario, clock_of, is_good}, Hearing.{Span, judged_see, said_by, sole_time}, Judging.{JudgedStage, are_alike, is_asymmetric, is_something, was_taken, was_unlike}, NodeState.NodeState, NodeSteps.close, Plan.shortest_of, Ports.HandIn, Rounds.Moment, SyncStage.{close_sync, see_time, sync_outcome_of}}
+use Rattle.rb_rules.proofs.{Middles.AreNear, Stamps.stamp_of-is}
+use Rattle.rb_laws_agreement.proofs.{ExactWindows.keeping-is, SaidWindows.all-said, Exchanges.far-held, Goodnesses.good_below_16, Invariant.{IsGoodNode, Shared}, JudgedWindows.{rows_of, sight-is, taken_in_stage, unlike_in_stage}, NodeWindows.{HasTick, Windows, heard_in, kept_in, sense_in, sync_tick, sync_windows_are, word_at}, StageVotes.IsSeen, SyncWindows.close-sync, Tests.{or_neither_first, true_or_false}}
+use Rattle.rb_laws_synchrony.proofs.{PlanNumbers.drift_of, TakenCalls.{IsStage, is_set, taken_from, took, windows}, TimelyWindows.good_here, Times.{Steady, steady}}
 
 -- What a good node shows.
 

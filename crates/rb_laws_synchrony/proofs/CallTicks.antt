@@ -1,36 +1,13 @@
 -- For the law that events are rounds: in every moment of a run that has not ended the calls of good
 -- nodes are ticks of their own windows, their next frames begin after all windows of this one, and
 -- no frame begins late.
-use Rattle.std.proofs.Common.{◌≡◌, ℕ, zero, suc, ◌+◌, ◌-◌, ◌*◌, ◌≤◌, ◌<◌, ◌&&◌, nat_lt, Bool, true, false, List, Option, Some, refl, sym, ◌∙◌, ap, subst, arith, inl, inr, lit<}
-use Rattle.std.proofs.lemmas.Bool.{cases_lt}
-use Rattle.std.proofs.lemmas.Bool.Decides.{nat_tests}
-use Rattle.std.proofs.lemmas.Option.{same_Some}
-use Rattle.rb_base.specs.Nodes.{Side}
-use Rattle.rb_base.specs.Nodes.Side.{Biu, Rmu}
-use Rattle.rb_base.specs.Sizes.{Sizes, sync_slot_of}
+use Rattle.std.proofs.{Common.{◌≡◌, ℕ, zero, suc, ◌+◌, ◌-◌, ◌*◌, ◌≤◌, ◌<◌, ◌&&◌, nat_lt, Bool, true, false, List, Option, Some, refl, sym, ◌∙◌, ap, subst, arith, inl, inr, lit<}, lemmas.Bool.cases_lt, lemmas.Bool.Decides.nat_tests, lemmas.Option.same_Some}
+use Rattle.rb_base.specs.{Nodes.Side, Nodes.Side.{Biu, Rmu}, Sizes.{Sizes, sync_slot_of}}
 use Rattle.rb_base.proofs.Plain.{none_and_known}
-use Rattle.rb_rules.specs.declared.role.Role.TheVariants.{Sync}
-use Rattle.rb_rules.specs.Goodness.{Scenario, is_good}
-use Rattle.rb_rules.specs.Lawful.{IsLawful}
-use Rattle.rb_rules.specs.Moments.{IsRunning}
-use Rattle.rb_rules.specs.NodeState.{NodeState}
-use Rattle.rb_rules.specs.Plan.{f0_of}
-use Rattle.rb_rules.specs.Ports.{HandIn}
-use Rattle.rb_rules.specs.Rounds.{Moment, begin_frame, moment, next_frame, windows_in}
-use Rattle.rb_rules.specs.Slots.{listens}
+use Rattle.rb_rules.specs.{declared.role.Role.TheVariants.Sync, Goodness.{Scenario, is_good}, Lawful.IsLawful, Moments.IsRunning, NodeState.NodeState, Plan.f0_of, Ports.HandIn, Rounds.{Moment, begin_frame, moment, next_frame, windows_in}, Slots.listens}
 use Rattle.rb_rules.proofs.RoundStates.{Knows, knows}
-use Rattle.rb_laws_agreement.proofs.Agreement.{running_before, step_is}
-use Rattle.rb_laws_agreement.proofs.Goodnesses.{slot_last}
-use Rattle.rb_laws_agreement.proofs.Invariant.{Agree, IsGoodNode, Shared}
-use Rattle.rb_laws_agreement.proofs.NextMoments.{CameFrom, came_from, next}
-use Rattle.rb_laws_agreement.proofs.NodeWindows.{sync_windows_are, tail_windows}
-use Rattle.rb_laws_agreement.proofs.Settings.{after}
-use Rattle.rb_laws_agreement.proofs.SlotRuns.{next-window}
-use Rattle.rb_laws_synchrony.proofs.KeptMiddles.{Keeps, Leaves, keeps, tail_leaves}
-use Rattle.rb_laws_synchrony.proofs.SyncSteps.{epoch_after, tick_some}
-use Rattle.rb_laws_synchrony.proofs.Synchronous.{KnowNext, KnowsMiddle}
-use Rattle.rb_laws_synchrony.proofs.Synchrony.{IsSynchronous, synchrony}
-use Rattle.rb_laws_synchrony.proofs.TakenCalls.{IsStage}
+use Rattle.rb_laws_agreement.proofs.{Agreement.{running_before, step_is}, Goodnesses.slot_last, Invariant.{Agree, IsGoodNode, Shared}, NextMoments.{CameFrom, came_from, next}, NodeWindows.{sync_windows_are, tail_windows}, Settings.after, SlotRuns.next-window}
+use Rattle.rb_laws_synchrony.proofs.{KeptMiddles.{Keeps, Leaves, keeps, tail_leaves}, SyncSteps.{epoch_after, tick_some}, Synchronous.{KnowNext, KnowsMiddle}, Synchrony.{IsSynchronous, synchrony}, TakenCalls.IsStage}
 
 -- if a good node knows a middle, its next call is at a tick of its own window
 pub record KeepsTicks (sc : Scenario) (st : NodeState) : Type 0 where

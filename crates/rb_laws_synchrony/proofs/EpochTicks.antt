@@ -1,33 +1,12 @@
 -- For the law that events are rounds: in every moment of a run that has not ended good nodes have
 -- had no more ticks before their frame than the frames before it may take, and the frame is one of
 -- the run.
-use Rattle.std.proofs.Common.{◌≡◌, ℕ, zero, suc, ◌+◌, ◌*◌, ◌≤◌, ◌<◌, ◌==◌, max, false, List, Some, slice_get, refl, sym, ◌∙◌, ap, subst, arith, inl, inr}
-use Rattle.std.proofs.lemmas.Bool.Decides.{nat_tests}
-use Rattle.std.proofs.lemmas.Option.{same_Some}
-use Rattle.rb_base.specs.Nodes.{Side}
-use Rattle.rb_base.specs.Sizes.{Sizes}
-use Rattle.rb_rules.specs.declared.plan.Plan.{Plan}
-use Rattle.rb_rules.specs.Book.{each_of, of_kind}
-use Rattle.rb_rules.specs.Goodness.{Scenario}
-use Rattle.rb_rules.specs.Lawful.{IsLawful}
-use Rattle.rb_rules.specs.Moments.{IsRunning}
-use Rattle.rb_rules.specs.NodeState.{NodeState, first_state}
-use Rattle.rb_rules.specs.Plan.{tail_start_of}
-use Rattle.rb_rules.specs.Ports.{HandIn}
-use Rattle.rb_rules.specs.Rounds.{Moment, begin_frame, first_moment, moment, next_frame, windows_in}
-use Rattle.rb_rules.specs.Slots.{count_of}
+use Rattle.std.proofs.{Common.{◌≡◌, ℕ, zero, suc, ◌+◌, ◌*◌, ◌≤◌, ◌<◌, ◌==◌, max, false, List, Some, slice_get, refl, sym, ◌∙◌, ap, subst, arith, inl, inr}, lemmas.Bool.Decides.nat_tests, lemmas.Option.same_Some}
+use Rattle.rb_base.specs.{Nodes.Side, Sizes.Sizes}
+use Rattle.rb_rules.specs.{declared.plan.Plan.Plan, Book.{each_of, of_kind}, Goodness.Scenario, Lawful.IsLawful, Moments.IsRunning, NodeState.{NodeState, first_state}, Plan.tail_start_of, Ports.HandIn, Rounds.{Moment, begin_frame, first_moment, moment, next_frame, windows_in}, Slots.count_of}
 use Rattle.rb_rules.proofs.WindowNumbers.{get-made}
-use Rattle.rb_laws_agreement.proofs.Agreement.{running_before, step_is}
-use Rattle.rb_laws_agreement.proofs.FrameAgrees.{TurnedFrom, begin-frame, turned_from}
-use Rattle.rb_laws_agreement.proofs.FrameBegins.{not-over}
-use Rattle.rb_laws_agreement.proofs.FrameTimes.{turned-epoch}
-use Rattle.rb_laws_agreement.proofs.Goodnesses.{good_counts}
-use Rattle.rb_laws_agreement.proofs.Invariant.{Agree, IsGoodNode, Shared, slot_numbered}
-use Rattle.rb_laws_agreement.proofs.NextMoments.{CameFrom, came_from, next}
-use Rattle.rb_laws_agreement.proofs.SlotRuns.{next-frame}
-use Rattle.rb_laws_synchrony.proofs.SyncSteps.{epoch_after}
-use Rattle.rb_laws_synchrony.proofs.Synchronous.{KnowNext, KnowsEpoch}
-use Rattle.rb_laws_synchrony.proofs.Synchrony.{IsSynchronous, synchrony}
+use Rattle.rb_laws_agreement.proofs.{Agreement.{running_before, step_is}, FrameAgrees.{TurnedFrom, begin-frame, turned_from}, FrameBegins.not-over, FrameTimes.turned-epoch, Goodnesses.good_counts, Invariant.{Agree, IsGoodNode, Shared, slot_numbered}, NextMoments.{CameFrom, came_from, next}, SlotRuns.next-frame}
+use Rattle.rb_laws_synchrony.proofs.{SyncSteps.epoch_after, Synchronous.{KnowNext, KnowsEpoch}, Synchrony.{IsSynchronous, synchrony}}
 
 -- a number of ticks that is greater than those of a frame
 abbrev pub frame_ticks : Sizes → Plan → ℕ

@@ -1,24 +1,8 @@
 -- What a window of the sync slot, or the tail, leaves of the middles that a node keeps.
-use Rattle.std.proofs.Common.{◌≡◌, ℕ, ◌+◌, ◌≤◌, ◌&&◌, nat_le, true, false, Bool, Option, Some, None, unwrap_or, refl, sym, ◌∙◌, ap, subst, inl, inr}
-use Rattle.std.proofs.lemmas.Bool.{leb-true}
-use Rattle.rb_base.specs.Nodes.{Side}
-use Rattle.rb_base.specs.Nodes.Side.{Biu, Rmu}
-use Rattle.rb_base.specs.Sizes.{Sizes, sync_slot_of}
-use Rattle.rb_base.specs.declared.values.Heard.{Heard}
-use Rattle.rb_rules.specs.declared.sense.Sense.{Sense}
-use Rattle.rb_rules.specs.ExactStage.{each_node, present}
-use Rattle.rb_rules.specs.Goodness.{Scenario, is_good}
-use Rattle.rb_rules.specs.Middle.{middle_of}
-use Rattle.rb_rules.specs.NodeState.{NodeState}
-use Rattle.rb_rules.specs.Rounds.{Moment, Result, close_on, go_through, sent_in}
-use Rattle.rb_rules.specs.Sense.{stamp_in}
-use Rattle.rb_rules.specs.Standing.{taken_of}
-use Rattle.rb_rules.specs.SyncStage.{close_sync, expects_call, middle_after, sync_closing_of, sync_outcome_of}
-use Rattle.rb_laws_agreement.proofs.ExactWindows.{keeping-is, sent_by, with_sent}
-use Rattle.rb_laws_agreement.proofs.NodeWindows.{Windows, goes, heard_in, kept_in, own_window, sense_in, state-closed, word_at}
-use Rattle.rb_laws_agreement.proofs.Settings.{after}
-use Rattle.rb_laws_agreement.proofs.SyncWindows.{close-sync}
-use Rattle.rb_laws_agreement.proofs.Tests.{true_or_false}
+use Rattle.std.proofs.{Common.{◌≡◌, ℕ, ◌+◌, ◌≤◌, ◌&&◌, nat_le, true, false, Bool, Option, Some, None, unwrap_or, refl, sym, ◌∙◌, ap, subst, inl, inr}, lemmas.Bool.leb-true}
+use Rattle.rb_base.specs.{Nodes.Side, Nodes.Side.{Biu, Rmu}, Sizes.{Sizes, sync_slot_of}, declared.values.Heard.Heard}
+use Rattle.rb_rules.specs.{declared.sense.Sense.Sense, ExactStage.{each_node, present}, Goodness.{Scenario, is_good}, Middle.middle_of, NodeState.NodeState, Rounds.{Moment, Result, close_on, go_through, sent_in}, Sense.stamp_in, Standing.taken_of, SyncStage.{close_sync, expects_call, middle_after, sync_closing_of, sync_outcome_of}}
+use Rattle.rb_laws_agreement.proofs.{ExactWindows.{keeping-is, sent_by, with_sent}, NodeWindows.{Windows, goes, heard_in, kept_in, own_window, sense_in, state-closed, word_at}, Settings.after, SyncWindows.close-sync, Tests.true_or_false}
 
 -- the middles after a close of a stage that found this one
 pub record Keeps (me : Side) (stage : ℕ) (middle : ℕ) (st now : NodeState) : Type 0 where

@@ -1,38 +1,11 @@
 -- The third stage of the sync slot: if it passes, each good node knows when its next frame begins,
 -- near the others. And the tail.
 use Rattle.std.proofs.Common.{◌≡◌, ℕ, ◌+◌, ◌-◌, ◌*◌, ◌≤◌, ◌<◌, min, max, true, List, Some, option_map, refl, sym, ◌∙◌, ap, arith}
-use Rattle.rb_base.specs.Nodes.{Side}
-use Rattle.rb_base.specs.Nodes.Side.{Biu, Rmu}
-use Rattle.rb_base.specs.Sizes.{sync_slot_of}
-use Rattle.rb_rules.specs.declared.plan.Plan.{Plan}
-use Rattle.rb_rules.specs.Book.{judged_of}
-use Rattle.rb_rules.specs.Clock.{time_of}
-use Rattle.rb_rules.specs.Goodness.{Scenario, clock_of, is_good}
-use Rattle.rb_rules.specs.Lawful.{IsLawful}
-use Rattle.rb_rules.specs.NodeState.{NodeState}
-use Rattle.rb_rules.specs.Plan.{f0_of, shortest_of}
-use Rattle.rb_rules.specs.Ports.{HandIn}
-use Rattle.rb_rules.specs.Rounds.{Moment, after_window}
-use Rattle.rb_rules.specs.SyncStage.{new_epoch_of}
+use Rattle.rb_base.specs.{Nodes.Side, Nodes.Side.{Biu, Rmu}, Sizes.sync_slot_of}
+use Rattle.rb_rules.specs.{declared.plan.Plan.Plan, Book.judged_of, Clock.time_of, Goodness.{Scenario, clock_of, is_good}, Lawful.IsLawful, NodeState.NodeState, Plan.{f0_of, shortest_of}, Ports.HandIn, Rounds.{Moment, after_window}, SyncStage.new_epoch_of}
 use Rattle.rb_rules.proofs.Middles.{IsBetween}
-use Rattle.rb_laws_agreement.proofs.Goodnesses.{slot_last}
-use Rattle.rb_laws_agreement.proofs.Invariant.{Agree, IsGoodNode, Shared}
-use Rattle.rb_laws_agreement.proofs.JudgedWindows.{rows_of}
-use Rattle.rb_laws_agreement.proofs.NextMoments.{CameFrom, came_from, next}
-use Rattle.rb_laws_agreement.proofs.NodeWindows.{tail_windows}
-use Rattle.rb_laws_agreement.proofs.Settings.{after}
-use Rattle.rb_laws_synchrony.proofs.CallSights.{place_of}
-use Rattle.rb_laws_synchrony.proofs.KeptMiddles.{Leaves, keeps, tail_leaves}
-use Rattle.rb_laws_synchrony.proofs.LaterStages.{calls_near}
-use Rattle.rb_laws_synchrony.proofs.PlanNumbers.{Fits, drift_of, eps_of, last_plus, third_late}
-use Rattle.rb_laws_synchrony.proofs.StageCalls.{clock_now, third_about, third_at, third_calls}
-use Rattle.rb_laws_synchrony.proofs.StageMiddles.{CallBetween, IsHeardStage, NoneUnlike, ws_of}
-use Rattle.rb_laws_synchrony.proofs.StageSteps.{CallNear, StageMiddle, closer, near_calls, stage_middle}
-use Rattle.rb_laws_synchrony.proofs.SyncSteps.{IsPassedStage, begun_next, epoch_after, f0_some, kept_found, none_before, some_more, tick_some}
-use Rattle.rb_laws_synchrony.proofs.Synchronous.{KnowNext, KnowsEpoch, Synchronous, from_3, heard_from, heard_to, near_2, near_3, second_kept, ticks_on, to_3}
-use Rattle.rb_laws_synchrony.proofs.TakenCalls.{is_set}
-use Rattle.rb_laws_synchrony.proofs.TimelyWindows.{good_here}
-use Rattle.rb_laws_synchrony.proofs.Times.{Steady, lawful_fits, plan_fits}
+use Rattle.rb_laws_agreement.proofs.{Goodnesses.slot_last, Invariant.{Agree, IsGoodNode, Shared}, JudgedWindows.rows_of, NextMoments.{CameFrom, came_from, next}, NodeWindows.tail_windows, Settings.after}
+use Rattle.rb_laws_synchrony.proofs.{CallSights.place_of, KeptMiddles.{Leaves, keeps, tail_leaves}, LaterStages.calls_near, PlanNumbers.{Fits, drift_of, eps_of, last_plus, third_late}, StageCalls.{clock_now, third_about, third_at, third_calls}, StageMiddles.{CallBetween, IsHeardStage, NoneUnlike, ws_of}, StageSteps.{CallNear, StageMiddle, closer, near_calls, stage_middle}, SyncSteps.{IsPassedStage, begun_next, epoch_after, f0_some, kept_found, none_before, some_more, tick_some}, Synchronous.{KnowNext, KnowsEpoch, Synchronous, from_3, heard_from, heard_to, near_2, near_3, second_kept, ticks_on, to_3}, TakenCalls.is_set, TimelyWindows.good_here, Times.{Steady, lawful_fits, plan_fits}}
 
 -- ---- numbers: the next frame's first ticks come from `least + z * u + min (c * u) dmin` on, if
 -- the calls of stage 3 do from `least` on

@@ -1,15 +1,11 @@
 -- The middle of what is taken of the nodes: it lies between bounds of the good ones' stamps, and of
 -- two nodes that take alike the middles are near.
-use Rattle.std.proofs.Common.{◌≡◌, ℕ, zero, suc, ◌+◌, ◌<◌, ◌≤◌, Bool, true, false, cond, not, ◌&&◌, ◌||◌, List, [], ◌∷◌, length, map, nat_lt, nat_le, Option, Some, None, is_some, refl, sym, ◌∙◌, ap, subst, arith, ◌⊎◌, inl, inr}
-use Rattle.std.specs.Prelude.{⊤}
-use Rattle.std.specs.List.{AllZip, cons_option, range_with_len}
-use Rattle.std.proofs.lemmas.Bool.{cases_lt, leb-true, lt-ltb}
+use Rattle.std.proofs.{Common.{◌≡◌, ℕ, zero, suc, ◌+◌, ◌<◌, ◌≤◌, Bool, true, false, cond, not, ◌&&◌, ◌||◌, List, [], ◌∷◌, length, map, nat_lt, nat_le, Option, Some, None, is_some, refl, sym, ◌∙◌, ap, subst, arith, ◌⊎◌, inl, inr}, lemmas.Bool.{cases_lt, leb-true, lt-ltb}}
+use Rattle.std.specs.{Prelude.{⊤}, List.{AllZip, cons_option, range_with_len}}
 use Rattle.rb_base.specs.Counting.{count_if, numbers}
 use Rattle.rb_base.proofs.Counts.{count_if-le, count_if-le_two}
-use Rattle.rb_rules.specs.ExactStage.{present}
-use Rattle.rb_rules.specs.Middle.{IsMiddle, middle_of}
-use Rattle.rb_rules.proofs.Middles.{AreNear, IsBetween, IsMonotone, has_middle, middle_is, middle-map, middles_near}
-use Rattle.rb_rules.proofs.Votes.{length_present}
+use Rattle.rb_rules.specs.{ExactStage.present, Middle.{IsMiddle, middle_of}}
+use Rattle.rb_rules.proofs.{Middles.{AreNear, IsBetween, IsMonotone, has_middle, middle_is, middle-map, middles_near}, Votes.length_present}
 
 -- ---- counts
 

@@ -1,32 +1,11 @@
 -- For the law that events are rounds: what good nodes send for the stage after one in which the run
 -- breaks off.
-use Rattle.std.proofs.Common.{◌≡◌, ℕ, ◌+◌, ◌-◌, ◌*◌, ◌/◌, ◌%◌, ◌≤◌, ◌<◌, List, Some, option_map, refl, sym, ◌∙◌, ap, subst, arith, inl, inr, lit<}
-use Rattle.std.proofs.lemmas.Bool.{cases_lt}
-use Rattle.std.proofs.lemmas.Option.{same_Some}
-use Rattle.rb_base.specs.Nodes.Side.{Biu, Rmu}
-use Rattle.rb_base.specs.Sizes.{sync_slot_of}
-use Rattle.rb_rules.specs.Clock.{time_of}
-use Rattle.rb_rules.specs.Goodness.{Scenario, clock_of}
-use Rattle.rb_rules.specs.Lawful.{IsLawful}
-use Rattle.rb_rules.specs.NodeState.{NodeState}
-use Rattle.rb_rules.specs.Plan.{f0_of, shortest_of}
-use Rattle.rb_rules.specs.Ports.{HandIn}
-use Rattle.rb_rules.specs.Rounds.{IsTimely, Moment, sent_in, window_in}
-use Rattle.rb_rules.specs.SyncStage.{new_epoch_of}
-use Rattle.rb_rules.proofs.Middles.{IsBetween}
-use Rattle.rb_rules.proofs.RoundStates.{through-stays}
-use Rattle.rb_laws_agreement.proofs.Goodnesses.{slot_last}
-use Rattle.rb_laws_agreement.proofs.Invariant.{Agree, IsGoodNode, Shared}
-use Rattle.rb_laws_agreement.proofs.NextMoments.{CameFrom, came_from, next}
-use Rattle.rb_laws_agreement.proofs.NodeWindows.{sync_windows_are}
-use Rattle.rb_laws_agreement.proofs.SlotRuns.{next-frame, next-window}
-use Rattle.rb_laws_synchrony.proofs.PlanNumbers.{drift_of, eps_of}
-use Rattle.rb_laws_synchrony.proofs.StageCalls.{Begun, IsAt, clock_now, first_about, first_at, first_calls, third_about, third_at, third_calls}
-use Rattle.rb_laws_synchrony.proofs.Synchronous.{Synchronous, from_1, from_3, ticks_on, to_1, to_3}
-use Rattle.rb_laws_synchrony.proofs.SyncSteps.{begun_next}
-use Rattle.rb_laws_synchrony.proofs.TimelyMoments.{AllInFrame, timely_exact, timely_stage}
-use Rattle.rb_laws_synchrony.proofs.TimelyWindows.{IsSet}
-use Rattle.rb_laws_synchrony.proofs.Times.{Steady, lawful_fits, plan_fits}
+use Rattle.std.proofs.{Common.{◌≡◌, ℕ, ◌+◌, ◌-◌, ◌*◌, ◌/◌, ◌%◌, ◌≤◌, ◌<◌, List, Some, option_map, refl, sym, ◌∙◌, ap, subst, arith, inl, inr, lit<}, lemmas.Bool.cases_lt, lemmas.Option.same_Some}
+use Rattle.rb_base.specs.{Nodes.Side.{Biu, Rmu}, Sizes.sync_slot_of}
+use Rattle.rb_rules.specs.{Clock.time_of, Goodness.{Scenario, clock_of}, Lawful.IsLawful, NodeState.NodeState, Plan.{f0_of, shortest_of}, Ports.HandIn, Rounds.{IsTimely, Moment, sent_in, window_in}, SyncStage.new_epoch_of}
+use Rattle.rb_rules.proofs.{Middles.IsBetween, RoundStates.through-stays}
+use Rattle.rb_laws_agreement.proofs.{Goodnesses.slot_last, Invariant.{Agree, IsGoodNode, Shared}, NextMoments.{CameFrom, came_from, next}, NodeWindows.sync_windows_are, SlotRuns.{next-frame, next-window}}
+use Rattle.rb_laws_synchrony.proofs.{PlanNumbers.{drift_of, eps_of}, StageCalls.{Begun, IsAt, clock_now, first_about, first_at, first_calls, third_about, third_at, third_calls}, Synchronous.{Synchronous, from_1, from_3, ticks_on, to_1, to_3}, SyncSteps.begun_next, TimelyMoments.{AllInFrame, timely_exact, timely_stage}, TimelyWindows.IsSet, Times.{Steady, lawful_fits, plan_fits}}
 
 -- ---- windows below the sync slot, and its stage 1
 

@@ -1,32 +1,12 @@
 -- One frame, from any states: the three stages of the sync slot one after the other, and what good
 -- nodes know after them.
-use Rattle.std.proofs.Common.{◌≡◌, ℕ, zero, suc, ◌+◌, ◌-◌, ◌*◌, ◌/◌, ◌%◌, ◌<◌, ◌≤◌, ◌==◌, min, max, true, false, Some, option_map, inl, inr, ◌⊎◌, refl, sym, ◌∙◌, ap, subst, arith}
-use Rattle.std.proofs.Math.Nat.{mul-le-mul_right}
-use Rattle.std.proofs.lemmas.Bool.{cases_lt}
-use Rattle.rb_base.specs.Nodes.{Side, other}
-use Rattle.rb_base.specs.Nodes.Side.{Biu, Rmu}
-use Rattle.rb_base.specs.Sizes.{sync_slot_of}
+use Rattle.std.proofs.{Common.{◌≡◌, ℕ, zero, suc, ◌+◌, ◌-◌, ◌*◌, ◌/◌, ◌%◌, ◌<◌, ◌≤◌, ◌==◌, min, max, true, false, Some, option_map, inl, inr, ◌⊎◌, refl, sym, ◌∙◌, ap, subst, arith}, Math.Nat.mul-le-mul_right, lemmas.Bool.cases_lt}
+use Rattle.rb_base.specs.{Nodes.{Side, other}, Nodes.Side.{Biu, Rmu}, Sizes.sync_slot_of}
 use Rattle.rb_base.proofs.Plain.{eq_self, less-differs}
-use Rattle.rb_rules.specs.declared.plan.Window.{Window}
-use Rattle.rb_rules.specs.declared.role.Role.TheVariants.{Sync}
-use Rattle.rb_rules.specs.Clock.{stamp_of, time_of}
-use Rattle.rb_rules.specs.NodeState.{NodeState}
-use Rattle.rb_rules.specs.Plan.{f0_of, shortest_of}
-use Rattle.rb_rules.specs.Slots.{listens, role_of}
-use Rattle.rb_rules.specs.SyncStage.{call_tick_of, close_sync, send_tick_of, sync_outcome_of}
-use Rattle.rb_rules.specs.Windows.{exact_window, send_offset_of, window_of}
-use Rattle.rb_rules.proofs.Middles.{AreNear, IsBetween}
-use Rattle.rb_rules.proofs.Slots.{sync_role}
-use Rattle.rb_rules.proofs.WindowNumbers.{exact-numbered, exact-slot, sync-numbered}
+use Rattle.rb_rules.specs.{declared.plan.Window.Window, declared.role.Role.TheVariants.Sync, Clock.{stamp_of, time_of}, NodeState.NodeState, Plan.{f0_of, shortest_of}, Slots.{listens, role_of}, SyncStage.{call_tick_of, close_sync, send_tick_of, sync_outcome_of}, Windows.{exact_window, send_offset_of, window_of}}
+use Rattle.rb_rules.proofs.{Middles.{AreNear, IsBetween}, Slots.sync_role, WindowNumbers.{exact-numbered, exact-slot, sync-numbered}}
 use Rattle.rb_laws_synchrony.specs.OneFrame.{BeginsNext, EachMessageIsTimely, Frame, IsFrame, IsTimelyMessage, KeepsPremise, NoneCallsUnlike, OneFrameKeepsTime, state_in, state_through, sync_window, window_in}
-use Rattle.rb_laws_synchrony.proofs.LaterStages.{near-between, weaker}
-use Rattle.rb_laws_synchrony.proofs.LastStage.{biu_begins, rmu_begins}
-use Rattle.rb_laws_synchrony.proofs.PlanNumbers.{drift_of, eps_of, exact_early, exact_late, last_plus, le_trans, second_early, second_late, second_own, third_early, third_late, third_own}
-use Rattle.rb_laws_synchrony.proofs.StageMiddles.{tick_of}
-use Rattle.rb_laws_synchrony.proofs.StageOfFrame.{Calls, IsStageOf, Keeps, Lie, clock-of, closer-still, epoch-is, first-is, fits-of, frame_fits, in-window, keeps, last-is, lie-within, middles-near, offset-at, stay-eligible}
-use Rattle.rb_laws_synchrony.proofs.SyncSteps.{f0-some, some_more}
-use Rattle.rb_laws_synchrony.proofs.Synchronous.{near_1, near_2, near_3, near_on, ticks_on}
-use Rattle.rb_laws_synchrony.proofs.Times.{Steady, stamp_from, stamp_to}
+use Rattle.rb_laws_synchrony.proofs.{LaterStages.{near-between, weaker}, LastStage.{biu_begins, rmu_begins}, PlanNumbers.{drift_of, eps_of, exact_early, exact_late, last_plus, le_trans, second_early, second_late, second_own, third_early, third_late, third_own}, StageMiddles.tick_of, StageOfFrame.{Calls, IsStageOf, Keeps, Lie, clock-of, closer-still, epoch-is, first-is, fits-of, frame_fits, in-window, keeps, last-is, lie-within, middles-near, offset-at, stay-eligible}, SyncSteps.{f0-some, some_more}, Synchronous.{near_1, near_2, near_3, near_on, ticks_on}, Times.{Steady, stamp_from, stamp_to}}
 
 -- Numbers of a frame.
 

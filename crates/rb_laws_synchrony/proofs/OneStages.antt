@@ -1,25 +1,9 @@
 -- One stage of the sync slot, whatever comes of the nodes that are not good.
-use Rattle.std.proofs.Common.{◌≡◌, ℕ, zero, suc, ◌+◌, ◌-◌, ◌<◌, ◌≤◌, ◌==◌, ◌&&◌, inl, inr, Bool, true, false, map, not, Option, Some, None, is_some, unwrap_or, if◌then◌else◌, refl, sym, ◌∙◌, ap, subst, arith}
-use Rattle.std.proofs.lemmas.Bool.{and_from, not-true}
-use Rattle.std.proofs.lemmas.Bool.Decides.{nat_tests}
-use Rattle.std.proofs.lemmas.Option.{same_Some}
-use Rattle.rb_base.specs.Counting.{numbers}
-use Rattle.rb_base.specs.Nodes.{has}
+use Rattle.std.proofs.{Common.{◌≡◌, ℕ, zero, suc, ◌+◌, ◌-◌, ◌<◌, ◌≤◌, ◌==◌, ◌&&◌, inl, inr, Bool, true, false, map, not, Option, Some, None, is_some, unwrap_or, if◌then◌else◌, refl, sym, ◌∙◌, ap, subst, arith}, lemmas.Bool.{and_from, not-true}, lemmas.Bool.Decides.nat_tests, lemmas.Option.same_Some}
+use Rattle.rb_base.specs.{Counting.numbers, Nodes.has}
 use Rattle.rb_base.proofs.Plain.{and_first, and_second}
-use Rattle.rb_rules.specs.declared.plan.Plan.{Plan}
-use Rattle.rb_rules.specs.declared.role.Role.TheVariants.{Sync}
-use Rattle.rb_rules.specs.Clock.{IsStamp, Timeline, stamp_of, time_of}
-use Rattle.rb_rules.specs.ExactStage.{present}
-use Rattle.rb_rules.specs.Middle.{IsMiddle}
-use Rattle.rb_rules.specs.Plan.{longest_of, shortest_of}
-use Rattle.rb_rules.specs.Sense.{stamp_in}
-use Rattle.rb_rules.specs.Slots.{listens}
-use Rattle.rb_rules.specs.Standing.{does_wrong, has_evidence}
-use Rattle.rb_rules.specs.SyncStage.{close_sync, expects_call, sync_closing_of, sync_outcome_of}
-use Rattle.rb_rules.proofs.Drift.{HasLengths, clock_moves, has_lengths, stamp_near, times_rise_to}
-use Rattle.rb_rules.proofs.Middles.{AreNear, IsBetween}
-use Rattle.rb_rules.proofs.Stamps.{Moves, stamp_of-is, stamps_rise}
-use Rattle.rb_rules.proofs.Standings.{expected_is_taken, others_stay, right_is_no_evidence}
+use Rattle.rb_rules.specs.{declared.plan.Plan.Plan, declared.role.Role.TheVariants.Sync, Clock.{IsStamp, Timeline, stamp_of, time_of}, ExactStage.present, Middle.IsMiddle, Plan.{longest_of, shortest_of}, Sense.stamp_in, Slots.listens, Standing.{does_wrong, has_evidence}, SyncStage.{close_sync, expects_call, sync_closing_of, sync_outcome_of}}
+use Rattle.rb_rules.proofs.{Drift.{HasLengths, clock_moves, has_lengths, stamp_near, times_rise_to}, Middles.{AreNear, IsBetween}, Stamps.{Moves, stamp_of-is, stamps_rise}, Standings.{expected_is_taken, others_stay, right_is_no_evidence}}
 use Rattle.rb_laws_synchrony.specs.OneStage.{HearNear, HearsGoodCalls, IsCalledBetween, Listener, MiddlesAreNear, MiddlesLieAmongGoodCalls, TakeNear, middle_kept, stamp_taken, state_after}
 use Rattle.rb_laws_synchrony.proofs.Middles.{BothNear, HasStamp, middle_times_near, middle_within, some_middle}
 

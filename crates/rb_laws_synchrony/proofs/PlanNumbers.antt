@@ -1,13 +1,9 @@
 -- What a feasible plan says on natural numbers. A tick takes at least `u` and at most `u + d`
 -- reference units.
-use Rattle.std.proofs.Common.{◌≡◌, ℕ, ◌+◌, ◌*◌, ◌-◌, ◌<◌, ◌≤◌, min, max, ap, ◌∙◌, subst, arith}
+use Rattle.std.proofs.{Common.{◌≡◌, ℕ, ◌+◌, ◌*◌, ◌-◌, ◌<◌, ◌≤◌, min, max, ap, ◌∙◌, subst, arith}, Math.IntN.pos-*ℤ-pos, Math.Nat.mul-le-mul_left, lemmas.Int.ints}
 use Rattle.std.specs.Prelude.{pos, ◌-ℤ◌, ◌*ℤ◌, ◌≤ℤ◌}
-use Rattle.std.proofs.Math.IntN.{pos-*ℤ-pos}
-use Rattle.std.proofs.Math.Nat.{mul-le-mul_left}
-use Rattle.std.proofs.lemmas.Int.{ints}
 use Rattle.rb_base.specs.Sizes.{Sizes}
-use Rattle.rb_rules.specs.declared.plan.Plan.{Plan}
-use Rattle.rb_rules.specs.Plan.{IsFeasible, IsPlan, Sides, f0_of, drift_in, longest_of, next_skew_of, shortest_of, skew_of}
+use Rattle.rb_rules.specs.{declared.plan.Plan.Plan, Plan.{IsFeasible, IsPlan, Sides, f0_of, drift_in, longest_of, next_skew_of, shortest_of, skew_of}}
 use Rattle.rb_rules.proofs.Lawfulness.{SendsInside, sends_inside_all}
 
 -- how far apart the delays of one message may be

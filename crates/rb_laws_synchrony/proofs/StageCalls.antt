@@ -1,28 +1,11 @@
 -- When good nodes send in a window, by what holds of them before it, and that the windows of all
 -- lie about those times.
-use Rattle.std.proofs.Common.{◌≡◌, ℕ, ◌+◌, ◌-◌, ◌*◌, ◌/◌, ◌%◌, ◌≤◌, ◌<◌, Option, Some, option_map, sym, ◌∙◌, ap, arith}
-use Rattle.std.proofs.lemmas.Option.{same_Some}
-use Rattle.rb_base.specs.Nodes.{Side}
-use Rattle.rb_base.specs.Nodes.Side.{Biu, Rmu}
-use Rattle.rb_base.specs.Sizes.{sync_slot_of}
-use Rattle.rb_rules.specs.Clock.{time_of}
-use Rattle.rb_rules.specs.Goodness.{Scenario, clock_of}
-use Rattle.rb_rules.specs.Hearing.{window_numbered}
-use Rattle.rb_rules.specs.Lawful.{IsLawful}
-use Rattle.rb_rules.specs.NodeState.{NodeState}
-use Rattle.rb_rules.specs.Plan.{f0_of, shortest_of}
-use Rattle.rb_rules.specs.Rounds.{Moment, window_in}
-use Rattle.rb_rules.specs.SyncStage.{call_tick_of}
-use Rattle.rb_rules.specs.Windows.{window_of}
-use Rattle.rb_rules.proofs.Middles.{IsBetween}
-use Rattle.rb_rules.proofs.WindowNumbers.{exact-numbered, sync-numbered}
-use Rattle.rb_laws_agreement.proofs.Invariant.{IsGoodNode, Shared}
-use Rattle.rb_laws_agreement.proofs.NodeWindows.{Windows}
-use Rattle.rb_laws_synchrony.proofs.PlanNumbers.{drift_of, exact_early, exact_late, last_plus, le_trans, second_early, second_late, third_early, third_late}
-use Rattle.rb_laws_synchrony.proofs.StageMiddles.{CallBetween, tick_of}
-use Rattle.rb_laws_synchrony.proofs.Synchronous.{KnowsMiddle, Synchronous, at_offset, from_1, from_2, from_3, heard_from, heard_to, ticks_on, to_1, to_2, to_3}
-use Rattle.rb_laws_synchrony.proofs.TimelyWindows.{IsSet, LieAbout, good_here}
-use Rattle.rb_laws_synchrony.proofs.Times.{Steady, lawful_fits, plan_fits, steady}
+use Rattle.std.proofs.{Common.{◌≡◌, ℕ, ◌+◌, ◌-◌, ◌*◌, ◌/◌, ◌%◌, ◌≤◌, ◌<◌, Option, Some, option_map, sym, ◌∙◌, ap, arith}, lemmas.Option.same_Some}
+use Rattle.rb_base.specs.{Nodes.Side, Nodes.Side.{Biu, Rmu}, Sizes.sync_slot_of}
+use Rattle.rb_rules.specs.{Clock.time_of, Goodness.{Scenario, clock_of}, Hearing.window_numbered, Lawful.IsLawful, NodeState.NodeState, Plan.{f0_of, shortest_of}, Rounds.{Moment, window_in}, SyncStage.call_tick_of, Windows.window_of}
+use Rattle.rb_rules.proofs.{Middles.IsBetween, WindowNumbers.{exact-numbered, sync-numbered}}
+use Rattle.rb_laws_agreement.proofs.{Invariant.{IsGoodNode, Shared}, NodeWindows.Windows}
+use Rattle.rb_laws_synchrony.proofs.{PlanNumbers.{drift_of, exact_early, exact_late, last_plus, le_trans, second_early, second_late, third_early, third_late}, StageMiddles.{CallBetween, tick_of}, Synchronous.{KnowsMiddle, Synchronous, at_offset, from_1, from_2, from_3, heard_from, heard_to, ticks_on, to_1, to_2, to_3}, TimelyWindows.{IsSet, LieAbout, good_here}, Times.{Steady, lawful_fits, plan_fits, steady}}
 
 -- ---- windows by their offsets
 

@@ -1,35 +1,13 @@
 -- One stage of the sync slot of a frame, from any states: what good nodes hear in it, the middles
 -- that they keep, and that these are near.
-use Rattle.std.proofs.Common.{◌≡◌, ℕ, zero, suc, ◌+◌, ◌-◌, ◌*◌, ◌<◌, ◌≤◌, ◌&&◌, max, Bool, true, false, not, Some, unwrap_or, inl, inr, ◌⊎◌, refl, sym, ◌∙◌, ap, subst, arith}
-use Rattle.std.proofs.lemmas.Bool.{and_from, not_from_false, not-true}
-use Rattle.std.proofs.lemmas.Option.{same_Some}
-use Rattle.rb_base.specs.Nodes.{Side, other, has}
-use Rattle.rb_base.specs.Nodes.Side.{Biu, Rmu}
-use Rattle.rb_base.specs.Sizes.{sync_slot_of}
+use Rattle.std.proofs.{Common.{◌≡◌, ℕ, zero, suc, ◌+◌, ◌-◌, ◌*◌, ◌<◌, ◌≤◌, ◌&&◌, max, Bool, true, false, not, Some, unwrap_or, inl, inr, ◌⊎◌, refl, sym, ◌∙◌, ap, subst, arith}, lemmas.Bool.{and_from, not_from_false, not-true}, lemmas.Option.same_Some}
+use Rattle.rb_base.specs.{Nodes.{Side, other, has}, Nodes.Side.{Biu, Rmu}, Sizes.sync_slot_of}
 use Rattle.rb_base.proofs.Plain.{and_first, and_second}
-use Rattle.rb_rules.specs.declared.plan.Window.{Window}
-use Rattle.rb_rules.specs.declared.role.Role.TheVariants.{Sync}
-use Rattle.rb_rules.specs.Clock.{stamp_of, time_of}
-use Rattle.rb_rules.specs.NodeState.{NodeState}
-use Rattle.rb_rules.specs.Plan.{f0_of, longest_of, shortest_of}
-use Rattle.rb_rules.specs.Rounds.{IsTickOf}
-use Rattle.rb_rules.specs.Sense.{stamp_in}
-use Rattle.rb_rules.specs.Slots.{listens}
-use Rattle.rb_rules.specs.Standing.{does_wrong, has_evidence, is_eligible}
-use Rattle.rb_rules.specs.SyncStage.{call_tick_of, close_sync, expects_call, sync_outcome_of}
-use Rattle.rb_rules.specs.Windows.{window_of}
-use Rattle.rb_rules.proofs.Drift.{has_lengths, times_rise_strictly}
-use Rattle.rb_rules.proofs.Middles.{AreNear, IsBetween}
-use Rattle.rb_rules.proofs.Standings.{expected_is_taken, others_stay, right_is_no_evidence}
+use Rattle.rb_rules.specs.{declared.plan.Window.Window, declared.role.Role.TheVariants.Sync, Clock.{stamp_of, time_of}, NodeState.NodeState, Plan.{f0_of, longest_of, shortest_of}, Rounds.IsTickOf, Sense.stamp_in, Slots.listens, Standing.{does_wrong, has_evidence, is_eligible}, SyncStage.{call_tick_of, close_sync, expects_call, sync_outcome_of}, Windows.window_of}
+use Rattle.rb_rules.proofs.{Drift.{has_lengths, times_rise_strictly}, Middles.{AreNear, IsBetween}, Standings.{expected_is_taken, others_stay, right_is_no_evidence}}
 use Rattle.rb_laws_agreement.proofs.Tests.{true_or_false}
-use Rattle.rb_laws_synchrony.specs.OneFrame.{BringsTheCall, Frame, IsFrame, KeepsPremise, MayArrive, listener, span_in, state_through, sync_window, window_in}
-use Rattle.rb_laws_synchrony.specs.OneStage.{HearNear, HearsGoodCalls, IsCalledBetween, KeepsMiddle, LieNear, NearCalls, TakeNear, middle_kept, stamp_taken}
-use Rattle.rb_laws_synchrony.proofs.Middles.{HasLeast, least_of}
-use Rattle.rb_laws_synchrony.proofs.OneStages.{FindsMiddle, finds, middles-are-near, middles-lie-among}
-use Rattle.rb_laws_synchrony.proofs.PlanNumbers.{Fits, drift_of, eps_of, fits, le_trans}
-use Rattle.rb_laws_synchrony.proofs.StageMiddles.{tick_of}
-use Rattle.rb_laws_synchrony.proofs.Synchronous.{at_offset}
-use Rattle.rb_laws_synchrony.proofs.Times.{Steady, stamp_from, stamp_to, steady-clock, tick_le}
+use Rattle.rb_laws_synchrony.specs.{OneFrame.{BringsTheCall, Frame, IsFrame, KeepsPremise, MayArrive, listener, span_in, state_through, sync_window, window_in}, OneStage.{HearNear, HearsGoodCalls, IsCalledBetween, KeepsMiddle, LieNear, NearCalls, TakeNear, middle_kept, stamp_taken}}
+use Rattle.rb_laws_synchrony.proofs.{Middles.{HasLeast, least_of}, OneStages.{FindsMiddle, finds, middles-are-near, middles-lie-among}, PlanNumbers.{Fits, drift_of, eps_of, fits, le_trans}, StageMiddles.tick_of, Synchronous.at_offset, Times.{Steady, stamp_from, stamp_to, steady-clock, tick_le}}
 
 -- The plan and the clocks.
 

@@ -1,31 +1,11 @@
 -- A stage of the sync slot that passes, at one good node: the middle that it keeps is a tick of the
 -- window, and the next call is one of the next window.
-use Rattle.std.proofs.Common.{◌≡◌, ℕ, ◌+◌, ◌-◌, ◌*◌, ◌≤◌, ◌<◌, true, List, Some, option_and_then, unwrap_or, slice_get, refl, sym, ◌∙◌, ap, subst, arith}
-use Rattle.std.proofs.lemmas.Option.{same_Some}
-use Rattle.rb_base.specs.Nodes.{Side, other}
-use Rattle.rb_base.specs.Sizes.{sync_slot_of}
-use Rattle.rb_rules.specs.Book.{of_kind}
-use Rattle.rb_rules.specs.Clock.{time_of}
-use Rattle.rb_rules.specs.ExactStage.{each_node, present}
-use Rattle.rb_rules.specs.Goodness.{Scenario, clock_of, is_good}
-use Rattle.rb_rules.specs.Middle.{IsMiddle, middle_of}
-use Rattle.rb_rules.specs.NodeState.{NodeState}
-use Rattle.rb_rules.specs.Plan.{shortest_of}
-use Rattle.rb_rules.specs.Ports.{HandIn}
-use Rattle.rb_rules.specs.Rounds.{Moment}
-use Rattle.rb_rules.specs.SyncStage.{call_tick_of}
+use Rattle.std.proofs.{Common.{◌≡◌, ℕ, ◌+◌, ◌-◌, ◌*◌, ◌≤◌, ◌<◌, true, List, Some, option_and_then, unwrap_or, slice_get, refl, sym, ◌∙◌, ap, subst, arith}, lemmas.Option.same_Some}
+use Rattle.rb_base.specs.{Nodes.{Side, other}, Sizes.sync_slot_of}
+use Rattle.rb_rules.specs.{Book.of_kind, Clock.time_of, ExactStage.{each_node, present}, Goodness.{Scenario, clock_of, is_good}, Middle.{IsMiddle, middle_of}, NodeState.NodeState, Plan.shortest_of, Ports.HandIn, Rounds.Moment, SyncStage.call_tick_of}
 use Rattle.rb_rules.proofs.Middles.{AreNear, IsBetween}
-use Rattle.rb_laws_agreement.proofs.Goodnesses.{good_below_16, slot_last}
-use Rattle.rb_laws_agreement.proofs.Invariant.{IsGoodNode, Shared, is_good_now, slot_numbered}
-use Rattle.rb_laws_agreement.proofs.NodeWindows.{Windows}
-use Rattle.rb_laws_synchrony.proofs.Middles.{HasLeast, least_of}
-use Rattle.rb_laws_synchrony.proofs.PlanNumbers.{drift_of, le_trans}
-use Rattle.rb_laws_synchrony.proofs.StageCalls.{Begun, IsAt, clock_now}
-use Rattle.rb_laws_synchrony.proofs.StageMiddles.{CallBetween, HearsMiddle, IsCaller, IsHeardStage, Late, all_late, caller, hears_middle, tick_of, ws_of}
-use Rattle.rb_laws_synchrony.proofs.Synchronous.{at_offset, heard_from, heard_to}
-use Rattle.rb_laws_synchrony.proofs.TakenCalls.{took}
-use Rattle.rb_laws_synchrony.proofs.TimelyWindows.{LieAbout}
-use Rattle.rb_laws_synchrony.proofs.Times.{Steady, tick_le}
+use Rattle.rb_laws_agreement.proofs.{Goodnesses.{good_below_16, slot_last}, Invariant.{IsGoodNode, Shared, is_good_now, slot_numbered}, NodeWindows.Windows}
+use Rattle.rb_laws_synchrony.proofs.{Middles.{HasLeast, least_of}, PlanNumbers.{drift_of, le_trans}, StageCalls.{Begun, IsAt, clock_now}, StageMiddles.{CallBetween, HearsMiddle, IsCaller, IsHeardStage, Late, all_late, caller, hears_middle, tick_of, ws_of}, Synchronous.{at_offset, heard_from, heard_to}, TakenCalls.took, TimelyWindows.LieAbout, Times.{Steady, tick_le}}
 
 -- the middle that a good node finds
 pub record StageMiddle (sc : Scenario) (m : Moment) (q : ℕ) (ws : Windows sc m (sync_slot_of sc.sizes) (q + 1)) (me : Side) (i : ℕ) (st : NodeState) (first last own low high : ℕ) : Type 0 where

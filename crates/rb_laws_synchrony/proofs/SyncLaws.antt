@@ -1,26 +1,11 @@
 -- The laws of synchrony.
 use Rattle.std.proofs.Common.{◌≡◌, ℕ, ◌+◌, ◌-◌, ◌*◌, ◌≤◌, List, refl, ◌∙◌, ap, arith, inr}
-use Rattle.rb_base.specs.Nodes.{Side}
-use Rattle.rb_base.specs.Sizes.{sync_slot_of}
-use Rattle.rb_rules.specs.Goodness.{Scenario, clock_of, is_good}
-use Rattle.rb_rules.specs.Lawful.{IsLawful}
-use Rattle.rb_rules.specs.Moments.{IsComplete, IsGoodAfter, IsGoodBefore, IsRunning, after_slot, before_slot, time_in_frame}
-use Rattle.rb_rules.specs.NodeState.{NodeState}
-use Rattle.rb_rules.specs.Plan.{shortest_of}
-use Rattle.rb_rules.specs.Ports.{HandIn}
-use Rattle.rb_rules.specs.Rounds.{Moment, moment, windows_in}
+use Rattle.rb_base.specs.{Nodes.Side, Sizes.sync_slot_of}
+use Rattle.rb_rules.specs.{Goodness.{Scenario, clock_of, is_good}, Lawful.IsLawful, Moments.{IsComplete, IsGoodAfter, IsGoodBefore, IsRunning, after_slot, before_slot, time_in_frame}, NodeState.NodeState, Plan.shortest_of, Ports.HandIn, Rounds.{Moment, moment, windows_in}}
 use Rattle.rb_rules.proofs.Middles.{IsBetween}
-use Rattle.rb_laws_agreement.proofs.FrameBegins.{settled_before}
-use Rattle.rb_laws_agreement.proofs.Goodnesses.{slot_last}
-use Rattle.rb_laws_agreement.proofs.Invariant.{IsGoodNode}
-use Rattle.rb_laws_agreement.proofs.Places.{IsPlaced, good_before_slot, placed}
+use Rattle.rb_laws_agreement.proofs.{FrameBegins.settled_before, Goodnesses.slot_last, Invariant.IsGoodNode, Places.{IsPlaced, good_before_slot, placed}}
 use Rattle.rb_laws_synchrony.specs.Laws.{BeginFramesNear, EpochsStayNear, FramesTakeTheirTime, SlotsBeginNear, WindowsAreTimely}
-use Rattle.rb_laws_synchrony.proofs.PlanNumbers.{drift_of}
-use Rattle.rb_laws_synchrony.proofs.StageCalls.{clock_now}
-use Rattle.rb_laws_synchrony.proofs.StageMiddles.{tick_of}
-use Rattle.rb_laws_synchrony.proofs.Synchronous.{KnowNext, KnowsEpoch, at_offset}
-use Rattle.rb_laws_synchrony.proofs.Synchrony.{IsSynchronous, synchrony}
-use Rattle.rb_laws_synchrony.proofs.TimelyMoments.{timely_moment}
+use Rattle.rb_laws_synchrony.proofs.{PlanNumbers.drift_of, StageCalls.clock_now, StageMiddles.tick_of, Synchronous.{KnowNext, KnowsEpoch, at_offset}, Synchrony.{IsSynchronous, synchrony}, TimelyMoments.timely_moment}
 
 -- every window is timely
 pub all_timely : WindowsAreTimely

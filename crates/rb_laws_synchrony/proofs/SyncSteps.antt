@@ -1,39 +1,11 @@
 -- From one window to the next of its frame good nodes stay near.
-use Rattle.std.proofs.Common.{◌≡◌, ℕ, zero, suc, ◌+◌, ◌-◌, ◌*◌, ◌≤◌, ◌<◌, List, ◌∷◌, Option, Some, refl, sym, ◌∙◌, ap, subst, arith}
+use Rattle.std.proofs.{Common.{◌≡◌, ℕ, zero, suc, ◌+◌, ◌-◌, ◌*◌, ◌≤◌, ◌<◌, List, ◌∷◌, Option, Some, refl, sym, ◌∙◌, ap, subst, arith}, lemmas.Option.same_Some}
 use Rattle.std.specs.List.{list_any}
-use Rattle.std.proofs.lemmas.Option.{same_Some}
-use Rattle.rb_base.specs.Nodes.{Side}
-use Rattle.rb_base.specs.Nodes.Side.{Biu, Rmu}
-use Rattle.rb_base.specs.Sizes.{sync_slot_of}
-use Rattle.rb_rules.specs.Clock.{time_of}
-use Rattle.rb_rules.specs.Goodness.{Scenario, clock_of, is_good}
-use Rattle.rb_rules.specs.Judging.{JudgedStage, was_unlike}
-use Rattle.rb_rules.specs.Lawful.{IsLawful}
-use Rattle.rb_rules.specs.NodeState.{NodeState}
-use Rattle.rb_rules.specs.Plan.{f0_of, shortest_of}
-use Rattle.rb_rules.specs.Ports.{HandIn}
-use Rattle.rb_rules.specs.Rounds.{Moment, after_window, sent_in, window_in}
-use Rattle.rb_rules.proofs.Middles.{AreNear, IsBetween}
-use Rattle.rb_rules.proofs.RoundStates.{through-stays}
-use Rattle.rb_laws_agreement.proofs.Goodnesses.{slot_last}
-use Rattle.rb_laws_agreement.proofs.Invariant.{Agree, IsGoodNode, Shared}
-use Rattle.rb_laws_agreement.proofs.JudgedWindows.{IsPassed, premise_after, rows_of}
-use Rattle.rb_laws_agreement.proofs.NextMoments.{CameFrom, came_from, next}
-use Rattle.rb_laws_agreement.proofs.NodeWindows.{HasTick, Windows, sync_tick, sync_windows_are}
-use Rattle.rb_laws_agreement.proofs.Premises.{Premise}
-use Rattle.rb_laws_agreement.proofs.Settings.{after}
-use Rattle.rb_laws_agreement.proofs.SyncAgrees.{book_sync}
-use Rattle.rb_laws_agreement.proofs.Tests.{or_neither_second}
-use Rattle.rb_laws_synchrony.proofs.CallSights.{stages_with}
-use Rattle.rb_laws_synchrony.proofs.KeptMiddles.{Keeps, keeps_found}
-use Rattle.rb_laws_synchrony.proofs.PlanNumbers.{drift_of, last_plus, second_own}
-use Rattle.rb_laws_synchrony.proofs.StageCalls.{Begun, first_about, first_at, first_calls}
-use Rattle.rb_laws_synchrony.proofs.StageMiddles.{IsHeardStage, NoneUnlike, middles_of_alike, tick_of, ws_of}
-use Rattle.rb_laws_synchrony.proofs.StageSteps.{StageMiddle, stage_middle}
-use Rattle.rb_laws_synchrony.proofs.Synchronous.{KnowsMiddle, Synchronous, from_1, heard_from, heard_to, near_1, to_1}
-use Rattle.rb_laws_synchrony.proofs.TakenCalls.{IsStage, is_set}
-use Rattle.rb_laws_synchrony.proofs.TimelyWindows.{good_here}
-use Rattle.rb_laws_synchrony.proofs.Times.{lawful_fits, plan_fits}
+use Rattle.rb_base.specs.{Nodes.Side, Nodes.Side.{Biu, Rmu}, Sizes.sync_slot_of}
+use Rattle.rb_rules.specs.{Clock.time_of, Goodness.{Scenario, clock_of, is_good}, Judging.{JudgedStage, was_unlike}, Lawful.IsLawful, NodeState.NodeState, Plan.{f0_of, shortest_of}, Ports.HandIn, Rounds.{Moment, after_window, sent_in, window_in}}
+use Rattle.rb_rules.proofs.{Middles.{AreNear, IsBetween}, RoundStates.through-stays}
+use Rattle.rb_laws_agreement.proofs.{Goodnesses.slot_last, Invariant.{Agree, IsGoodNode, Shared}, JudgedWindows.{IsPassed, premise_after, rows_of}, NextMoments.{CameFrom, came_from, next}, NodeWindows.{HasTick, Windows, sync_tick, sync_windows_are}, Premises.Premise, Settings.after, SyncAgrees.book_sync, Tests.or_neither_second}
+use Rattle.rb_laws_synchrony.proofs.{CallSights.stages_with, KeptMiddles.{Keeps, keeps_found}, PlanNumbers.{drift_of, last_plus, second_own}, StageCalls.{Begun, first_about, first_at, first_calls}, StageMiddles.{IsHeardStage, NoneUnlike, middles_of_alike, tick_of, ws_of}, StageSteps.{StageMiddle, stage_middle}, Synchronous.{KnowsMiddle, Synchronous, from_1, heard_from, heard_to, near_1, to_1}, TakenCalls.{IsStage, is_set}, TimelyWindows.good_here, Times.{lawful_fits, plan_fits}}
 
 -- ---- any window
 

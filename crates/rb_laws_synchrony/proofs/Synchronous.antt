@@ -1,21 +1,11 @@
 -- How near good nodes are before each window of a run that has met no breach: how near they began
 -- the frame, and in the sync slot how near the middles are that they keep.
 use Rattle.std.proofs.Common.{◌≡◌, ℕ, ◌+◌, ◌*◌, ◌≤◌, ◌<◌, Option, Some, ap, arith}
-use Rattle.rb_base.specs.Nodes.{Side}
-use Rattle.rb_base.specs.Nodes.Side.{Biu, Rmu}
-use Rattle.rb_base.specs.Sizes.{sync_slot_of}
-use Rattle.rb_rules.specs.declared.plan.Plan.{Plan}
-use Rattle.rb_rules.specs.Clock.{Timeline, time_of}
-use Rattle.rb_rules.specs.Goodness.{Scenario, clock_of}
-use Rattle.rb_rules.specs.NodeState.{NodeState}
-use Rattle.rb_rules.specs.Plan.{f0_of, shortest_of}
-use Rattle.rb_rules.specs.Rounds.{Moment}
-use Rattle.rb_rules.specs.StandsFor.{FrameTakes}
+use Rattle.rb_base.specs.{Nodes.Side, Nodes.Side.{Biu, Rmu}, Sizes.sync_slot_of}
+use Rattle.rb_rules.specs.{declared.plan.Plan.Plan, Clock.{Timeline, time_of}, Goodness.{Scenario, clock_of}, NodeState.NodeState, Plan.{f0_of, shortest_of}, Rounds.Moment, StandsFor.FrameTakes}
 use Rattle.rb_rules.proofs.Middles.{AreNear, IsBetween}
 use Rattle.rb_laws_agreement.proofs.Invariant.{IsGoodNode, Shared}
-use Rattle.rb_laws_synchrony.proofs.PlanNumbers.{drift_of, eps_of}
-use Rattle.rb_laws_synchrony.proofs.StageMiddles.{NoneUnlike, tick_of}
-use Rattle.rb_laws_synchrony.proofs.Times.{Steady, steady}
+use Rattle.rb_laws_synchrony.proofs.{PlanNumbers.{drift_of, eps_of}, StageMiddles.{NoneUnlike, tick_of}, Times.{Steady, steady}}
 
 -- ---- the times of the calls if the frame's first ticks come from `low` on
 

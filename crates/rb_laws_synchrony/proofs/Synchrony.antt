@@ -1,37 +1,10 @@
 -- In every moment of a run that has not ended good nodes are near each other.
-use Rattle.std.proofs.Common.{◌≡◌, ℕ, zero, suc, ◌+◌, ◌-◌, ◌*◌, ◌≤◌, ◌<◌, nat_lt, false, List, [], length, get_or, Some, slice_get, refl, sym, ◌∙◌, ap, subst, arith, inl, inr, lit<}
-use Rattle.std.proofs.lemmas.Bool.{cases_lt, lt-ltb, ltb-true}
-use Rattle.std.proofs.lemmas.Option.{same_Some}
+use Rattle.std.proofs.{Common.{◌≡◌, ℕ, zero, suc, ◌+◌, ◌-◌, ◌*◌, ◌≤◌, ◌<◌, nat_lt, false, List, [], length, get_or, Some, slice_get, refl, sym, ◌∙◌, ap, subst, arith, inl, inr, lit<}, lemmas.Bool.{cases_lt, lt-ltb, ltb-true}, lemmas.Option.same_Some}
 use Rattle.rb_base.specs.Sizes.{sync_slot_of}
-use Rattle.rb_rules.specs.Book.{each_of, of_kind}
-use Rattle.rb_rules.specs.Clock.{Timeline, time_of}
-use Rattle.rb_rules.specs.Conviction.{turn}
-use Rattle.rb_rules.specs.Goodness.{Scenario, clock_of, clock_place}
-use Rattle.rb_rules.specs.Lawful.{IsLawful}
-use Rattle.rb_rules.specs.Moments.{IsRunning}
-use Rattle.rb_rules.specs.NodeState.{first_state}
-use Rattle.rb_rules.specs.Ports.{HandIn}
-use Rattle.rb_rules.specs.Rounds.{Moment, begin_frame, first_moment, moment, next_frame, step, windows_in}
-use Rattle.rb_rules.specs.Slots.{count_of}
-use Rattle.rb_rules.proofs.Middles.{IsBetween}
-use Rattle.rb_rules.proofs.Slots.{place-within}
-use Rattle.rb_rules.proofs.WindowNumbers.{get-made}
-use Rattle.rb_laws_agreement.proofs.Agreement.{IsAgreed, agreement, running_before, step_is}
-use Rattle.rb_laws_agreement.proofs.FrameAgrees.{TurnedFrom, agree_first, first_shared, turned_from}
-use Rattle.rb_laws_agreement.proofs.FrameTimes.{turned-epoch}
-use Rattle.rb_laws_agreement.proofs.Goodnesses.{good_counts}
-use Rattle.rb_laws_agreement.proofs.Invariant.{Agree, Shared, slot_numbered}
-use Rattle.rb_laws_agreement.proofs.JudgedWindows.{IsPassed, passed, rows_of}
-use Rattle.rb_laws_agreement.proofs.NextMoments.{next}
-use Rattle.rb_laws_agreement.proofs.NodeWindows.{sync_windows_are, tail_windows}
-use Rattle.rb_laws_agreement.proofs.SyncAgrees.{agree_sync, book_sync, stage_setting, tail_setting}
-use Rattle.rb_laws_synchrony.proofs.LastStage.{near_tail, near_third}
-use Rattle.rb_laws_synchrony.proofs.LaterStages.{near_second}
-use Rattle.rb_laws_synchrony.proofs.Middles.{HasLeast, least_of}
-use Rattle.rb_laws_synchrony.proofs.StageCalls.{Begun}
-use Rattle.rb_laws_synchrony.proofs.SyncSteps.{IsPassedStage, near_exact, near_first, passed_stage}
-use Rattle.rb_laws_synchrony.proofs.Synchronous.{KnowNext, KnowsEpoch, Synchronous}
-use Rattle.rb_laws_synchrony.proofs.TakenCalls.{IsStage}
+use Rattle.rb_rules.specs.{Book.{each_of, of_kind}, Clock.{Timeline, time_of}, Conviction.turn, Goodness.{Scenario, clock_of, clock_place}, Lawful.IsLawful, Moments.IsRunning, NodeState.first_state, Ports.HandIn, Rounds.{Moment, begin_frame, first_moment, moment, next_frame, step, windows_in}, Slots.count_of}
+use Rattle.rb_rules.proofs.{Middles.IsBetween, Slots.place-within, WindowNumbers.get-made}
+use Rattle.rb_laws_agreement.proofs.{Agreement.{IsAgreed, agreement, running_before, step_is}, FrameAgrees.{TurnedFrom, agree_first, first_shared, turned_from}, FrameTimes.turned-epoch, Goodnesses.good_counts, Invariant.{Agree, Shared, slot_numbered}, JudgedWindows.{IsPassed, passed, rows_of}, NextMoments.next, NodeWindows.{sync_windows_are, tail_windows}, SyncAgrees.{agree_sync, book_sync, stage_setting, tail_setting}}
+use Rattle.rb_laws_synchrony.proofs.{LastStage.{near_tail, near_third}, LaterStages.near_second, Middles.{HasLeast, least_of}, StageCalls.Begun, SyncSteps.{IsPassedStage, near_exact, near_first, passed_stage}, Synchronous.{KnowNext, KnowsEpoch, Synchronous}, TakenCalls.IsStage}
 
 -- ---- the first frame
 

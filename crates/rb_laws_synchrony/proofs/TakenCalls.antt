@@ -1,35 +1,11 @@
 -- A stage of the sync slot: what a good node takes of each source, and what it shows of that.
 use Rattle.std.proofs.Common.{◌≡◌, ℕ, ◌+◌, ◌*◌, ◌%◌, ◌<◌, ◌==◌, ◌&&◌, Bool, true, false, List, [], ◌∷◌, map, Option, Some, None, if◌then◌else◌, refl, sym, ◌∙◌, ap, arith}
 use Rattle.std.specs.Prelude.{option_to_list, option_map}
-use Rattle.rb_base.specs.Nodes.{Side, other, has}
-use Rattle.rb_base.specs.Sizes.{Sizes, sync_slot_of}
+use Rattle.rb_base.specs.{Nodes.{Side, other, has}, Sizes.{Sizes, sync_slot_of}}
 use Rattle.rb_base.proofs.Plain.{all_four, eq_self}
-use Rattle.rb_rules.specs.declared.message.Message.{Message}
-use Rattle.rb_rules.specs.declared.plan.Plan.{Plan}
-use Rattle.rb_rules.specs.declared.role.Role.TheVariants.{Sync}
-use Rattle.rb_rules.specs.declared.sense.Expect.{Expect}
-use Rattle.rb_rules.specs.declared.sense.Sense.{Sense}
-use Rattle.rb_rules.specs.declared.sense.Sense.TheVariants.{One, Bad}
-use Rattle.rb_rules.specs.Clock.{Timeline, stamp_of}
-use Rattle.rb_rules.specs.Goodness.{Scenario, clock_of, is_good}
-use Rattle.rb_rules.specs.Hearing.{Coming, Sending, arrival_of, coming_of, sending}
-use Rattle.rb_rules.specs.Lawful.{IsLawful}
-use Rattle.rb_rules.specs.NodeState.{NodeState}
-use Rattle.rb_rules.specs.NodeSteps.{expect_of, message_said}
-use Rattle.rb_rules.specs.Ports.{HandIn}
-use Rattle.rb_rules.specs.Rounds.{Moment}
-use Rattle.rb_rules.specs.Sense.{sense_of, sense_of_one, stamp_in, suits}
-use Rattle.rb_rules.specs.Slots.{listens}
-use Rattle.rb_rules.specs.Spelling.{IsMessage, message_in}
-use Rattle.rb_rules.specs.Standing.{is_eligible, taken_of}
-use Rattle.rb_rules.specs.SyncStage.{call_of, call_tick_of, calls, expects_call, send_tick_of}
-use Rattle.rb_rules.proofs.RoundStates.{keeping-stays}
-use Rattle.rb_rules.proofs.Senses.{spelled_is_one}
-use Rattle.rb_rules.proofs.Slots.{few_slots, other_twice}
-use Rattle.rb_laws_agreement.proofs.Exchanges.{far-held}
-use Rattle.rb_laws_agreement.proofs.Goodnesses.{slot_last}
-use Rattle.rb_laws_agreement.proofs.Invariant.{Agree, Holds, IsGoodNode, Shared}
-use Rattle.rb_laws_agreement.proofs.NodeWindows.{Windows, heard_in, kept_in, sense_in, sync_windows_are, word_at}
+use Rattle.rb_rules.specs.{declared.message.Message.Message, declared.plan.Plan.Plan, declared.role.Role.TheVariants.Sync, declared.sense.Expect.Expect, declared.sense.Sense.Sense, declared.sense.Sense.TheVariants.{One, Bad}, Clock.{Timeline, stamp_of}, Goodness.{Scenario, clock_of, is_good}, Hearing.{Coming, Sending, arrival_of, coming_of, sending}, Lawful.IsLawful, NodeState.NodeState, NodeSteps.{expect_of, message_said}, Ports.HandIn, Rounds.Moment, Sense.{sense_of, sense_of_one, stamp_in, suits}, Slots.listens, Spelling.{IsMessage, message_in}, Standing.{is_eligible, taken_of}, SyncStage.{call_of, call_tick_of, calls, expects_call, send_tick_of}}
+use Rattle.rb_rules.proofs.{RoundStates.keeping-stays, Senses.spelled_is_one, Slots.{few_slots, other_twice}}
+use Rattle.rb_laws_agreement.proofs.{Exchanges.far-held, Goodnesses.slot_last, Invariant.{Agree, Holds, IsGoodNode, Shared}, NodeWindows.{Windows, heard_in, kept_in, sense_in, sync_windows_are, word_at}}
 use Rattle.rb_laws_synchrony.proofs.TimelyWindows.{IsSent, IsSet, heard_good, sent_parts}
 
 -- stage q + 1 of the sync slot, before which all good nodes agree

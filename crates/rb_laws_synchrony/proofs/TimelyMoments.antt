@@ -1,33 +1,10 @@
 -- If good nodes are near each other before a window, the window is timely.
-use Rattle.std.proofs.Common.{◌≡◌, ℕ, zero, suc, ◌+◌, ◌-◌, ◌*◌, ◌/◌, ◌%◌, ◌≤◌, ◌<◌, ◌==◌, true, false, List, Some, refl, sym, ◌∙◌, ap, subst, arith, inl, inr, lit<}
-use Rattle.std.proofs.lemmas.Bool.{cases_lt}
-use Rattle.std.proofs.lemmas.Option.{same_Some}
-use Rattle.std.proofs.Math.Nat.{mul-le-mul_right}
-use Rattle.rb_base.specs.Nodes.{Side, other}
-use Rattle.rb_base.specs.Nodes.Side.{Biu, Rmu}
-use Rattle.rb_base.specs.Sizes.{sync_slot_of}
+use Rattle.std.proofs.{Common.{◌≡◌, ℕ, zero, suc, ◌+◌, ◌-◌, ◌*◌, ◌/◌, ◌%◌, ◌≤◌, ◌<◌, ◌==◌, true, false, List, Some, refl, sym, ◌∙◌, ap, subst, arith, inl, inr, lit<}, lemmas.Bool.cases_lt, lemmas.Option.same_Some, Math.Nat.mul-le-mul_right}
+use Rattle.rb_base.specs.{Nodes.{Side, other}, Nodes.Side.{Biu, Rmu}, Sizes.sync_slot_of}
 use Rattle.rb_base.proofs.Plain.{less-differs}
-use Rattle.rb_rules.specs.declared.role.Role.TheVariants.{Sync}
-use Rattle.rb_rules.specs.Goodness.{Scenario, clock_of}
-use Rattle.rb_rules.specs.Hearing.{Sending, sending}
-use Rattle.rb_rules.specs.Lawful.{IsLawful}
-use Rattle.rb_rules.specs.NodeState.{NodeState}
-use Rattle.rb_rules.specs.Plan.{f0_of, shortest_of}
-use Rattle.rb_rules.specs.Ports.{HandIn}
-use Rattle.rb_rules.specs.Rounds.{IsTimely, Moment, windows_in}
-use Rattle.rb_rules.specs.Slots.{listens}
-use Rattle.rb_rules.specs.SyncStage.{send_tick_of}
-use Rattle.rb_rules.specs.Windows.{send_offset_of}
-use Rattle.rb_laws_agreement.proofs.Goodnesses.{slot_here, slot_last}
-use Rattle.rb_laws_agreement.proofs.Invariant.{Agree, IsGoodNode, Shared}
-use Rattle.rb_laws_agreement.proofs.NodeWindows.{exact_windows, tail_windows, word_at}
-use Rattle.rb_laws_synchrony.proofs.PlanNumbers.{drift_of, exact_early, exact_late, last_plus}
-use Rattle.rb_laws_synchrony.proofs.StageMiddles.{tick_of}
-use Rattle.rb_laws_synchrony.proofs.StageCalls.{Begun, CallWell, IsAt, clock_now, exact_at, first_about, first_at, first_calls, lie_about, second_about, second_at, second_calls, third_about, third_at, third_calls}
-use Rattle.rb_laws_synchrony.proofs.Synchronous.{Synchronous, at_offset, from_1, from_2, from_3, to_1, to_2, to_3}
-use Rattle.rb_laws_synchrony.proofs.TakenCalls.{IsStage, call_sent, is_set}
-use Rattle.rb_laws_synchrony.proofs.TimelyWindows.{IsSent, IsSet, LieAbout, sent_parts, timely, timely_silent}
-use Rattle.rb_laws_synchrony.proofs.Times.{lawful_fits, plan_fits}
+use Rattle.rb_rules.specs.{declared.role.Role.TheVariants.Sync, Goodness.{Scenario, clock_of}, Hearing.{Sending, sending}, Lawful.IsLawful, NodeState.NodeState, Plan.{f0_of, shortest_of}, Ports.HandIn, Rounds.{IsTimely, Moment, windows_in}, Slots.listens, SyncStage.send_tick_of, Windows.send_offset_of}
+use Rattle.rb_laws_agreement.proofs.{Goodnesses.{slot_here, slot_last}, Invariant.{Agree, IsGoodNode, Shared}, NodeWindows.{exact_windows, tail_windows, word_at}}
+use Rattle.rb_laws_synchrony.proofs.{PlanNumbers.{drift_of, exact_early, exact_late, last_plus}, StageMiddles.tick_of, StageCalls.{Begun, CallWell, IsAt, clock_now, exact_at, first_about, first_at, first_calls, lie_about, second_about, second_at, second_calls, third_about, third_at, third_calls}, Synchronous.{Synchronous, at_offset, from_1, from_2, from_3, to_1, to_2, to_3}, TakenCalls.{IsStage, call_sent, is_set}, TimelyWindows.{IsSent, IsSet, LieAbout, sent_parts, timely, timely_silent}, Times.{lawful_fits, plan_fits}}
 
 -- ---- below the sync slot
 

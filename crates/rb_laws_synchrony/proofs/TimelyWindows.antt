@@ -1,29 +1,12 @@
 -- When a window is timely: if what good nodes send in it is sent at their own ticks of it, and
 -- between two times about which the windows of all good nodes lie.
-use Rattle.std.proofs.Common.{◌≡◌, ℕ, ◌+◌, ◌≤◌, true, [], Option, Some, None, slice_get, option_map, option_and_then, refl, sym, ◌∙◌, ap, subst, arith}
+use Rattle.std.proofs.{Common.{◌≡◌, ℕ, ◌+◌, ◌≤◌, true, [], Option, Some, None, slice_get, option_map, option_and_then, refl, sym, ◌∙◌, ap, subst, arith}, lemmas.List.Elements.{All-cons, All-nil}}
 use Rattle.std.specs.Prelude.{All, IfSome, option_to_list}
-use Rattle.std.proofs.lemmas.List.Elements.{All-cons, All-nil}
-use Rattle.rb_base.specs.Nodes.{Side, other}
-use Rattle.rb_base.specs.Sizes.{Sizes}
-use Rattle.rb_base.specs.declared.values.Place.{Place}
-use Rattle.rb_rules.specs.declared.message.Message.{Message}
-use Rattle.rb_rules.specs.declared.plan.Plan.{Plan}
-use Rattle.rb_rules.specs.Book.{of_kind}
-use Rattle.rb_rules.specs.Clock.{stamp_of, time_of}
-use Rattle.rb_rules.specs.Goodness.{Scenario, clock_of, is_good}
-use Rattle.rb_rules.specs.Hearing.{Coming, Sending, coming_of, sending, span_of}
-use Rattle.rb_rules.specs.Lawful.{IsDelay, IsLawful}
-use Rattle.rb_rules.specs.Links.{delay_of, name_of}
-use Rattle.rb_rules.specs.NodeState.{NodeState}
-use Rattle.rb_rules.specs.NodeSteps.{message_said}
-use Rattle.rb_rules.specs.Plan.{shortest_of}
-use Rattle.rb_rules.specs.Rounds.{IsGoodIn, IsTickOf, IsTimely, Moment, heard_at, sending_in, sent_in}
-use Rattle.rb_rules.specs.SyncStage.{send_tick_of}
+use Rattle.rb_base.specs.{Nodes.{Side, other}, Sizes.Sizes, declared.values.Place.Place}
+use Rattle.rb_rules.specs.{declared.message.Message.Message, declared.plan.Plan.Plan, Book.of_kind, Clock.{stamp_of, time_of}, Goodness.{Scenario, clock_of, is_good}, Hearing.{Coming, Sending, coming_of, sending, span_of}, Lawful.{IsDelay, IsLawful}, Links.{delay_of, name_of}, NodeState.NodeState, NodeSteps.message_said, Plan.shortest_of, Rounds.{IsGoodIn, IsTickOf, IsTimely, Moment, heard_at, sending_in, sent_in}, SyncStage.send_tick_of}
 use Rattle.rb_rules.proofs.Middles.{IsBetween}
-use Rattle.rb_laws_agreement.proofs.Invariant.{IsGoodNode, slot_numbered}
-use Rattle.rb_laws_agreement.proofs.NodeWindows.{Windows, from-good, heard_in, own_window, sent-at, word_at}
-use Rattle.rb_laws_synchrony.proofs.PlanNumbers.{drift_of}
-use Rattle.rb_laws_synchrony.proofs.Times.{Steady, delay_within, stamp_from, stamp_to, steady}
+use Rattle.rb_laws_agreement.proofs.{Invariant.{IsGoodNode, slot_numbered}, NodeWindows.{Windows, from-good, heard_in, own_window, sent-at, word_at}}
+use Rattle.rb_laws_synchrony.proofs.{PlanNumbers.drift_of, Times.{Steady, delay_within, stamp_from, stamp_to, steady}}
 
 -- What a node sends.
 

@@ -1,21 +1,9 @@
 -- The clocks of good nodes, stamps of times, and how long messages are on their way.
-use Rattle.std.proofs.Common.{◌≡◌, ℕ, zero, suc, ◌+◌, ◌*◌, ◌<◌, ◌≤◌, Bool, true, false, List, [], ◌∷◌, length, inl, inr, if◌then◌else◌, subst, arith}
+use Rattle.std.proofs.{Common.{◌≡◌, ℕ, zero, suc, ◌+◌, ◌*◌, ◌<◌, ◌≤◌, Bool, true, false, List, [], ◌∷◌, length, inl, inr, if◌then◌else◌, subst, arith}, lemmas.Bool.cases_lt, lemmas.List.Elements.{All-head, All-tail}}
 use Rattle.std.specs.Prelude.{All}
-use Rattle.std.proofs.lemmas.Bool.{cases_lt}
-use Rattle.std.proofs.lemmas.List.Elements.{All-head, All-tail}
-use Rattle.rb_base.specs.Nodes.{Side}
-use Rattle.rb_base.specs.declared.node.NodeName.{NodeName}
-use Rattle.rb_base.specs.declared.values.Place.{Place}
-use Rattle.rb_rules.specs.declared.link.Rule.{Rule}
-use Rattle.rb_rules.specs.declared.plan.Plan.{Plan}
-use Rattle.rb_rules.specs.Clock.{Timeline, IsStamp, stamp_of, time_of}
-use Rattle.rb_rules.specs.Goodness.{Scenario, clock_of, clock_place, is_good}
-use Rattle.rb_rules.specs.Lawful.{IsDelay, IsLawful}
-use Rattle.rb_rules.specs.Links.{applies, delay_after, delay_of}
-use Rattle.rb_rules.specs.Plan.{f0_of, longest_of, shortest_of}
-use Rattle.rb_rules.proofs.Drift.{HasLengths, drift, has_lengths, stamp_near, times_rise_strictly}
-use Rattle.rb_rules.proofs.Slots.{place-within}
-use Rattle.rb_rules.proofs.Stamps.{Moves, stamp_of-is, stamp_le}
+use Rattle.rb_base.specs.{Nodes.Side, declared.node.NodeName.NodeName, declared.values.Place.Place}
+use Rattle.rb_rules.specs.{declared.link.Rule.Rule, declared.plan.Plan.Plan, Clock.{Timeline, IsStamp, stamp_of, time_of}, Goodness.{Scenario, clock_of, clock_place, is_good}, Lawful.{IsDelay, IsLawful}, Links.{applies, delay_after, delay_of}, Plan.{f0_of, longest_of, shortest_of}}
+use Rattle.rb_rules.proofs.{Drift.{HasLengths, drift, has_lengths, stamp_near, times_rise_strictly}, Slots.place-within, Stamps.{Moves, stamp_of-is, stamp_le}}
 use Rattle.rb_laws_agreement.proofs.Goodnesses.{good_counts}
 use Rattle.rb_laws_synchrony.proofs.PlanNumbers.{Fits, drift_of, fits}
 

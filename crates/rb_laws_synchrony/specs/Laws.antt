@@ -1,16 +1,8 @@
 -- What holds of the clocks in every lawful scenario, whatever is handed in, up to the first breach
 -- of the premise on faults.
 use Rattle.std.specs.Prelude.{ℕ, ◌+◌, ◌<◌, ◌≤◌, List}
-use Rattle.rb_base.specs.Nodes.{Side}
-use Rattle.rb_base.specs.Sizes.{sync_slot_of}
-use Rattle.rb_rules.specs.Goodness.{Scenario}
-use Rattle.rb_rules.specs.Headline.{BeginSlotsNear}
-use Rattle.rb_rules.specs.Lawful.{IsLawful}
-use Rattle.rb_rules.specs.Moments.{IsRunning, IsComplete, IsReached, IsGoodBefore, IsGoodAfter, time_in_frame}
-use Rattle.rb_rules.specs.NodeState.{NodeState}
-use Rattle.rb_rules.specs.Ports.{HandIn}
-use Rattle.rb_rules.specs.Rounds.{IsTimely, moment, windows_in}
-use Rattle.rb_rules.specs.StandsFor.{FrameTakes}
+use Rattle.rb_base.specs.{Nodes.Side, Sizes.sync_slot_of}
+use Rattle.rb_rules.specs.{Goodness.Scenario, Headline.BeginSlotsNear, Lawful.IsLawful, Moments.{IsRunning, IsComplete, IsReached, IsGoodBefore, IsGoodAfter, time_in_frame}, NodeState.NodeState, Ports.HandIn, Rounds.{IsTimely, moment, windows_in}, StandsFor.FrameTakes}
 
 -- good nodes begin a frame that is reached at most p apart
 abbrev pub BeginFramesNear : Scenario → List HandIn → Type 0

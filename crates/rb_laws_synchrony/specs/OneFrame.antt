@@ -3,25 +3,8 @@
 -- other, and the fault premise holds in the sync slot, all their windows are timely, and they begin
 -- the next frame within p.
 use Rattle.std.specs.Prelude.{ℕ, zero, suc, ◌≡◌, ◌+◌, ◌-◌, ◌*◌, ◌<◌, ◌≤◌, ◌⊎◌, not, ◌&&◌, Bool, true, false, Some, is_some}
-use Rattle.rb_base.specs.Counting.{count_if, numbers}
-use Rattle.rb_base.specs.Nodes.{Side, other}
-use Rattle.rb_base.specs.Nodes.Side.{Biu, Rmu}
-use Rattle.rb_base.specs.Sizes.{Sizes, IsShape, sync_slot_of}
-use Rattle.rb_rules.specs.declared.message.Message.{Message}
-use Rattle.rb_rules.specs.declared.plan.Plan.{Plan}
-use Rattle.rb_rules.specs.declared.plan.Window.{Window}
-use Rattle.rb_rules.specs.declared.role.Role.TheVariants.{Sync}
-use Rattle.rb_rules.specs.declared.sense.Sense.{Sense}
-use Rattle.rb_rules.specs.declared.sense.Sense.TheVariants.{Silent, One}
-use Rattle.rb_rules.specs.Clock.{IsClock, Timeline, stamp_of, time_of}
-use Rattle.rb_rules.specs.Hearing.{Span, span_of, window_numbered}
-use Rattle.rb_rules.specs.NodeState.{NodeState}
-use Rattle.rb_rules.specs.Plan.{IsFeasible, IsPlan, longest_of, shortest_of}
-use Rattle.rb_rules.specs.Rounds.{IsTickOf}
-use Rattle.rb_rules.specs.Slots.{listens, role_of}
-use Rattle.rb_rules.specs.Standing.{is_eligible}
-use Rattle.rb_rules.specs.StandsFor.{FrameTakes}
-use Rattle.rb_rules.specs.SyncStage.{call_tick_of, close_sync, send_tick_of}
+use Rattle.rb_base.specs.{Counting.{count_if, numbers}, Nodes.{Side, other}, Nodes.Side.{Biu, Rmu}, Sizes.{Sizes, IsShape, sync_slot_of}}
+use Rattle.rb_rules.specs.{declared.message.Message.Message, declared.plan.Plan.Plan, declared.plan.Window.Window, declared.role.Role.TheVariants.Sync, declared.sense.Sense.Sense, declared.sense.Sense.TheVariants.{Silent, One}, Clock.{IsClock, Timeline, stamp_of, time_of}, Hearing.{Span, span_of, window_numbered}, NodeState.NodeState, Plan.{IsFeasible, IsPlan, longest_of, shortest_of}, Rounds.IsTickOf, Slots.{listens, role_of}, Standing.is_eligible, StandsFor.FrameTakes, SyncStage.{call_tick_of, close_sync, send_tick_of}}
 use Rattle.rb_laws_synchrony.specs.OneStage.{Listener, TakeNear, stamp_taken}
 
 -- A frame at all nodes.

@@ -1,21 +1,8 @@
 -- One stage of the sync slot, whatever nodes that are not good do: where the middle of a good node
 -- lies, how near the middles of two are, and that no good node is accused directly.
 use Rattle.std.specs.Prelude.{ℕ, ◌≡◌, ◌+◌, ◌-◌, ◌<◌, ◌≤◌, ◌==◌, ◌&&◌, ◌⊎◌, not, Bool, true, false, if◌then◌else◌, Option, Some, None, is_some}
-use Rattle.rb_base.specs.Counting.{count_if, numbers}
-use Rattle.rb_base.specs.Nodes.{Side, has}
-use Rattle.rb_base.specs.Sizes.{Sizes}
-use Rattle.rb_rules.specs.declared.message.Message.{Message}
-use Rattle.rb_rules.specs.declared.plan.Plan.{Plan}
-use Rattle.rb_rules.specs.declared.role.Role.TheVariants.{Sync}
-use Rattle.rb_rules.specs.declared.sense.Sense.{Sense}
-use Rattle.rb_rules.specs.declared.sense.Sense.TheVariants.{One}
-use Rattle.rb_rules.specs.Clock.{IsClock, Timeline, stamp_of, time_of}
-use Rattle.rb_rules.specs.NodeState.{NodeState}
-use Rattle.rb_rules.specs.Plan.{longest_of, shortest_of}
-use Rattle.rb_rules.specs.Sense.{stamp_in}
-use Rattle.rb_rules.specs.Slots.{listens}
-use Rattle.rb_rules.specs.Standing.{is_eligible, taken_of}
-use Rattle.rb_rules.specs.SyncStage.{close_sync, expects_call}
+use Rattle.rb_base.specs.{Counting.{count_if, numbers}, Nodes.{Side, has}, Sizes.Sizes}
+use Rattle.rb_rules.specs.{declared.message.Message.Message, declared.plan.Plan.Plan, declared.role.Role.TheVariants.Sync, declared.sense.Sense.Sense, declared.sense.Sense.TheVariants.One, Clock.{IsClock, Timeline, stamp_of, time_of}, NodeState.NodeState, Plan.{longest_of, shortest_of}, Sense.stamp_in, Slots.listens, Standing.{is_eligible, taken_of}, SyncStage.{close_sync, expects_call}}
 
 -- a node in a stage of the sync slot: its kind and clock, its state before, its window's first
 -- tick, and what comes from each source

@@ -1,14 +1,9 @@
 -- The last rule that applies gives the delay, whether it is looked for among all rules or among
 -- those of a pair of nodes.
-use Rattle.std.proofs.Common.{◌≡◌, ℕ, Bool, true, false, cond, ◌&&◌, if◌then◌else◌, List, [], ◌∷◌, Option, Some, None, reverse, filter, refl, ◌∙◌, ap}
-use Rattle.std.specs.List.{find}
-use Rattle.std.specs.Option.{option_or}
-use Rattle.std.proofs.lemmas.List.{reverse-append}
-use Rattle.std.proofs.lemmas.List.Folds.{find-append}
-use Rattle.rb_base.specs.declared.node.NodeName.{NodeName}
-use Rattle.rb_base.specs.declared.values.Place.{Place}
-use Rattle.rb_rules.specs.declared.link.Rule.{Rule}
-use Rattle.rb_rules.specs.Links.{applies, covers, delay_after}
+use Rattle.std.proofs.{Common.{◌≡◌, ℕ, Bool, true, false, cond, ◌&&◌, if◌then◌else◌, List, [], ◌∷◌, Option, Some, None, reverse, filter, refl, ◌∙◌, ap}, lemmas.List.reverse-append, lemmas.List.Folds.find-append}
+use Rattle.std.specs.{List.find, Option.option_or}
+use Rattle.rb_base.specs.{declared.node.NodeName.NodeName, declared.values.Place.Place}
+use Rattle.rb_rules.specs.{declared.link.Rule.Rule, Links.{applies, covers, delay_after}}
 use Rattle.rb_link.specs.Pairs.{delay_or, is_between}
 
 -- the delay of the last rule that passes, or else `base`

@@ -1,16 +1,9 @@
 -- The latest rule of a pair gives the delay at each place that it has.
-use Rattle.std.proofs.Common.{◌≡◌, ℕ, ◌+◌, ◌<◌, ◌≤◌, nat_le, Bool, true, false, cond, ◌&&◌, ◌==◌, length, List, [], ◌∷◌, ◌++◌, Option, Some, None, reverse, slice_get, get_or, refl, sym, ap, subst, inl, inr, ◌∙◌, arith, length-append}
-use Rattle.std.proofs.Math.Seq.{get_or-append_seam}
-use Rattle.std.proofs.lemmas.Bool.{cases_lt, eqb-true, le-leb}
-use Rattle.std.proofs.lemmas.List.{get_or_append_left}
-use Rattle.std.proofs.lemmas.Option.{get_or_from_slice_get, slice_get-get_or, slice_get_within}
+use Rattle.std.proofs.{Common.{◌≡◌, ℕ, ◌+◌, ◌<◌, ◌≤◌, nat_le, Bool, true, false, cond, ◌&&◌, ◌==◌, length, List, [], ◌∷◌, ◌++◌, Option, Some, None, reverse, slice_get, get_or, refl, sym, ap, subst, inl, inr, ◌∙◌, arith, length-append}, Math.Seq.get_or-append_seam, lemmas.Bool.{cases_lt, eqb-true, le-leb}, lemmas.List.get_or_append_left, lemmas.Option.{get_or_from_slice_get, slice_get-get_or, slice_get_within}}
 use Rattle.std.specs.List.{find}
-use Rattle.rb_base.specs.declared.node.NodeName.{NodeName}
-use Rattle.rb_base.specs.declared.values.Place.{Place}
-use Rattle.rb_rules.specs.declared.link.Rule.{Rule}
-use Rattle.rb_rules.specs.Links.{applies, covers, delay_after, is_in_range}
-use Rattle.rb_link.specs.Pairs.{AreLatest, IsLatest, delay_or, is_between, receiver_of, rule_or_base, sender_of}
-use Rattle.rb_link.specs.Rows.{PlaceFits, latest_has, rule_has}
+use Rattle.rb_base.specs.{declared.node.NodeName.NodeName, declared.values.Place.Place}
+use Rattle.rb_rules.specs.{declared.link.Rule.Rule, Links.{applies, covers, delay_after, is_in_range}}
+use Rattle.rb_link.specs.{Pairs.{AreLatest, IsLatest, delay_or, is_between, receiver_of, rule_or_base, sender_of}, Rows.{PlaceFits, latest_has, rule_has}}
 use Rattle.rb_link.proofs.LastRules.{last_of_all}
 
 -- if the first rule that passes the first test passes the second, it is the first that passes both

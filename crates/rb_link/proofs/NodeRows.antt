@@ -1,22 +1,10 @@
 -- The rows of delays: if a place is in a sender's ranges, each of its latest rules has it.
-use Rattle.std.proofs.Common.{◌≡◌, ℕ, zero, suc, add-one, max, min, ◌*◌, ◌+◌, ◌-◌, ◌<◌, ◌≤◌, ◌/◌, ◌%◌, nat_le, nat_lt, Bool, true, false, ◌&&◌, if◌then◌else◌, length, List, [], ◌∷◌, ◌++◌, Option, Some, None, drop, take, map, slice_get, get_or, refl, sym, ap, subst, inl, inr, ◌∙◌, arith, length-append}
-use Rattle.std.proofs.Math.Seq.{get_or-append_seam}
-use Rattle.std.proofs.lemmas.Bool.{and_from, and_parts, cases_lt, le-leb, le-ltb, leb-true, lt-ltb}
-use Rattle.std.proofs.lemmas.List.{get_or_append_left, length-map}
-use Rattle.std.proofs.lemmas.Option.{get_or_from_slice_get, slice_get-get_or, slice_get_within}
-use Rattle.std.proofs.lemmas.List.Edits.{length-between}
+use Rattle.std.proofs.{Common.{◌≡◌, ℕ, zero, suc, add-one, max, min, ◌*◌, ◌+◌, ◌-◌, ◌<◌, ◌≤◌, ◌/◌, ◌%◌, nat_le, nat_lt, Bool, true, false, ◌&&◌, if◌then◌else◌, length, List, [], ◌∷◌, ◌++◌, Option, Some, None, drop, take, map, slice_get, get_or, refl, sym, ap, subst, inl, inr, ◌∙◌, arith, length-append}, Math.Seq.get_or-append_seam, lemmas.Bool.{and_from, and_parts, cases_lt, le-leb, le-ltb, leb-true, lt-ltb}, lemmas.List.{get_or_append_left, length-map}, lemmas.Option.{get_or_from_slice_get, slice_get-get_or, slice_get_within}, lemmas.List.Edits.length-between}
 use Rattle.std.specs.List.{slice_range}
-use Rattle.rb_base.specs.Nodes.{other}
-use Rattle.rb_base.specs.declared.node.NodeName.{NodeName}
-use Rattle.rb_base.specs.declared.node.NodeName.TheVariants.{Biu, Rmu}
-use Rattle.rb_base.specs.declared.values.Place.{Place}
+use Rattle.rb_base.specs.{Nodes.other, declared.node.NodeName.NodeName, declared.node.NodeName.TheVariants.{Biu, Rmu}, declared.values.Place.Place}
 use Rattle.rb_base.proofs.Plain.{same_bool}
-use Rattle.rb_rules.specs.declared.link.Rule.{Rule}
-use Rattle.rb_rules.specs.Lawful.{kind_of}
-use Rattle.rb_rules.specs.Links.{DelayRules, covers, is_in_range, name_of}
-use Rattle.rb_link.specs.Pairs.{AreLatest, receiver_of, sender_of}
-use Rattle.rb_link.specs.Rows.{AreRows, AreShared, PlaceFits, IsRowOf, IsSender, IsShared, all_below, all_latest_have, delay_of_rule, has_row, is_numbered, latest_has, rule_has}
-use Rattle.rb_link.specs.declared.rows.Ranges.{Ranges}
+use Rattle.rb_rules.specs.{declared.link.Rule.Rule, Lawful.kind_of, Links.{DelayRules, covers, is_in_range, name_of}}
+use Rattle.rb_link.specs.{Pairs.{AreLatest, receiver_of, sender_of}, Rows.{AreRows, AreShared, PlaceFits, IsRowOf, IsSender, IsShared, all_below, all_latest_have, delay_of_rule, has_row, is_numbered, latest_has, rule_has}, declared.rows.Ranges.Ranges}
 use Rattle.rb_link.proofs.Latest.{every_place, latest_delay_is, latest_places_are}
 
 -- ---- tests

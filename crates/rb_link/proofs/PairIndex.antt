@@ -1,16 +1,9 @@
 -- The index: the places of the rules of each pair, pair by pair, and where those of each pair
 -- begin.
-use Rattle.std.proofs.Common.{◌≡◌, ℕ, zero, suc, ◌+◌, ◌-◌, ◌<◌, length, get_or, take, Bool, true, false, cond, List, [], ◌∷◌, ◌++◌, Option, Some, None, reverse, filter, slice_get, refl, sym, ap, subst, inl, inr, ◌∙◌, add-one, append_assoc, arith, length-append, length-take-le}
-use Rattle.std.proofs.Math.Seq.{drop-append_seam, get_or-append_seam, take-append_seam}
-use Rattle.std.proofs.lemmas.List.{append-nil, get_or_append_left, reverse-append, take_more}
-use Rattle.std.proofs.lemmas.Bool.{cases_lt}
-use Rattle.std.proofs.lemmas.List.Elements.{filter_map-append}
-use Rattle.std.proofs.lemmas.Option.{slice_get-get_or}
+use Rattle.std.proofs.{Common.{◌≡◌, ℕ, zero, suc, ◌+◌, ◌-◌, ◌<◌, length, get_or, take, Bool, true, false, cond, List, [], ◌∷◌, ◌++◌, Option, Some, None, reverse, filter, slice_get, refl, sym, ap, subst, inl, inr, ◌∙◌, add-one, append_assoc, arith, length-append, length-take-le}, Math.Seq.{drop-append_seam, get_or-append_seam, take-append_seam}, lemmas.List.{append-nil, get_or_append_left, reverse-append, take_more}, lemmas.Bool.cases_lt, lemmas.List.Elements.filter_map-append, lemmas.Option.slice_get-get_or}
 use Rattle.std.specs.List.{cons_option, filter_map, find, slice_index, slice_range}
-use Rattle.rb_base.specs.declared.node.NodeName.{NodeName}
-use Rattle.rb_base.specs.declared.values.Place.{Place}
-use Rattle.rb_rules.specs.declared.link.Rule.{Rule}
-use Rattle.rb_rules.specs.Links.{covers, delay_after}
+use Rattle.rb_base.specs.{declared.node.NodeName.NodeName, declared.values.Place.Place}
+use Rattle.rb_rules.specs.{declared.link.Rule.Rule, Links.{covers, delay_after}}
 use Rattle.rb_link.specs.Pairs.{IsIndex, delay_or, is_between, places_for, places_from, places_of, receiver_of, sender_of}
 use Rattle.rb_link.proofs.LastRules.{last_of_pair}
 

@@ -1,11 +1,7 @@
 -- The rules by the pair of nodes that they are for.
-use Rattle.std.specs.Prelude.{ℕ, ◌≡◌, ◌+◌, ◌-◌, ◌/◌, ◌%◌, ◌<◌, nat_lt, ◌&&◌, Bool, cond, if◌then◌else◌, List, [], ◌∷◌, length, reverse, slice_get, slice_index, slice_range, Option, Some, None}
-use Rattle.std.specs.List.{find}
-use Rattle.rb_base.specs.declared.node.NodeName.{NodeName}
-use Rattle.rb_base.specs.declared.node.NodeName.TheVariants.{Biu, Rmu}
-use Rattle.rb_rules.specs.declared.link.Pattern.TheVariants.{One}
-use Rattle.rb_rules.specs.declared.link.Rule.{Rule}
-use Rattle.rb_rules.specs.Links.{stands_for}
+use Rattle.std.specs.{Prelude.{ℕ, ◌≡◌, ◌+◌, ◌-◌, ◌/◌, ◌%◌, ◌<◌, nat_lt, ◌&&◌, Bool, cond, if◌then◌else◌, List, [], ◌∷◌, length, reverse, slice_get, slice_index, slice_range, Option, Some, None}, List.find}
+use Rattle.rb_base.specs.{declared.node.NodeName.NodeName, declared.node.NodeName.TheVariants.{Biu, Rmu}}
+use Rattle.rb_rules.specs.{declared.link.Pattern.TheVariants.One, declared.link.Rule.Rule, Links.stands_for}
 
 -- the rule is for messages from the one node to the other
 abbrev pub is_between : NodeName → NodeName → Rule → Bool

@@ -1,9 +1,7 @@
 -- What is kept of the delays beside the rules.
 use Rattle.std.specs.Prelude.{ℕ, List}
 use Rattle.rb_rules.specs.declared.link.Rule.{Rule}
-use Rattle.rb_link.specs.Pairs.{AreLatest, IsIndex}
-use Rattle.rb_link.specs.Rows.{AreRows}
-use Rattle.rb_link.specs.declared.rows.Ranges.{Ranges}
+use Rattle.rb_link.specs.{Pairs.{AreLatest, IsIndex}, Rows.AreRows, declared.rows.Ranges.Ranges}
 
 -- what is prepared fits the rules
 pub record ArePrepared (base : ℕ) (rules latest : List Rule) (starts places : List ℕ) (shared : List Ranges) (flat : List ℕ) : Type 0 where

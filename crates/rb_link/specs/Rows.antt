@@ -1,15 +1,8 @@
 -- The delays of a node's messages of one place, one a receiver.
-use Rattle.std.specs.Prelude.{ℕ, zero, suc, Bool, true, ◌&&◌, ◌≡◌, ◌*◌, ◌+◌, ◌<◌, ◌^◌, nat_lt, length, List, reverse, slice_get, Option, Some, None}
-use Rattle.std.specs.List.{find}
-use Rattle.rb_base.specs.Nodes.{other}
-use Rattle.rb_base.specs.declared.node.NodeName.{NodeName}
-use Rattle.rb_base.specs.declared.node.NodeName.TheVariants.{Biu, Rmu}
-use Rattle.rb_base.specs.declared.values.Place.{Place}
-use Rattle.rb_rules.specs.declared.link.Rule.{Rule}
-use Rattle.rb_rules.specs.Lawful.{kind_of}
-use Rattle.rb_rules.specs.Links.{DelayRules, covers, delay_after, delay_of, name_of}
-use Rattle.rb_link.specs.Pairs.{is_between, receiver_of, sender_of}
-use Rattle.rb_link.specs.declared.rows.Ranges.{Ranges}
+use Rattle.std.specs.{Prelude.{ℕ, zero, suc, Bool, true, ◌&&◌, ◌≡◌, ◌*◌, ◌+◌, ◌<◌, ◌^◌, nat_lt, length, List, reverse, slice_get, Option, Some, None}, List.find}
+use Rattle.rb_base.specs.{Nodes.other, declared.node.NodeName.NodeName, declared.node.NodeName.TheVariants.{Biu, Rmu}, declared.values.Place.Place}
+use Rattle.rb_rules.specs.{declared.link.Rule.Rule, Lawful.kind_of, Links.{DelayRules, covers, delay_after, delay_of, name_of}}
+use Rattle.rb_link.specs.{Pairs.{is_between, receiver_of, sender_of}, declared.rows.Ranges.Ranges}
 
 -- each delay that the row has is that of the messages of this place to the node of the other kind
 -- with its number

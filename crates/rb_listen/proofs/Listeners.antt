@@ -1,27 +1,12 @@
 -- What a listener's calls come to.
-use Rattle.std.proofs.Common.{◌≡◌, ℕ, zero, suc, ◌+◌, ◌<◌, ◌≤◌, ◌^◌, ◌==◌, ◌&&◌, nat_lt, Bool, true, false, refl, ap, sym, ◌∙◌, subst, arith, Option, Some, None, unwrap_or, List, if◌then◌else◌, option_and_then}
-use Rattle.std.proofs.lemmas.Bool.Decides.{nat_tests}
-use Rattle.rb_base.specs.Nodes.Side.{Biu}
-use Rattle.rb_base.specs.Sizes.{Sizes}
-use Rattle.rb_base.specs.declared.values.Delivery.{Delivery}
-use Rattle.rb_rules.specs.declared.closing.Closed.{Closed}
-use Rattle.rb_rules.specs.declared.plan.Plan.{Plan}
-use Rattle.rb_rules.specs.Core.{Act, Core, arrive, is_tick}
-use Rattle.rb_node.specs.Acts.{IsAct}
-use Rattle.rb_node.specs.Cores.{IsCore, Running}
-use Rattle.rb_node.specs.declared.act.Step.{Step}
+use Rattle.std.proofs.{Common.{◌≡◌, ℕ, zero, suc, ◌+◌, ◌<◌, ◌≤◌, ◌^◌, ◌==◌, ◌&&◌, nat_lt, Bool, true, false, refl, ap, sym, ◌∙◌, subst, arith, Option, Some, None, unwrap_or, List, if◌then◌else◌, option_and_then}, lemmas.Bool.Decides.nat_tests}
+use Rattle.rb_base.specs.{Nodes.Side.Biu, Sizes.Sizes, declared.values.Delivery.Delivery}
+use Rattle.rb_rules.specs.{declared.closing.Closed.Closed, declared.plan.Plan.Plan, Core.{Act, Core, arrive, is_tick}}
+use Rattle.rb_node.specs.{Acts.IsAct, Cores.{IsCore, Running}, declared.act.Step.Step}
 use Rattle.rb_rules.proofs.QuietTicks.{nothing}
-use Rattle.rb_listen.specs.Following.{arrive_at, follow, follow_at, follows, follows_at, wakes}
-use Rattle.rb_listen.specs.Waking.{wakes_at}
+use Rattle.rb_listen.specs.{Following.{arrive_at, follow, follow_at, follows, follows_at, wakes}, Waking.wakes_at, Lessons.first_of, Listeners.IsListeningIn, Listening.{Heeding, Listening, TellNothing, decided, decision_of, first_core, followed, frame_of, had_by, hear, heed, heeds, in_time, is_deciding, is_over, later, next_heed, search_on, searching, told, untold, wait_on}, declared.heed.Heed.Heed, declared.lesson.First.First, declared.listener.Stage.TheVariants.Following, declared.search.Search.Search}
 use Rattle.rb_listen.proofs.Waking.{quiet-tick}
-use Rattle.rb_listen.specs.Lessons.{first_of}
-use Rattle.rb_listen.specs.Listeners.{IsListeningIn}
-use Rattle.rb_listen.specs.Listening.{Heeding, Listening, TellNothing, decided, decision_of, first_core, followed, frame_of, had_by, hear, heed, heeds, in_time, is_deciding, is_over, later, next_heed, search_on, searching, told, untold, wait_on}
 use Rattle.rb_listen.specs.Listening as now
-use Rattle.rb_listen.specs.declared.heed.Heed.{Heed}
-use Rattle.rb_listen.specs.declared.lesson.First.{First}
-use Rattle.rb_listen.specs.declared.listener.Stage.TheVariants.{Following}
-use Rattle.rb_listen.specs.declared.search.Search.{Search}
 
 over : (n : ℕ) → 2 ^ 31 ≤ n → is_over n ≡ true
 over n h = grind (arith, nat_tests)

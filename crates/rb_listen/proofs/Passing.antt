@@ -1,16 +1,8 @@
 -- The call with which a pass begins is found.
-use Rattle.std.proofs.Common.{◌≡◌, ℕ, ◌+◌, ◌<◌, ◌≤◌, Bool, true, false, ◌==◌, ◌&&◌, nat_le, refl, ap, sym, ◌∙◌, arith, Option, Some, None, option_map, List, drop, get_or, length}
-use Rattle.std.proofs.lemmas.Bool.Decides.{nat_tests}
-use Rattle.std.proofs.lemmas.List.{drop_all, drop_more}
+use Rattle.std.proofs.{Common.{◌≡◌, ℕ, ◌+◌, ◌<◌, ◌≤◌, Bool, true, false, ◌==◌, ◌&&◌, nat_le, refl, ap, sym, ◌∙◌, arith, Option, Some, None, option_map, List, drop, get_or, length}, lemmas.Bool.Decides.nat_tests, lemmas.List.{drop_all, drop_more}}
 use Rattle.rb_base.specs.Sizes.{Sizes, sync_slot_of}
-use Rattle.rb_rules.specs.declared.message.Message.{Message}
-use Rattle.rb_rules.specs.declared.plan.Plan.{Plan}
-use Rattle.rb_rules.specs.Slots.{role_of}
-use Rattle.rb_listen.specs.Lessons.{first_by, first_of, has_place, middle_in, stage_recorded, trusted_bius, trusted_rmus}
-use Rattle.rb_listen.specs.Passes.{begins_pass, frame_in, pass_among, pass_of}
-use Rattle.rb_listen.specs.declared.lesson.First.{First}
-use Rattle.rb_listen.specs.declared.lesson.Lesson.{Lesson}
-use Rattle.rb_listen.specs.declared.passes.Call.{Call}
+use Rattle.rb_rules.specs.{declared.message.Message.Message, declared.plan.Plan.Plan, Slots.role_of}
+use Rattle.rb_listen.specs.{Lessons.{first_by, first_of, has_place, middle_in, stage_recorded, trusted_bius, trusted_rmus}, Passes.{begins_pass, frame_in, pass_among, pass_of}, declared.lesson.First.First, declared.lesson.Lesson.Lesson, declared.passes.Call.Call}
 
 pub found : (sizes : Sizes) (plan : Plan) (newest : List (Option Call)) (j : ℕ) (call : Option Call) → j < length newest
     → pass_among sizes plan newest newest ≡ pass_among sizes plan newest (drop j newest) → call ≡ get_or newest j None

@@ -1,25 +1,11 @@
 -- What holds of a search between two calls, and what a tick makes of it.
-use Rattle.std.proofs.Common.{◌≡◌, ℕ, ◌+◌, ◌%◌, ◌<◌, ◌≤◌, ◌^◌, ◌==◌, ◌&&◌, nat_lt, Bool, true, false, refl, ap, sym, ◌∙◌, subst, arith, Option, Some, None, is_some, option_map, List, mod-lt, if◌then◌else◌}
-use Rattle.std.proofs.lemmas.Bool.{le-ltb, lt-ltb}
-use Rattle.std.proofs.lemmas.Bool.Decides.{nat_tests}
+use Rattle.std.proofs.{Common.{◌≡◌, ℕ, ◌+◌, ◌%◌, ◌<◌, ◌≤◌, ◌^◌, ◌==◌, ◌&&◌, nat_lt, Bool, true, false, refl, ap, sym, ◌∙◌, subst, arith, Option, Some, None, is_some, option_map, List, mod-lt, if◌then◌else◌}, lemmas.Bool.{le-ltb, lt-ltb}, lemmas.Bool.Decides.nat_tests}
 use Rattle.rb_base.specs.Sizes.{Sizes}
 use Rattle.rb_base.proofs.Plain.{and-false}
-use Rattle.rb_rules.specs.declared.message.Message.{Message}
-use Rattle.rb_rules.specs.declared.plan.Plan.{Plan}
-use Rattle.rb_rules.specs.Core.{is_tick}
-use Rattle.rb_rules.specs.Spelling.{message_in}
-use Rattle.rb_listen.specs.Lessons.{first_by, first_of, frame_after, has_place, noted, with_record}
-use Rattle.rb_listen.specs.Listeners.{ComesTo, IsAhead, IsSearching}
-use Rattle.rb_listen.specs.Listening.{Listening, decided, decision_of, first_search, if_after, if_call, if_message, if_pass, in_time, is_deciding, later, learning, newest_with, passing, recorded, search_on, searching, timed, with_message, with_pass}
-use Rattle.rb_listen.specs.Listening as now
-use Rattle.rb_listen.specs.Passes.{is_call, pass_of, reach_of}
-use Rattle.rb_listen.specs.Stamps.{AreSoon}
-use Rattle.rb_listen.specs.declared.lesson.First.{First}
-use Rattle.rb_listen.specs.declared.lesson.Lesson.{Lesson}
-use Rattle.rb_listen.specs.declared.listener.Stage.{Stage}
-use Rattle.rb_listen.specs.declared.listener.Stage.TheVariants.{Searching, Waiting}
-use Rattle.rb_listen.specs.declared.search.Search.{Search}
+use Rattle.rb_rules.specs.{declared.message.Message.Message, declared.plan.Plan.Plan, Core.is_tick, Spelling.message_in}
+use Rattle.rb_listen.specs.{Lessons.{first_by, first_of, frame_after, has_place, noted, with_record}, Listeners.{ComesTo, IsAhead, IsSearching}, Listening.{Listening, decided, decision_of, first_search, if_after, if_call, if_message, if_pass, in_time, is_deciding, later, learning, newest_with, passing, recorded, search_on, searching, timed, with_message, with_pass}, Passes.{is_call, pass_of, reach_of}, Stamps.AreSoon, declared.lesson.First.First, declared.lesson.Lesson.Lesson, declared.listener.Stage.Stage, declared.listener.Stage.TheVariants.{Searching, Waiting}, declared.search.Search.Search}
 use Rattle.rb_listen.proofs.Soon.{none-soon, noted-soon}
+use Rattle.rb_listen.specs.Listening as now
 
 -- A search that has had k ticks.
 

@@ -1,16 +1,9 @@
 -- The stamps of a lesson do not run ahead.
 use Rattle.std.proofs.Common.{ℕ, zero, suc, ◌≤◌, ◌^◌, Bool, true, false, ◌==◌, if◌then◌else◌, [], ◌∷◌, Option, Some, None, IfSome, List, All, get_or, slice_set, replicate}
-use Rattle.rb_base.specs.Nodes.{has}
-use Rattle.rb_base.specs.Sizes.{Sizes, sync_slot_of}
+use Rattle.rb_base.specs.{Nodes.has, Sizes.{Sizes, sync_slot_of}}
 use Rattle.rb_resync.proofs.Closings.{TakenUpTo, middle_up_to}
-use Rattle.rb_rules.specs.declared.message.Message.{Message}
-use Rattle.rb_rules.specs.declared.sense.Sense.{Sense}
-use Rattle.rb_rules.specs.declared.sense.Sense.TheVariants.{Silent, One, Bad}
-use Rattle.rb_rules.specs.Middle.{IsMiddle}
-use Rattle.rb_rules.specs.Sense.{stamp_in, tag_suits}
-use Rattle.rb_listen.specs.Lessons.{has_place, noted, nothing_recorded, place_of, record_of, recorded_of, with_message, with_record}
-use Rattle.rb_listen.specs.declared.lesson.Lesson.{Lesson}
-use Rattle.rb_listen.specs.Stamps.{AreSoon, IsSoonSense}
+use Rattle.rb_rules.specs.{declared.message.Message.Message, declared.sense.Sense.Sense, declared.sense.Sense.TheVariants.{Silent, One, Bad}, Middle.IsMiddle, Sense.{stamp_in, tag_suits}}
+use Rattle.rb_listen.specs.{Lessons.{has_place, noted, nothing_recorded, place_of, record_of, recorded_of, with_message, with_record}, declared.lesson.Lesson.Lesson, Stamps.{AreSoon, IsSoonSense}}
 
 stamp-soon : (s : Sense) → IsSoonSense s → TakenUpTo (2 ^ 31) (stamp_in s)
 stamp-soon Silent h = tt

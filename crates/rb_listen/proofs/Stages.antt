@@ -2,20 +2,10 @@
 use Rattle.std.proofs.Common.{◌≡◌, ℕ, ◌+◌, ◌<◌, ◌≤◌, ◌^◌, refl, ap, sym, ◌∙◌, subst, false, List}
 use Rattle.rb_base.specs.Sizes.{Sizes}
 use Rattle.rb_node.specs.Cores.{IsCore, Running}
-use Rattle.rb_rules.specs.declared.plan.Plan.{Plan}
-use Rattle.rb_rules.specs.Core.{Core}
-use Rattle.rb_listen.specs.Following.{arrive_at, follow_at, follows_at}
-use Rattle.rb_listen.specs.Waking.{wakes_at}
-use Rattle.rb_listen.specs.Listeners.{ComesTo, IsAhead, IsInStage, IsListeningIn, IsSound, end_in, had_in}
-use Rattle.rb_listen.specs.Listening.{Heeding, Listening, TellNothing, decision_of, first_core, had_by, hear, heed, heeds, no_heed, search_on, searching, told, untold}
+use Rattle.rb_rules.specs.{declared.plan.Plan.Plan, Core.Core}
+use Rattle.rb_listen.specs.{Following.{arrive_at, follow_at, follows_at}, Waking.wakes_at, Listeners.{ComesTo, IsAhead, IsInStage, IsListeningIn, IsSound, end_in, had_in}, Listening.{Heeding, Listening, TellNothing, decision_of, first_core, had_by, hear, heed, heeds, no_heed, search_on, searching, told, untold}, declared.heed.Heed.Heed, declared.lesson.First.First, declared.listener.Stage.Stage, declared.listener.Stage.TheVariants.{Searching, Waiting, Following}, declared.search.Search.Search}
+use Rattle.rb_listen.proofs.{Listeners.{begins-following, goes-on-following, hears-following, hears-searching, hears-waiting, heeds-over, heeds-searching, heeds-spent, heeds-wait, nothing-following, nothing-searching, nothing-waiting, passes-following, passes-searching, passes-waiting}, Searches.{Stays, arrive-stays, stays-ahead, stays-now, stays-search}}
 use Rattle.rb_listen.specs.Listening as now
-use Rattle.rb_listen.specs.declared.heed.Heed.{Heed}
-use Rattle.rb_listen.specs.declared.lesson.First.{First}
-use Rattle.rb_listen.specs.declared.listener.Stage.{Stage}
-use Rattle.rb_listen.specs.declared.listener.Stage.TheVariants.{Searching, Waiting, Following}
-use Rattle.rb_listen.specs.declared.search.Search.{Search}
-use Rattle.rb_listen.proofs.Listeners.{begins-following, goes-on-following, hears-following, hears-searching, hears-waiting, heeds-over, heeds-searching, heeds-spent, heeds-wait, nothing-following, nothing-searching, nothing-waiting, passes-following, passes-searching, passes-waiting}
-use Rattle.rb_listen.proofs.Searches.{Stays, arrive-stays, stays-ahead, stays-now, stays-search}
 
 in-stage : (st x : Stage) (s : Search) (n : Running) (l : Listening) → st ≡ x → IsListeningIn st s n l → IsListeningIn x s n l
 in-stage st x s n l e at = subst (λ y. IsListeningIn y s n l) e at

@@ -1,35 +1,13 @@
 -- The parts of a follower's tick make the core's act.
-use Rattle.std.proofs.Common.{◌≡◌, ℕ, ◌+◌, ◌*◌, ◌<◌, ◌≤◌, ◌^◌, ◌==◌, ◌-◌, Bool, true, false, refl, ap, sym, ◌∙◌, subst, arith, Option, Some, None, List, [], if◌then◌else◌, unwrap_or, option_map}
-use Rattle.std.proofs.Math.Path.{fun_ext}
-use Rattle.std.proofs.lemmas.Bool.Decides.{nat_tests}
-use Rattle.rb_base.specs.Nodes.Side.{Biu}
-use Rattle.rb_base.specs.Sizes.{IsShape, Sizes, sync_slot_of}
-use Rattle.rb_rules.specs.declared.closing.Closed.{Closed}
-use Rattle.rb_rules.specs.declared.plan.Window.{Window}
-use Rattle.rb_rules.specs.declared.record.Epoch.{Epoch}
-use Rattle.rb_rules.specs.Conviction.{turn}
-use Rattle.rb_rules.specs.Core.{Act, Core, act_on, epoch_at, is_last, is_tick, of_source, state_at, window_here}
-use Rattle.rb_rules.specs.ExactStage.{Outcome, close_exact, outcome_of}
-use Rattle.rb_rules.specs.Hearing.{close_window, tail_at}
-use Rattle.rb_rules.specs.NodeState.{NodeState}
-use Rattle.rb_rules.specs.Plan.{IsPlan}
-use Rattle.rb_rules.specs.Sense.{Arrival}
-use Rattle.rb_rules.specs.SyncStage.{close_sync, new_epoch_of}
-use Rattle.rb_rules.specs.Windows.{window_at}
-use Rattle.rb_rules.specs.declared.sense.Sense.{Sense}
+use Rattle.std.proofs.{Common.{◌≡◌, ℕ, ◌+◌, ◌*◌, ◌<◌, ◌≤◌, ◌^◌, ◌==◌, ◌-◌, Bool, true, false, refl, ap, sym, ◌∙◌, subst, arith, Option, Some, None, List, [], if◌then◌else◌, unwrap_or, option_map}, Math.Path.fun_ext, lemmas.Bool.Decides.nat_tests}
+use Rattle.rb_base.specs.{Nodes.Side.Biu, Sizes.{IsShape, Sizes, sync_slot_of}}
+use Rattle.rb_rules.specs.{declared.closing.Closed.Closed, declared.plan.Window.Window, declared.record.Epoch.Epoch, Conviction.turn, Core.{Act, Core, act_on, epoch_at, is_last, is_tick, of_source, state_at, window_here}, ExactStage.{Outcome, close_exact, outcome_of}, Hearing.{close_window, tail_at}, NodeState.NodeState, Plan.IsPlan, Sense.Arrival, SyncStage.{close_sync, new_epoch_of}, Windows.window_at, declared.sense.Sense.Sense}
 use Rattle.rb_rules.proofs.QuietTicks.{nothing}
 use Rattle.rb_eligible.specs.Inboxes.{HoldsArrivals, KeptArrivals, Received}
 use Rattle.rb_slot.specs.Engines.{IsSameFrame, Seated, outcome_on}
-use Rattle.rb_node.specs.Acts.{IsAct}
-use Rattle.rb_node.specs.Aheads.{window_of_tick}
-use Rattle.rb_node.specs.Cores.{IsCore, Running, received_of}
-use Rattle.rb_node.specs.declared.act.Step.{Step}
-use Rattle.rb_node.proofs.Busy.{no-turn, turned-epoch}
-use Rattle.rb_node.proofs.Cores.{arrivals-are}
-use Rattle.rb_node.proofs.Steps.{turned-frame}
-use Rattle.rb_node.proofs.Windows.{first-is, has-ticks}
-use Rattle.rb_listen.specs.Following.{follow, follow_at, wakes}
-use Rattle.rb_listen.specs.Waking.{IfKnown, wakes_at}
+use Rattle.rb_node.specs.{Acts.IsAct, Aheads.window_of_tick, Cores.{IsCore, Running, received_of}, declared.act.Step.Step}
+use Rattle.rb_node.proofs.{Busy.{no-turn, turned-epoch}, Cores.arrivals-are, Steps.turned-frame, Windows.{first-is, has-ticks}}
+use Rattle.rb_listen.specs.{Following.{follow, follow_at, wakes}, Waking.{IfKnown, wakes_at}}
 use Rattle.rb_listen.proofs.Waking.{follow-now, follow-spent, quiet-tick}
 
 -- the parts of a tick, one after another: it turns, tells of its frame, and closes the window

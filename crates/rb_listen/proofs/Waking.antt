@@ -1,29 +1,14 @@
 -- Which tick of a follower is the next one that is not quiet, and what quiet ticks do.
-use Rattle.std.proofs.Common.{◌≡◌, ℕ, zero, suc, ◌+◌, ◌-◌, ◌<◌, ◌≤◌, ◌^◌, ◌⊎◌, ◌==◌, ◌||◌, Bool, true, false, refl, ap, sym, ◌∙◌, subst, arith, inl, inr, Option, Some, None, [], unwrap_or}
-use Rattle.std.proofs.lemmas.Bool.{cases_lt, or_from, or_left, or_parts, or_right}
-use Rattle.rb_base.specs.Nodes.Side.{Biu}
-use Rattle.rb_base.specs.Sizes.{Sizes}
+use Rattle.std.proofs.{Common.{◌≡◌, ℕ, zero, suc, ◌+◌, ◌-◌, ◌<◌, ◌≤◌, ◌^◌, ◌⊎◌, ◌==◌, ◌||◌, Bool, true, false, refl, ap, sym, ◌∙◌, subst, arith, inl, inr, Option, Some, None, [], unwrap_or}, lemmas.Bool.{cases_lt, or_from, or_left, or_parts, or_right}}
+use Rattle.rb_base.specs.{Nodes.Side.Biu, Sizes.Sizes}
 use Rattle.rb_base.proofs.Plain.{eq-turned, eq_self}
-use Rattle.rb_rules.specs.declared.plan.Plan.{Plan}
-use Rattle.rb_rules.specs.declared.plan.Window.{Window}
-use Rattle.rb_rules.specs.declared.record.Epoch.{Epoch}
-use Rattle.rb_rules.specs.Core.{Act, Core, act_on, epoch_at, is_last, is_tick, of_source, state_at, window_here}
-use Rattle.rb_rules.specs.ExactStage.{Outcome}
-use Rattle.rb_rules.specs.Hearing.{close_window, epoch_of}
-use Rattle.rb_rules.specs.NodeState.{NodeState}
-use Rattle.rb_rules.specs.SyncStage.{new_epoch_of}
-use Rattle.rb_rules.proofs.QuietTicks.{not-spent, nothing}
-use Rattle.rb_rules.proofs.RoundStates.{HasTicks}
+use Rattle.rb_rules.specs.{declared.plan.Plan.Plan, declared.plan.Window.Window, declared.record.Epoch.Epoch, Core.{Act, Core, act_on, epoch_at, is_last, is_tick, of_source, state_at, window_here}, ExactStage.Outcome, Hearing.{close_window, epoch_of}, NodeState.NodeState, SyncStage.new_epoch_of}
+use Rattle.rb_rules.proofs.{QuietTicks.{not-spent, nothing}, RoundStates.HasTicks}
 use Rattle.rb_slot.specs.Engines.{Seated}
 use Rattle.rb_eligible.specs.Inboxes.{KeptArrivals}
-use Rattle.rb_node.specs.Aheads.{IsSooner, IsWindowOf, window_of_tick}
-use Rattle.rb_node.specs.Cores.{Running}
-use Rattle.rb_node.proofs.Busy.{no-turn, not-over, turned-epoch}
-use Rattle.rb_node.proofs.Cores.{spent-is}
-use Rattle.rb_node.proofs.Windows.{goes-on}
-use Rattle.rb_listen.specs.Following.{follow, follows, next_wake, passing_end, wake_among, wakes}
-use Rattle.rb_listen.specs.Waking.{IfKnown, IsFollowing, IsNextWake, LooksAhead, wakes_at}
-use Rattle.rb_listen.specs.declared.ahead.Ahead.{Ahead}
+use Rattle.rb_node.specs.{Aheads.{IsSooner, IsWindowOf, window_of_tick}, Cores.Running}
+use Rattle.rb_node.proofs.{Busy.{no-turn, not-over, turned-epoch}, Cores.spent-is, Windows.goes-on}
+use Rattle.rb_listen.specs.{Following.{follow, follows, next_wake, passing_end, wake_among, wakes}, Waking.{IfKnown, IsFollowing, IsNextWake, LooksAhead, wakes_at}, declared.ahead.Ahead.Ahead}
 
 -- What makes a tick busy.
 

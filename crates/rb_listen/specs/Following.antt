@@ -1,11 +1,8 @@
 -- A listener from its first epoch on is the core of a BIU without a number that says nothing. It
 -- goes through windows and frames as any BIU does.
 use Rattle.std.specs.Prelude.{ℕ, zero, suc, ◌-◌, ◌^◌, ◌==◌, ◌||◌, Bool, true, false, Option, Some, None, unwrap_or, List, []}
-use Rattle.rb_base.specs.Nodes.Side.{Biu}
-use Rattle.rb_base.specs.Sizes.{Sizes}
-use Rattle.rb_rules.specs.declared.plan.Plan.{Plan}
-use Rattle.rb_rules.specs.Core.{Act, Core, act_on, arrive, is_last, is_spent, state_at}
-use Rattle.rb_rules.specs.NodeState.{NodeState, fresh_state}
+use Rattle.rb_base.specs.{Nodes.Side.Biu, Sizes.Sizes}
+use Rattle.rb_rules.specs.{declared.plan.Plan.Plan, Core.{Act, Core, act_on, arrive, is_last, is_spent, state_at}, NodeState.{NodeState, fresh_state}}
 use Rattle.rb_slot.specs.Engines.{trusting}
 use Rattle.rb_node.specs.Cores.{Running}
 

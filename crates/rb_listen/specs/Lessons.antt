@@ -1,26 +1,9 @@
 -- What a listener learns from one frame: whom the bus trusts, whom it convicts at the frame's end,
 -- and when its next frame begins.
 use Rattle.std.specs.Prelude.{ℕ, ◌+◌, ◌*◌, ◌%◌, ◌==◌, ◌&&◌, nat_lt, nat_le, Bool, if◌then◌else◌, Option, None, option_map, List, get_or, slice_set, replicate}
-use Rattle.rb_base.specs.Nodes.{has, set_of}
-use Rattle.rb_base.specs.Nodes.Side.{Biu, Rmu}
-use Rattle.rb_base.specs.Sizes.{Sizes, sync_slot_of}
-use Rattle.rb_base.specs.declared.values.Heard.{Heard}
-use Rattle.rb_rules.specs.declared.message.Message.{Message}
-use Rattle.rb_rules.specs.declared.plan.Plan.{Plan}
-use Rattle.rb_rules.specs.declared.role.Role.{Role}
-use Rattle.rb_rules.specs.declared.role.Role.TheVariants.{Schedule, Data, DiagBiu, DiagRmu, Sync}
-use Rattle.rb_rules.specs.declared.sense.Sense.{Sense}
-use Rattle.rb_rules.specs.declared.sense.Sense.TheVariants.{Silent, One, Bad}
-use Rattle.rb_rules.specs.Conviction.{convicted_by}
-use Rattle.rb_rules.specs.ExactStage.{each_node, present}
-use Rattle.rb_rules.specs.Majority.{majority_of}
-use Rattle.rb_rules.specs.Middle.{middle_of}
-use Rattle.rb_rules.specs.Sense.{is_one, stamp_in, tag_suits, value_in}
-use Rattle.rb_rules.specs.Slots.{first_diagnosis_of, role_of}
-use Rattle.rb_rules.specs.Standing.{without}
-use Rattle.rb_listen.specs.Passes.{are_most}
-use Rattle.rb_listen.specs.declared.lesson.First.{First}
-use Rattle.rb_listen.specs.declared.lesson.Lesson.{Lesson}
+use Rattle.rb_base.specs.{Nodes.{has, set_of}, Nodes.Side.{Biu, Rmu}, Sizes.{Sizes, sync_slot_of}, declared.values.Heard.Heard}
+use Rattle.rb_rules.specs.{declared.message.Message.Message, declared.plan.Plan.Plan, declared.role.Role.Role, declared.role.Role.TheVariants.{Schedule, Data, DiagBiu, DiagRmu, Sync}, declared.sense.Sense.Sense, declared.sense.Sense.TheVariants.{Silent, One, Bad}, Conviction.convicted_by, ExactStage.{each_node, present}, Majority.majority_of, Middle.middle_of, Sense.{is_one, stamp_in, tag_suits, value_in}, Slots.{first_diagnosis_of, role_of}, Standing.without}
+use Rattle.rb_listen.specs.{Passes.are_most, declared.lesson.First.First, declared.lesson.Lesson.Lesson}
 
 -- the number of the frame after this one, as messages have it
 abbrev pub frame_after : ℕ → ℕ

@@ -1,17 +1,10 @@
 -- Which listener of the definitions a listener stands for.
 use Rattle.std.specs.Prelude.{ℕ, ◌+◌, ◌≡◌, ◌<◌, ◌≤◌, ◌^◌, Option, Some, None, unwrap_or}
 use Rattle.rb_base.specs.Sizes.{Sizes}
-use Rattle.rb_rules.specs.declared.plan.Plan.{Plan}
-use Rattle.rb_rules.specs.Core.{Core}
+use Rattle.rb_rules.specs.{declared.plan.Plan.Plan, Core.Core}
 use Rattle.rb_node.specs.Cores.{IsCore, Running}
-use Rattle.rb_listen.specs.Following.{passing_end as follows_to}
-use Rattle.rb_listen.specs.Listening.{Listening, decision_of, in_time}
+use Rattle.rb_listen.specs.{Following.passing_end as follows_to, Listening.{Listening, decision_of, in_time}, Stamps.AreSoon, declared.lesson.First.First, declared.listener.Stage.Stage, declared.listener.Stage.TheVariants.{Searching, Waiting, Following}, declared.search.Search.Search}
 use Rattle.rb_listen.specs.Listening as now
-use Rattle.rb_listen.specs.Stamps.{AreSoon}
-use Rattle.rb_listen.specs.declared.lesson.First.{First}
-use Rattle.rb_listen.specs.declared.listener.Stage.{Stage}
-use Rattle.rb_listen.specs.declared.listener.Stage.TheVariants.{Searching, Waiting, Following}
-use Rattle.rb_listen.specs.declared.search.Search.{Search}
 
 -- what a listener is seen as: the bus, what it does, what it heard while it searched, and what it
 -- follows by

@@ -2,20 +2,9 @@
 -- first pass it begins to learn the frame after that of the pass. From one whole frame it learns
 -- whom the bus trusts and when the next frame begins, and from there it follows.
 use Rattle.std.specs.Prelude.{ℕ, zero, suc, ◌≡◌, ◌+◌, ◌^◌, ◌==◌, ◌&&◌, nat_le, nat_lt, Bool, true, false, Option, Some, None, is_some, option_and_then, List, [], ◌∷◌, replicate, slice_set}
-use Rattle.rb_base.specs.Nodes.Side.{Biu}
-use Rattle.rb_base.specs.Sizes.{Sizes}
-use Rattle.rb_rules.specs.declared.message.Message.{Message}
-use Rattle.rb_rules.specs.declared.plan.Plan.{Plan}
-use Rattle.rb_rules.specs.Core.{Act, Core, CoreEvent, arrive, is_tick}
-use Rattle.rb_rules.specs.Core.CoreEvent.{Tick, Arrive}
-use Rattle.rb_rules.specs.Spelling.{message_in}
-use Rattle.rb_listen.specs.Following.{core_from, follow, next_wake}
-use Rattle.rb_listen.specs.Lessons.{first_of, frame_after, lesson_on, noted}
-use Rattle.rb_listen.specs.Passes.{is_call, pass_of, reach_of}
-use Rattle.rb_listen.specs.declared.heed.Heed.{Heed}
-use Rattle.rb_listen.specs.declared.lesson.First.{First}
-use Rattle.rb_listen.specs.declared.lesson.Lesson.{Lesson}
-use Rattle.rb_listen.specs.declared.search.Search.{Search}
+use Rattle.rb_base.specs.{Nodes.Side.Biu, Sizes.Sizes}
+use Rattle.rb_rules.specs.{declared.message.Message.Message, declared.plan.Plan.Plan, Core.{Act, Core, CoreEvent, arrive, is_tick}, Core.CoreEvent.{Tick, Arrive}, Spelling.message_in}
+use Rattle.rb_listen.specs.{Following.{core_from, follow, next_wake}, Lessons.{first_of, frame_after, lesson_on, noted}, Passes.{is_call, pass_of, reach_of}, declared.heed.Heed.Heed, declared.lesson.First.First, declared.lesson.Lesson.Lesson, declared.search.Search.Search}
 
 -- what a listener is: it seeks or learns; or it has decided and waits for the first tick of the
 -- first frame that it follows, having had `had` ticks; or it follows

@@ -1,13 +1,10 @@
 -- When a listener knows that a frame of the bus comes to its end: it hears calls to resynchronize
 -- of most RMUs at nearly one time.
 use Rattle.std.specs.Prelude.{ℕ, ◌-◌, ◌*◌, ◌==◌, ◌&&◌, nat_lt, nat_le, min, Bool, true, false, Option, Some, None, List, [], ◌∷◌, get_or}
-use Rattle.rb_base.specs.Nodes.{set_of, size}
-use Rattle.rb_base.specs.Sizes.{Sizes, sync_slot_of}
-use Rattle.rb_rules.specs.declared.message.Message.{Message}
-use Rattle.rb_rules.specs.declared.message.Tag.{Tag}
-use Rattle.rb_rules.specs.declared.message.Tag.TheVariants as tag
-use Rattle.rb_rules.specs.declared.plan.Plan.{Plan}
+use Rattle.rb_base.specs.{Nodes.{set_of, size}, Sizes.{Sizes, sync_slot_of}}
+use Rattle.rb_rules.specs.{declared.message.Message.Message, declared.message.Tag.Tag, declared.plan.Plan.Plan}
 use Rattle.rb_listen.specs.declared.passes.Call.{Call}
+use Rattle.rb_rules.specs.declared.message.Tag.TheVariants as tag
 
 -- more than half of all RMUs are in the set
 abbrev pub are_most : Sizes → ℕ → Bool

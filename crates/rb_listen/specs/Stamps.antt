@@ -1,7 +1,6 @@
 -- The stamps in a lesson do not run ahead.
 use Rattle.std.specs.Prelude.{ℕ, ◌≤◌, ◌^◌, List, get_or}
-use Rattle.rb_rules.specs.declared.sense.Sense.{Sense}
-use Rattle.rb_rules.specs.declared.sense.Sense.TheVariants.{Silent, One, Bad}
+use Rattle.rb_rules.specs.{declared.sense.Sense.Sense, declared.sense.Sense.TheVariants.{Silent, One, Bad}}
 
 -- the stamp of the message, if it is one, is at most 2^31
 abbrev pub IsSoonSense : Sense → Type 0

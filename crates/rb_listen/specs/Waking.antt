@@ -4,8 +4,7 @@ use Rattle.rb_base.specs.Nodes.Side.{Biu}
 use Rattle.rb_eligible.specs.Inboxes.{KeptArrivals, StampsUpTo}
 use Rattle.rb_slot.specs.Engines.{Seated}
 use Rattle.rb_node.specs.Aheads.{IsWindowOf, window_of_tick}
-use Rattle.rb_listen.specs.declared.ahead.Ahead.{Ahead}
-use Rattle.rb_listen.specs.Following.{wakes}
+use Rattle.rb_listen.specs.{declared.ahead.Ahead.Ahead, Following.wakes}
 
 abbrev pub wakes_at : Seated → ℕ → Bool
 wakes_at v k = wakes v.sizes v.plan v.state k

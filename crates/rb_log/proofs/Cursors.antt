@@ -1,17 +1,10 @@
 -- What is left of a log that has no fault.
-use Rattle.std.proofs.Common.{◌≡◌, ℕ, zero, suc, ◌+◌, ◌-◌, ◌<◌, ◌≤◌, true, false, List, [], ◌∷◌, ◌++◌, length, drop, Some, None, refl, sym, ap, ◌∙◌, arith, inl, inr}
+use Rattle.std.proofs.{Common.{◌≡◌, ℕ, zero, suc, ◌+◌, ◌-◌, ◌<◌, ◌≤◌, true, false, List, [], ◌∷◌, ◌++◌, length, drop, Some, None, refl, sym, ap, ◌∙◌, arith, inl, inr}, Math.ListN.replicate, lemmas.Bool.cases_lt}
 use Rattle.std.specs.Prelude.{Result, Ok, Err, slice_get}
-use Rattle.std.proofs.Math.ListN.{replicate}
-use Rattle.std.proofs.lemmas.Bool.{cases_lt}
 use Rattle.rb_rules.specs.Core.{CoreEvent}
-use Rattle.rb_rules.specs.Core as event
-use Rattle.rb_log.specs.Cursor.{IsSound, events_behind, events_in, events_left}
-use Rattle.rb_log.specs.Entries.{before, entry_at, events_at, events_of, fault_of, is_end, size_of, ticks_of}
-use Rattle.rb_log.specs.declared.cursor.Cursor.{Cursor}
-use Rattle.rb_log.specs.declared.entry.Entry.{Entry}
-use Rattle.rb_log.specs.declared.entry.Entry.TheVariants.{Tick, Ticks, Arrival, End}
-use Rattle.rb_log.specs.declared.refusal.LogRefusal.{LogRefusal}
+use Rattle.rb_log.specs.{Cursor.{IsSound, events_behind, events_in, events_left}, Entries.{before, entry_at, events_at, events_of, fault_of, is_end, size_of, ticks_of}, declared.cursor.Cursor.Cursor, declared.entry.Entry.Entry, declared.entry.Entry.TheVariants.{Tick, Ticks, Arrival, End}, declared.refusal.LogRefusal.LogRefusal}
 use Rattle.rb_log.proofs.Reading.{goes_on, steps_end, steps_fault, steps_on, steps_over, steps_trailing}
+use Rattle.rb_rules.specs.Core as event
 
 pub not_refused : (senders : ℕ) (bytes : List ℕ) (place ticks : ℕ) (fault : LogRefusal) → Err fault ≡ entry_at senders bytes place
     → fault_of (events_at senders bytes place ticks) ≡ None → ⊥

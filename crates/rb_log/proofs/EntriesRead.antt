@@ -1,29 +1,15 @@
 -- Records that were written are read.
-use Rattle.std.proofs.Common.{◌≡◌, ℕ, zero, suc, ◌+◌, ◌-◌, ◌^◌, ◌<◌, ◌≤◌, true, false, eqb, nat_le, List, [], ◌∷◌, ◌++◌, length, drop, refl, sym, ap, ◌∙◌, arith}
-use Rattle.std.specs.Prelude.{Ok, All, slice_range}
-use Rattle.std.specs.List.{flat_map}
-use Rattle.std.proofs.Math.ListN.{replicate}
-use Rattle.std.proofs.Math.Seq.{take-append_seam}
-use Rattle.std.proofs.lemmas.Bool.Decides.{nat_tests}
-use Rattle.std.proofs.lemmas.List.{append_assoc, drop-drop, length-append, length-drop, replicate-append-replicate}
-use Rattle.std.proofs.lemmas.List.Elements.{All-head, All-tail}
-use Rattle.byteorder.specs.Endian.{big_bytes}
-use Rattle.byteorder.specs.Numbers.{length-bytes_high_first}
-use Rattle.rb_base.specs.declared.event.Event.{Event}
-use Rattle.rb_base.specs.declared.event.EventKind.{EventKind}
-use Rattle.rb_base.specs.declared.event.EventKind.TheVariants as kinds
+use Rattle.std.proofs.{Common.{◌≡◌, ℕ, zero, suc, ◌+◌, ◌-◌, ◌^◌, ◌<◌, ◌≤◌, true, false, eqb, nat_le, List, [], ◌∷◌, ◌++◌, length, drop, refl, sym, ap, ◌∙◌, arith}, Math.ListN.replicate, Math.Seq.take-append_seam, lemmas.Bool.Decides.nat_tests, lemmas.List.{append_assoc, drop-drop, length-append, length-drop, replicate-append-replicate}, lemmas.List.Elements.{All-head, All-tail}}
+use Rattle.std.specs.{Prelude.{Ok, All, slice_range}, List.flat_map}
+use Rattle.byteorder.specs.{Endian.big_bytes, Numbers.length-bytes_high_first}
+use Rattle.rb_base.specs.{declared.event.Event.Event, declared.event.EventKind.EventKind}
 use Rattle.rb_rules.specs.Core.{CoreEvent}
+use Rattle.rb_log.specs.{Entries.{arrival_in, entry_at, events_at, tick_in, ticks_in}, Fields.field, Laws.MayHappen, Spelling.{MayBeTold, Told, all_ticks, events_told, spelled}, Writing.{bytes_with, gathered, given, given_with, ticks_with, waiting_with, written}, declared.entry.Entry.TheVariants.{Tick, Ticks, Arrival, End}}
+use Rattle.rb_log.proofs.{FieldsRead.{further, reads, reads_byte}, Reading.{steps_end, steps_on}}
+use Rattle.rb_base.specs.declared.event.EventKind.TheVariants as kinds
 use Rattle.rb_rules.specs.Core as event
-use Rattle.rb_log.specs.Entries.{arrival_in, entry_at, events_at, tick_in, ticks_in}
-use Rattle.rb_log.specs.Fields.{field}
-use Rattle.rb_log.specs.Laws.{MayHappen}
 use Rattle.rb_log.specs.Laws as laws
-use Rattle.rb_log.specs.Spelling.{MayBeTold, Told, all_ticks, events_told, spelled}
 use Rattle.rb_log.specs.Spelling as told
-use Rattle.rb_log.specs.Writing.{bytes_with, gathered, given, given_with, ticks_with, waiting_with, written}
-use Rattle.rb_log.specs.declared.entry.Entry.TheVariants.{Tick, Ticks, Arrival, End}
-use Rattle.rb_log.proofs.FieldsRead.{further, reads, reads_byte}
-use Rattle.rb_log.proofs.Reading.{steps_end, steps_on}
 
 -- Each record by itself.
 

@@ -1,23 +1,11 @@
 -- Records that were read were there.
-use Rattle.std.proofs.Common.{◌≡◌, ℕ, zero, suc, ◌+◌, ◌-◌, ◌≤◌, Bool, true, false, eqb, nat_le, nat_lt, List, [], ◌∷◌, ◌++◌, length, drop, refl, sym, ap, ◌∙◌, arith}
-use Rattle.std.specs.Prelude.{Result, Ok, Err, All, slice_range, if◌then◌else◌}
-use Rattle.std.specs.List.{flat_map}
-use Rattle.std.proofs.Math.ListN.{drop_of_length-le}
-use Rattle.std.proofs.lemmas.Bool.Decides.{nat_tests}
-use Rattle.std.proofs.lemmas.List.{append_assoc, drop-drop, length-drop, length-take-le, take-append-drop}
-use Rattle.std.proofs.lemmas.List.Elements.{All-cons, All-nil}
+use Rattle.std.proofs.{Common.{◌≡◌, ℕ, zero, suc, ◌+◌, ◌-◌, ◌≤◌, Bool, true, false, eqb, nat_le, nat_lt, List, [], ◌∷◌, ◌++◌, length, drop, refl, sym, ap, ◌∙◌, arith}, Math.ListN.drop_of_length-le, lemmas.Bool.Decides.nat_tests, lemmas.List.{append_assoc, drop-drop, length-drop, length-take-le, take-append-drop}, lemmas.List.Elements.{All-cons, All-nil}}
+use Rattle.std.specs.{Prelude.{Result, Ok, Err, All, slice_range, if◌then◌else◌}, List.flat_map}
 use Rattle.byteorder.specs.Endian.{big_bytes}
-use Rattle.rb_rules.specs.Core.{CoreEvent}
-use Rattle.rb_rules.specs.Spelling.{AreBytes}
-use Rattle.rb_log.specs.Entries.{after, arrival_in, before, entry_at, events_at, events_from, events_of, is_end, size_of, tick_in, ticks_in, ticks_of}
-use Rattle.rb_log.specs.Fields.{field}
-use Rattle.rb_log.specs.Spelling.{MayBeTold, Told, all_ticks, events_told, spelled, ticks_told}
-use Rattle.rb_log.specs.Spelling as told
-use Rattle.rb_log.specs.declared.entry.Entry.{Entry}
-use Rattle.rb_log.specs.declared.entry.Entry.TheVariants.{Tick, Ticks, Arrival, End}
-use Rattle.rb_log.specs.declared.refusal.LogRefusal.{LogRefusal}
-use Rattle.rb_log.specs.declared.refusal.LogRefusal.TheVariants.{Truncated}
+use Rattle.rb_rules.specs.{Core.CoreEvent, Spelling.AreBytes}
+use Rattle.rb_log.specs.{Entries.{after, arrival_in, before, entry_at, events_at, events_from, events_of, is_end, size_of, tick_in, ticks_in, ticks_of}, Fields.field, Spelling.{MayBeTold, Told, all_ticks, events_told, spelled, ticks_told}, declared.entry.Entry.Entry, declared.entry.Entry.TheVariants.{Tick, Ticks, Arrival, End}, declared.refusal.LogRefusal.LogRefusal, declared.refusal.LogRefusal.TheVariants.Truncated}
 use Rattle.rb_log.proofs.FieldsSpelled.{IsField, field_ok, four_there, one_there, went_on}
+use Rattle.rb_log.specs.Spelling as told
 
 -- a record that is not the end says something, and its bytes stand there
 record Says (senders : ℕ) (bytes : List ℕ) (place : ℕ) (entry : Entry) : Type 0 where

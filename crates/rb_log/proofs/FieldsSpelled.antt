@@ -1,14 +1,9 @@
 -- A field that was read was there.
-use Rattle.std.proofs.Common.{◌≡◌, ℕ, zero, suc, ◌+◌, ◌*◌, ◌<◌, ◌≤◌, Bool, true, false, nat_le, List, [], ◌∷◌, ◌++◌, length, drop, get_or, refl, sym, ap, ◌∙◌, arith}
-use Rattle.std.specs.Prelude.{Result, Ok, Err}
-use Rattle.std.specs.Int.{from_be_bytes, w16, w32}
-use Rattle.std.proofs.lemmas.Bool.Decides.{nat_tests}
-use Rattle.std.proofs.lemmas.List.{drop_more, drop-drop, get_or-drop, length-drop}
-use Rattle.std.proofs.lemmas.Nat.{be_bytes_2, be_bytes_4}
+use Rattle.std.proofs.{Common.{◌≡◌, ℕ, zero, suc, ◌+◌, ◌*◌, ◌<◌, ◌≤◌, Bool, true, false, nat_le, List, [], ◌∷◌, ◌++◌, length, drop, get_or, refl, sym, ap, ◌∙◌, arith}, lemmas.Bool.Decides.nat_tests, lemmas.List.{drop_more, drop-drop, get_or-drop, length-drop}, lemmas.Nat.{be_bytes_2, be_bytes_4}}
+use Rattle.std.specs.{Prelude.{Result, Ok, Err}, Int.{from_be_bytes, w16, w32}}
 use Rattle.byteorder.specs.Endian.{big_bytes, big_number}
 use Rattle.rb_rules.specs.Spelling.{AreBytes}
-use Rattle.rb_log.specs.Fields.{◌>>=◌, field, number_at}
-use Rattle.rb_log.specs.declared.refusal.LogRefusal.{LogRefusal}
+use Rattle.rb_log.specs.{Fields.{◌>>=◌, field, number_at}, declared.refusal.LogRefusal.LogRefusal}
 
 -- the first step gave a value, and the next one gave `last`
 pub record Steps {A B : Type 0} (r : Result A LogRefusal) (next : A → Result B LogRefusal) (last : B) : Type 0 where

@@ -1,23 +1,14 @@
 -- A header that was written is read.
-use Rattle.std.proofs.Common.{◌≡◌, ℕ, zero, suc, ◌+◌, ◌-◌, ◌≤◌, Bool, true, false, List, ◌++◌, drop, None, refl, sym, ap, ◌∙◌, arith}
+use Rattle.std.proofs.{Common.{◌≡◌, ℕ, zero, suc, ◌+◌, ◌-◌, ◌≤◌, Bool, true, false, List, ◌++◌, drop, None, refl, sym, ap, ◌∙◌, arith}, lemmas.Bool.Decides.nat_tests, lemmas.List.append_assoc, lemmas.List.drop-drop}
 use Rattle.std.specs.Prelude.{Ok, codes}
-use Rattle.std.proofs.lemmas.Bool.Decides.{nat_tests}
-use Rattle.std.proofs.lemmas.List.{append_assoc}
 use Rattle.byteorder.specs.Endian.{big_bytes}
-use Rattle.std.proofs.lemmas.List.{drop-drop}
-use Rattle.rb_base.specs.Sizes.{IsShape}
-use Rattle.rb_base.specs.declared.node.NodeName.{NodeName}
-use Rattle.rb_base.specs.declared.node.NodeName.TheVariants as name
-use Rattle.rb_rules.specs.Lawful.{IsNodeOf, IsVersion}
-use Rattle.rb_rules.specs.Plan.{IsFeasible, IsPlan, first_failing}
-use Rattle.rb_rules.specs.declared.message.Version.{Version}
-use Rattle.rb_rules.specs.declared.message.Version.TheVariants.{One, Two}
-use Rattle.rb_rules.specs.declared.plan.Plan.{Plan}
+use Rattle.rb_base.specs.{Sizes.IsShape, declared.node.NodeName.NodeName}
+use Rattle.rb_rules.specs.{Lawful.{IsNodeOf, IsVersion}, Plan.{IsFeasible, IsPlan, first_failing}, declared.message.Version.Version, declared.message.Version.TheVariants.{One, Two}, declared.plan.Plan.Plan}
 use Rattle.rb_rules.proofs.Feasibility.{feasible_exactly}
 use Rattle.rb_plan.specs.Timetable.{Timetable}
-use Rattle.rb_log.specs.Fields.{field}
-use Rattle.rb_log.specs.Header.{common_bytes, extended_in, feasible_in, has_first_form, has_second_form, header_in, header_of, node_in, plan_in, sizes_in, version_bytes}
+use Rattle.rb_log.specs.{Fields.field, Header.{common_bytes, extended_in, feasible_in, has_first_form, has_second_form, header_in, header_of, node_in, plan_in, sizes_in, version_bytes}}
 use Rattle.rb_log.proofs.FieldsRead.{reads, reads_byte}
+use Rattle.rb_base.specs.declared.node.NodeName.TheVariants as name
 
 -- the plan as form 1 has it
 abbrev plain : Plan → Plan

@@ -1,31 +1,14 @@
 -- A header that was read was there.
-use Rattle.std.proofs.Common.{◌≡◌, ℕ, zero, suc, ◌-◌, ◌<◌, ◌≤◌, Bool, true, false, eqb, List, ◌∷◌, ◌++◌, drop, Option, Some, None, refl, sym, ap, subst, ◌∙◌, arith, inl, inr}
-use Rattle.std.specs.Prelude.{Result, Ok, Err, codes, is_none, if◌then◌else◌}
-use Rattle.std.specs.List.{flat_map}
-use Rattle.std.proofs.lemmas.Bool.Decides.{nat_tests}
-use Rattle.std.proofs.lemmas.List.{append_assoc}
+use Rattle.std.proofs.{Common.{◌≡◌, ℕ, zero, suc, ◌-◌, ◌<◌, ◌≤◌, Bool, true, false, eqb, List, ◌∷◌, ◌++◌, drop, Option, Some, None, refl, sym, ap, subst, ◌∙◌, arith, inl, inr}, lemmas.Bool.Decides.nat_tests, lemmas.List.append_assoc}
+use Rattle.std.specs.{Prelude.{Result, Ok, Err, codes, is_none, if◌then◌else◌}, List.flat_map}
 use Rattle.byteorder.specs.Endian.{big_bytes}
-use Rattle.rb_base.specs.Nodes.{side_of}
-use Rattle.rb_base.specs.Sizes.{IsShape, Sizes}
-use Rattle.rb_base.specs.declared.node.NodeName.{NodeName}
-use Rattle.rb_base.specs.declared.node.NodeName.TheVariants as name
-use Rattle.rb_rules.specs.Lawful.{IsNodeOf, IsVersion}
-use Rattle.rb_rules.specs.Links.{name_of}
-use Rattle.rb_rules.specs.Plan.{IsFeasible, IsPlan, first_failing}
-use Rattle.rb_rules.specs.Slots.{count_of}
-use Rattle.rb_rules.specs.Spelling.{AreBytes}
-use Rattle.rb_rules.specs.declared.message.Version.{Version}
-use Rattle.rb_rules.specs.declared.message.Version.TheVariants.{One, Two}
-use Rattle.rb_rules.specs.declared.plan.Plan.{Plan}
+use Rattle.rb_base.specs.{Nodes.side_of, Sizes.{IsShape, Sizes}, declared.node.NodeName.NodeName}
+use Rattle.rb_rules.specs.{Lawful.{IsNodeOf, IsVersion}, Links.name_of, Plan.{IsFeasible, IsPlan, first_failing}, Slots.count_of, Spelling.AreBytes, declared.message.Version.Version, declared.message.Version.TheVariants.{One, Two}, declared.plan.Plan.Plan}
 use Rattle.rb_rules.proofs.Feasibility.{feasible_exactly}
-use Rattle.rb_log.specs.Fields.{◌>>=◌, field}
+use Rattle.rb_log.specs.{Fields.{◌>>=◌, field}, Header.{common_bytes, extended_in, feasible_in, has_first_form, has_second_form, header_in, whole_in, node_bytes, node_in, plan_in, plan_numbers, sizes_in, version_bytes}, Spelling.SpellsHeader, declared.heading.Header.Header, declared.refusal.LogRefusal.LogRefusal, declared.refusal.LogRefusal.TheVariants.{BadField, BadMagic}}
 use Rattle.rb_plan.specs.Timetable.{Timetable}
-use Rattle.rb_log.specs.Header.{common_bytes, extended_in, feasible_in, has_first_form, has_second_form, header_in, whole_in, node_bytes, node_in, plan_in, plan_numbers, sizes_in, version_bytes}
-use Rattle.rb_log.specs.Spelling.{SpellsHeader}
-use Rattle.rb_log.specs.declared.heading.Header.{Header}
-use Rattle.rb_log.specs.declared.refusal.LogRefusal.{LogRefusal}
-use Rattle.rb_log.specs.declared.refusal.LogRefusal.TheVariants.{BadField, BadMagic}
 use Rattle.rb_log.proofs.FieldsSpelled.{field_ok, four_there, one_there, stepped, two_there, went_on}
+use Rattle.rb_base.specs.declared.node.NodeName.TheVariants as name
 
 abbrev pub okay : {A : Type 0} → A → Result A LogRefusal
 okay x = Ok x

@@ -4,11 +4,7 @@ use Rattle.std.specs.Prelude.{Result, Ok, Err}
 use Rattle.rb_base.specs.declared.node.NodeName.{NodeName}
 use Rattle.rb_rules.specs.Core.{CoreEvent}
 use Rattle.rb_plan.specs.Timetable.{Timetable}
-use Rattle.rb_log.specs.Cursor.{events_in}
-use Rattle.rb_log.specs.Entries.{events_at, fault_of}
-use Rattle.rb_log.specs.Header.{header_in}
-use Rattle.rb_log.specs.LogText.{log_in, senders_of}
-use Rattle.rb_log.specs.declared.refusal.LogRefusal.{LogRefusal}
+use Rattle.rb_log.specs.{Cursor.events_in, Entries.{events_at, fault_of}, Header.header_in, LogText.{log_in, senders_of}, declared.refusal.LogRefusal.LogRefusal}
 
 pub no_header : (bytes : List ℕ) (fault : LogRefusal) → Err fault ≡ header_in bytes → log_in bytes ≡ Err fault
 unfolding log_in

@@ -1,16 +1,10 @@
 -- Ticks with word 0 in a row at the front.
-use Rattle.std.proofs.Common.{◌≡◌, ℕ, zero, suc, ◌+◌, ◌-◌, ◌<◌, ◌≤◌, Bool, true, false, eqb, List, [], ◌∷◌, ◌++◌, length, drop, refl, sym, ap, ◌∙◌, arith}
+use Rattle.std.proofs.{Common.{◌≡◌, ℕ, zero, suc, ◌+◌, ◌-◌, ◌<◌, ◌≤◌, Bool, true, false, eqb, List, [], ◌∷◌, ◌++◌, length, drop, refl, sym, ap, ◌∙◌, arith}, Math.ListN.replicate, lemmas.Bool.Decides.nat_tests}
 use Rattle.std.specs.Prelude.{Ok, min}
-use Rattle.std.proofs.Math.ListN.{replicate}
-use Rattle.std.proofs.lemmas.Bool.Decides.{nat_tests}
 use Rattle.rb_rules.specs.Core.{CoreEvent}
-use Rattle.rb_rules.specs.Core as event
-use Rattle.rb_log.specs.Cursor.{IsSound, events_behind, events_left, quiet_in_front}
-use Rattle.rb_log.specs.Entries.{HasTicks, entry_at, events_of, is_end, size_of, ticks_of, zeros_of}
-use Rattle.rb_log.specs.declared.cursor.Cursor.{Cursor}
-use Rattle.rb_log.specs.declared.entry.Entry.{Entry}
-use Rattle.rb_log.specs.declared.entry.Entry.TheVariants.{Tick, Ticks, Arrival, End}
+use Rattle.rb_log.specs.{Cursor.{IsSound, events_behind, events_left, quiet_in_front}, Entries.{HasTicks, entry_at, events_of, is_end, size_of, ticks_of, zeros_of}, declared.cursor.Cursor.Cursor, declared.entry.Entry.Entry, declared.entry.Entry.TheVariants.{Tick, Ticks, Arrival, End}}
 use Rattle.rb_log.proofs.Cursors.{ends, left_is, passes}
+use Rattle.rb_rules.specs.Core as event
 
 front_counts : (n : ℕ) (events : List CoreEvent) → quiet_in_front (replicate n (event.Tick 0) ++ events) ≡ n + quiet_in_front events
 front_counts zero events = omega arith

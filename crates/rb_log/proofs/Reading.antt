@@ -1,14 +1,8 @@
 -- How the records of a log are read, one after the other.
-use Rattle.std.proofs.Common.{◌≡◌, ℕ, zero, suc, ◌+◌, ◌<◌, ◌≤◌, true, false, nat_lt, nat_le, List, [], length, Some, None, refl, ap, ◌∙◌, arith}
+use Rattle.std.proofs.{Common.{◌≡◌, ℕ, zero, suc, ◌+◌, ◌<◌, ◌≤◌, true, false, nat_lt, nat_le, List, [], length, Some, None, refl, ap, ◌∙◌, arith}, lemmas.Bool.Decides.nat_tests}
 use Rattle.std.specs.Prelude.{Result, Ok, Err}
-use Rattle.std.proofs.lemmas.Bool.Decides.{nat_tests}
 use Rattle.rb_rules.specs.Core.{CoreEvent}
-use Rattle.rb_log.specs.Fields.{◌>>=◌, field}
-use Rattle.rb_log.specs.Entries.{GoesOn, after, before, entry_at, events_at, events_from, events_of, fault_of, is_end, size_of, ticks_of}
-use Rattle.rb_log.specs.declared.entry.Entry.{Entry}
-use Rattle.rb_log.specs.declared.entry.Entry.TheVariants.{Tick, Ticks, Arrival, End}
-use Rattle.rb_log.specs.declared.refusal.LogRefusal.{LogRefusal}
-use Rattle.rb_log.specs.declared.refusal.LogRefusal.TheVariants.{AfterEnd, BadField, Truncated}
+use Rattle.rb_log.specs.{Fields.{◌>>=◌, field}, Entries.{GoesOn, after, before, entry_at, events_at, events_from, events_of, fault_of, is_end, size_of, ticks_of}, declared.entry.Entry.Entry, declared.entry.Entry.TheVariants.{Tick, Ticks, Arrival, End}, declared.refusal.LogRefusal.LogRefusal, declared.refusal.LogRefusal.TheVariants.{AfterEnd, BadField, Truncated}}
 
 -- no record begins past the last byte
 past : (senders : ℕ) (bytes : List ℕ) (place : ℕ) → length bytes ≤ place → entry_at senders bytes place ≡ Err (Truncated (length bytes))

@@ -1,25 +1,12 @@
 -- What is written is read, and what is read is spelled.
-use Rattle.std.proofs.Common.{◌≡◌, ℕ, ◌≤◌, List, [], ◌∷◌, ◌++◌, refl, sym, ap, subst, ◌∙◌, arith, inl, inr}
-use Rattle.std.specs.Prelude.{Ok}
-use Rattle.std.specs.List.{flat_map}
-use Rattle.std.proofs.lemmas.List.{append_assoc}
-use Rattle.rb_base.specs.Sizes.{IsShape}
-use Rattle.rb_base.specs.declared.node.NodeName.{NodeName}
-use Rattle.rb_base.specs.declared.node.NodeName.TheVariants as name
-use Rattle.rb_rules.specs.Core.{CoreEvent}
-use Rattle.rb_rules.specs.Spelling.{AreBytes}
+use Rattle.std.proofs.{Common.{◌≡◌, ℕ, ◌≤◌, List, [], ◌∷◌, ◌++◌, refl, sym, ap, subst, ◌∙◌, arith, inl, inr}, lemmas.List.append_assoc}
+use Rattle.std.specs.{Prelude.Ok, List.flat_map}
+use Rattle.rb_base.specs.{Sizes.IsShape, declared.node.NodeName.NodeName}
+use Rattle.rb_rules.specs.{Core.CoreEvent, Spelling.AreBytes}
 use Rattle.rb_plan.specs.Timetable.{Timetable}
-use Rattle.rb_log.specs.Entries.{events_at}
-use Rattle.rb_log.specs.Header.{header_in, header_of}
-use Rattle.rb_log.specs.Laws.{ReadIsSpelled, WrittenIsRead}
-use Rattle.rb_log.specs.LogText.{Log, log_in, senders_of}
-use Rattle.rb_log.specs.Spelling.{SpellsLog, spelled}
-use Rattle.rb_log.specs.Writing.{given, written}
-use Rattle.rb_log.proofs.EntriesRead.{events_read, told_read}
-use Rattle.rb_log.proofs.EntriesSpelled.{events_spelled}
-use Rattle.rb_log.proofs.FieldsSpelled.{went_on}
-use Rattle.rb_log.proofs.HeaderRead.{AreOfBus, IsHeaderRead, first_read, header_read, second_read}
-use Rattle.rb_log.proofs.HeaderSpelled.{header_there, okay}
+use Rattle.rb_log.specs.{Entries.events_at, Header.{header_in, header_of}, Laws.{ReadIsSpelled, WrittenIsRead}, LogText.{Log, log_in, senders_of}, Spelling.{SpellsLog, spelled}, Writing.{given, written}}
+use Rattle.rb_log.proofs.{EntriesRead.{events_read, told_read}, EntriesSpelled.events_spelled, FieldsSpelled.went_on, HeaderRead.{AreOfBus, IsHeaderRead, first_read, header_read, second_read}, HeaderSpelled.{header_there, okay}}
+use Rattle.rb_base.specs.declared.node.NodeName.TheVariants as name
 
 read_as_log : (read log : Log) → okay read ≡ okay log → read ≡ log
 read_as_log read log is = cc

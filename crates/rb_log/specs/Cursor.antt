@@ -2,12 +2,8 @@
 use Rattle.std.specs.Prelude.{ℕ, ◌+◌, ◌≡◌, ◌≤◌, Bool, false, ◌==◌, List, [], ◌∷◌, ◌++◌, length, None, Result, Ok, Err, if◌then◌else◌}
 use Rattle.std.proofs.Math.ListN.{replicate}
 use Rattle.rb_rules.specs.Core.{CoreEvent}
+use Rattle.rb_log.specs.{Entries.{events_at, fault_of}, declared.cursor.Cursor.Cursor, declared.cursor.LogEvent.LogEvent, declared.cursor.LogEvent.TheVariants.{Tick, Arrive}, declared.refusal.LogRefusal.LogRefusal}
 use Rattle.rb_rules.specs.Core as event
-use Rattle.rb_log.specs.Entries.{events_at, fault_of}
-use Rattle.rb_log.specs.declared.cursor.Cursor.{Cursor}
-use Rattle.rb_log.specs.declared.cursor.LogEvent.{LogEvent}
-use Rattle.rb_log.specs.declared.cursor.LogEvent.TheVariants.{Tick, Arrive}
-use Rattle.rb_log.specs.declared.refusal.LogRefusal.{LogRefusal}
 
 -- the event that is shown
 abbrev pub shown : LogEvent → CoreEvent

@@ -3,13 +3,8 @@
 use Rattle.std.specs.Prelude.{⊤, ℕ, zero, suc, ◌+◌, ◌-◌, ◌≡◌, ◌<◌, ◌≤◌, Bool, true, false, nat_le, nat_lt, ◌==◌, List, [], ◌∷◌, ◌++◌, length, slice_range, Option, Some, None, Result, Ok, Err, if◌then◌else◌}
 use Rattle.std.proofs.Math.ListN.{replicate}
 use Rattle.rb_rules.specs.Core.{CoreEvent}
+use Rattle.rb_log.specs.{Fields.{◌>>=◌, field}, declared.entry.Entry.Entry, declared.entry.Position.Position, declared.entry.Entry.TheVariants.{Tick, Ticks, Arrival, End}, declared.refusal.LogRefusal.LogRefusal, declared.refusal.LogRefusal.TheVariants.{BadField, Truncated, AfterEnd}}
 use Rattle.rb_rules.specs.Core as event
-use Rattle.rb_log.specs.Fields.{◌>>=◌, field}
-use Rattle.rb_log.specs.declared.entry.Entry.{Entry}
-use Rattle.rb_log.specs.declared.entry.Position.{Position}
-use Rattle.rb_log.specs.declared.entry.Entry.TheVariants.{Tick, Ticks, Arrival, End}
-use Rattle.rb_log.specs.declared.refusal.LogRefusal.{LogRefusal}
-use Rattle.rb_log.specs.declared.refusal.LogRefusal.TheVariants.{BadField, Truncated, AfterEnd}
 
 -- the fields after the first byte. Senders are below `senders`; the length is looked at after the
 -- sender, and then the bytes themselves, which may be any

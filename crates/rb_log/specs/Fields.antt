@@ -1,8 +1,7 @@
 -- Fields of a log: numbers of one to four bytes at a place, the most significant byte first.
 use Rattle.std.specs.Prelude.{ℕ, ◌+◌, ◌&&◌, nat_le, List, length, drop, Result, Ok, Err, if◌then◌else◌}
 use Rattle.byteorder.specs.Endian.{big_number}
-use Rattle.rb_log.specs.declared.refusal.LogRefusal.{LogRefusal}
-use Rattle.rb_log.specs.declared.refusal.LogRefusal.TheVariants.{BadField, Truncated}
+use Rattle.rb_log.specs.{declared.refusal.LogRefusal.LogRefusal, declared.refusal.LogRefusal.TheVariants.{BadField, Truncated}}
 
 -- the number in `size` bytes from `place` on
 unfoldable pub number_at : List ℕ → ℕ → ℕ → ℕ

@@ -1,24 +1,13 @@
 -- The header of a log: a magic of four bytes, the sizes of the bus, its plan, and whose log it is.
 -- Form 2 adds the version of messages, the number of the bus and the probation; in form 1 the
 -- version is One and nothing lapses.
-use Rattle.std.specs.Prelude.{ℕ, ◌-◌, Bool, true, false, ◌&&◌, ◌==◌, is_none, List, [], ◌∷◌, ◌++◌, codes, Result, Ok, Err, if◌then◌else◌}
-use Rattle.std.specs.List.{flat_map}
+use Rattle.std.specs.{Prelude.{ℕ, ◌-◌, Bool, true, false, ◌&&◌, ◌==◌, is_none, List, [], ◌∷◌, ◌++◌, codes, Result, Ok, Err, if◌then◌else◌}, List.flat_map}
 use Rattle.byteorder.specs.Endian.{big_bytes, big_number}
-use Rattle.rb_base.specs.Nodes.{side_of}
-use Rattle.rb_base.specs.Sizes.{Sizes}
-use Rattle.rb_base.specs.declared.node.NodeName.{NodeName}
-use Rattle.rb_base.specs.declared.node.NodeName.TheVariants as name
-use Rattle.rb_rules.specs.Links.{name_of}
-use Rattle.rb_rules.specs.Plan.{first_failing}
-use Rattle.rb_rules.specs.Slots.{count_of}
-use Rattle.rb_rules.specs.declared.message.Version.{Version}
-use Rattle.rb_rules.specs.declared.message.Version.TheVariants.{One, Two}
-use Rattle.rb_rules.specs.declared.plan.Plan.{Plan}
+use Rattle.rb_base.specs.{Nodes.side_of, Sizes.Sizes, declared.node.NodeName.NodeName}
+use Rattle.rb_rules.specs.{Links.name_of, Plan.first_failing, Slots.count_of, declared.message.Version.Version, declared.message.Version.TheVariants.{One, Two}, declared.plan.Plan.Plan}
 use Rattle.rb_plan.specs.Timetable.{Timetable}
-use Rattle.rb_log.specs.Fields.{◌>>=◌, field}
-use Rattle.rb_log.specs.declared.heading.Header.{Header}
-use Rattle.rb_log.specs.declared.refusal.LogRefusal.{LogRefusal}
-use Rattle.rb_log.specs.declared.refusal.LogRefusal.TheVariants.{BadMagic, BadField}
+use Rattle.rb_log.specs.{Fields.{◌>>=◌, field}, declared.heading.Header.Header, declared.refusal.LogRefusal.LogRefusal, declared.refusal.LogRefusal.TheVariants.{BadMagic, BadField}}
+use Rattle.rb_base.specs.declared.node.NodeName.TheVariants as name
 
 -- Writing.
 

@@ -1,19 +1,9 @@
 -- Reading and writing together.
-use Rattle.std.specs.Prelude.{ℕ, ◌+◌, ◌^◌, ◌≡◌, ◌≤◌, ◌<◌, ◌↔◌, true, false, List, [], ◌∷◌, ◌++◌, All, length, Ok}
-use Rattle.std.specs.List.{flat_map}
-use Rattle.rb_base.specs.Sizes.{IsShape}
-use Rattle.rb_base.specs.declared.event.Event.{Event}
-use Rattle.rb_base.specs.declared.event.EventKind.{EventKind}
-use Rattle.rb_base.specs.declared.event.EventKind.TheVariants.{Tick, Arrive}
-use Rattle.rb_base.specs.declared.node.NodeName.{NodeName}
-use Rattle.rb_rules.specs.Lawful.{IsNodeOf, IsVersion}
-use Rattle.rb_rules.specs.Spelling.{AreBytes}
-use Rattle.rb_rules.specs.Plan.{IsFeasible, IsPlan}
+use Rattle.std.specs.{Prelude.{ℕ, ◌+◌, ◌^◌, ◌≡◌, ◌≤◌, ◌<◌, ◌↔◌, true, false, List, [], ◌∷◌, ◌++◌, All, length, Ok}, List.flat_map}
+use Rattle.rb_base.specs.{Sizes.IsShape, declared.event.Event.Event, declared.event.EventKind.EventKind, declared.event.EventKind.TheVariants.{Tick, Arrive}, declared.node.NodeName.NodeName}
+use Rattle.rb_rules.specs.{Lawful.{IsNodeOf, IsVersion}, Spelling.AreBytes, Plan.{IsFeasible, IsPlan}}
 use Rattle.rb_plan.specs.Timetable.{Timetable}
-use Rattle.rb_log.specs.Header.{header_of}
-use Rattle.rb_log.specs.LogText.{Log, log_in, senders_of}
-use Rattle.rb_log.specs.Spelling.{SpellsLog}
-use Rattle.rb_log.specs.Writing.{given, ticks_given, written}
+use Rattle.rb_log.specs.{Header.header_of, LogText.{Log, log_in, senders_of}, Spelling.SpellsLog, Writing.{given, ticks_given, written}}
 
 -- what can happen at a node: a word has four bytes, and is 0 if none was wanted; what arrives is
 -- from a node of the bus and has 1 to 32 bytes

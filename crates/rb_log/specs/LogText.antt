@@ -1,15 +1,9 @@
 -- What a log says, by the bytes that spell it.
 use Rattle.std.specs.Prelude.{ℕ, List, Result, Ok}
-use Rattle.rb_base.specs.Nodes.{other}
-use Rattle.rb_base.specs.declared.node.NodeName.{NodeName}
-use Rattle.rb_rules.specs.Core.{CoreEvent}
-use Rattle.rb_rules.specs.Lawful.{kind_of}
-use Rattle.rb_rules.specs.Slots.{count_of}
+use Rattle.rb_base.specs.{Nodes.other, declared.node.NodeName.NodeName}
+use Rattle.rb_rules.specs.{Core.CoreEvent, Lawful.kind_of, Slots.count_of}
 use Rattle.rb_plan.specs.Timetable.{Timetable}
-use Rattle.rb_log.specs.Entries.{events_at}
-use Rattle.rb_log.specs.Fields.{◌>>=◌}
-use Rattle.rb_log.specs.Header.{header_in}
-use Rattle.rb_log.specs.declared.refusal.LogRefusal.{LogRefusal}
+use Rattle.rb_log.specs.{Entries.events_at, Fields.{◌>>=◌}, Header.header_in, declared.refusal.LogRefusal.LogRefusal}
 
 -- the numbers of the bus, the node whose log it is, and what it was given
 pub record Log : Type 0 where

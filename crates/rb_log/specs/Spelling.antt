@@ -1,18 +1,13 @@
 -- How a log is spelled, as a relation that knows neither writer nor reader: a header of either
 -- form, records of any kind in any order, and the end.
-use Rattle.std.specs.Prelude.{ℕ, ◌+◌, ◌^◌, ◌≡◌, ◌≤◌, ◌<◌, ◌⊎◌, true, List, [], ◌∷◌, ◌++◌, All, length, codes}
-use Rattle.std.specs.List.{flat_map}
+use Rattle.std.specs.{Prelude.{ℕ, ◌+◌, ◌^◌, ◌≡◌, ◌≤◌, ◌<◌, ◌⊎◌, true, List, [], ◌∷◌, ◌++◌, All, length, codes}, List.flat_map}
 use Rattle.std.proofs.Math.ListN.{replicate}
 use Rattle.byteorder.specs.Endian.{big_bytes}
-use Rattle.rb_base.specs.Sizes.{IsShape}
-use Rattle.rb_base.specs.declared.node.NodeName.{NodeName}
-use Rattle.rb_rules.specs.Core.{CoreEvent}
-use Rattle.rb_rules.specs.Core as event
-use Rattle.rb_rules.specs.Lawful.{IsNodeOf, IsVersion}
-use Rattle.rb_rules.specs.Plan.{IsFeasible, IsPlan}
+use Rattle.rb_base.specs.{Sizes.IsShape, declared.node.NodeName.NodeName}
+use Rattle.rb_rules.specs.{Core.CoreEvent, Lawful.{IsNodeOf, IsVersion}, Plan.{IsFeasible, IsPlan}}
 use Rattle.rb_plan.specs.Timetable.{Timetable}
-use Rattle.rb_log.specs.Header.{common_bytes, has_first_form, version_bytes}
-use Rattle.rb_log.specs.LogText.{Log, senders_of}
+use Rattle.rb_log.specs.{Header.{common_bytes, has_first_form, version_bytes}, LogText.{Log, senders_of}}
+use Rattle.rb_rules.specs.Core as event
 
 -- what a record says: one tick and its word, a number of ticks with word 0, or a message that
 -- arrived

@@ -1,11 +1,7 @@
 -- What a receiver keeps of each sender.
-use Rattle.std.proofs.Common.{◌≡◌, ℕ, Option, None, List, [], length, map, get_or, replicate, slice_set, ◌<◌, ◌≤◌, ◌⊎◌, inl, inr, sym, ap, ◌∙◌, arith}
-use Rattle.std.proofs.lemmas.List.{get_or-map, get_or-replicate, get_or_default, length-map, map-set, same_lists, set_past}
-use Rattle.std.proofs.lemmas.Bool.{cases_lt}
+use Rattle.std.proofs.{Common.{◌≡◌, ℕ, Option, None, List, [], length, map, get_or, replicate, slice_set, ◌<◌, ◌≤◌, ◌⊎◌, inl, inr, sym, ap, ◌∙◌, arith}, lemmas.List.{get_or-map, get_or-replicate, get_or_default, length-map, map-set, same_lists, set_past}, lemmas.Bool.cases_lt}
 use Rattle.rb_base.specs.declared.values.Heard.{Heard}
-use Rattle.rb_long.specs.Reading.{OpenLetter, with_value}
-use Rattle.rb_long.specs.Readers.{open_of}
-use Rattle.rb_long.specs.declared.reading.Reader.{Reader}
+use Rattle.rb_long.specs.{Reading.{OpenLetter, with_value}, Readers.open_of, declared.reading.Reader.Reader}
 
 set-one : (readers : List Reader) (i : ℕ) (d new : Reader) (value : Heard) → open_of new ≡ (with_value value (open_of (get_or readers i d))).after
     → (i < length readers) ⊎ (length readers ≤ i)

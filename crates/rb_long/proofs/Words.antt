@@ -1,12 +1,7 @@
 -- The words of the letters that wait.
-use Rattle.std.proofs.Common.{◌≡◌, ◌↔◌, ℕ, zero, suc, ◌+◌, ◌<◌, ◌≤◌, nat_le, true, false, List, [], ◌∷◌, drop, length, map, get_or, remove, refl, sym, ap, ◌∙◌, subst, arith, cond}
-use Rattle.std.proofs.lemmas.Bool.{le-leb, lt-leb}
-use Rattle.std.proofs.lemmas.List.{drop-drop, get_or-drop, length-drop}
-use Rattle.std.proofs.lemmas.List.FromFn.{get_or-map-range_with_len, length-map-range_with_len}
+use Rattle.std.proofs.{Common.{◌≡◌, ◌↔◌, ℕ, zero, suc, ◌+◌, ◌<◌, ◌≤◌, nat_le, true, false, List, [], ◌∷◌, drop, length, map, get_or, remove, refl, sym, ap, ◌∙◌, subst, arith, cond}, lemmas.Bool.{le-leb, lt-leb}, lemmas.List.{drop-drop, get_or-drop, length-drop}, lemmas.List.FromFn.{get_or-map-range_with_len, length-map-range_with_len}}
 use Rattle.arrayvec.specs.ArrayVec.{ArrayVec}
-use Rattle.rb_long.specs.Spelling.{part_at, parts_in, spelling_of}
-use Rattle.rb_long.specs.Senders.{HasMore, spelling_in, waiting_in}
-use Rattle.rb_long.specs.Waiting.{next_word_of, without_word}
+use Rattle.rb_long.specs.{Spelling.{part_at, parts_in, spelling_of}, Senders.{HasMore, spelling_in, waiting_in}, Waiting.{next_word_of, without_word}}
 
 -- the words after the first are the parts
 pub part-is : (letter : List ℕ) (k n : ℕ) → n ≡ k + 1 → n ≤ parts_in (length letter) → get_or (spelling_of letter) n 0 ≡ part_at letter k

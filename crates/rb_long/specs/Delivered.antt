@@ -1,10 +1,7 @@
 -- The letters among what ports deliver.
-use Rattle.std.specs.Prelude.{ℕ, ◌==◌, nat_lt, ◌&&◌, Bool, Option, None, List, [], filter, map, if◌then◌else◌}
-use Rattle.std.specs.List.{flat_map}
+use Rattle.std.specs.{Prelude.{ℕ, ◌==◌, nat_lt, ◌&&◌, Bool, Option, None, List, [], filter, map, if◌then◌else◌}, List.flat_map}
 use Rattle.rb_base.specs.declared.values.Heard.{Heard}
-use Rattle.rb_rules.specs.declared.record.SlotLine.{SlotLine}
-use Rattle.rb_rules.specs.Book.{Record}
-use Rattle.rb_rules.specs.Book.Record.{Frame, Slot, Ended, Breach}
+use Rattle.rb_rules.specs.{declared.record.SlotLine.SlotLine, Book.Record, Book.Record.{Frame, Slot, Ended, Breach}}
 use Rattle.rb_long.specs.Reading.{OpenLetter, given_with, open_after, with_value}
 
 -- a bus has no more BIUs

@@ -1,8 +1,7 @@
 -- What is kept of a sender's values.
 use Rattle.std.specs.Prelude.{ℕ, ◌≡◌, nat_lt, Bool, Option, List, length, option_map}
 use Rattle.arrayvec.specs.ArrayVec.{ArrayVec}
-use Rattle.rb_long.specs.Reading.{OpenLetter, Read, open_with}
-use Rattle.rb_long.specs.declared.reading.Reader.{Reader}
+use Rattle.rb_long.specs.{Reading.{OpenLetter, Read, open_with}, declared.reading.Reader.Reader}
 
 abbrev pub is_open : Reader → Bool
 is_open reader = nat_lt (length reader.bytes.items) reader.wanted

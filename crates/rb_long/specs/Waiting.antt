@@ -1,8 +1,6 @@
 -- The letters that a sender has not wholly sent, each as its words that are still to come.
 use Rattle.std.specs.Prelude.{⊤, ℕ, nat_le, nat_lt, Result, Ok, Err, List, [], ◌∷◌, ◌++◌, drop, length, get_or, Option, Some, None, if◌then◌else◌}
-use Rattle.rb_long.specs.Spelling.{is_length, spelling_of}
-use Rattle.rb_long.specs.declared.refusal.LongRefusal.{LongRefusal}
-use Rattle.rb_long.specs.declared.refusal.LongRefusal.TheVariants.{Length, Full}
+use Rattle.rb_long.specs.{Spelling.{is_length, spelling_of}, declared.refusal.LongRefusal.LongRefusal, declared.refusal.LongRefusal.TheVariants.{Length, Full}}
 
 -- why a letter is not taken: it has no or too many bytes, or eight letters wait
 abbrev pub refusal_of : List (List ℕ) → List ℕ → Option LongRefusal

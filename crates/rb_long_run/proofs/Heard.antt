@@ -1,12 +1,10 @@
 -- The letters that deliveries of a slot give one after another.
-use Rattle.std.proofs.Common.{◌≡◌, ℕ, ◌+◌, ◌<◌, Option, List, [], ◌∷◌, ◌++◌, length, take, drop, get_or, refl, sym, ap, ◌∙◌, subst, append_assoc}
-use Rattle.std.proofs.lemmas.List.{append-nil, take_more, take-append-drop}
+use Rattle.std.proofs.{Common.{◌≡◌, ℕ, ◌+◌, ◌<◌, Option, List, [], ◌∷◌, ◌++◌, length, take, drop, get_or, refl, sym, ap, ◌∙◌, subst, append_assoc}, lemmas.List.{append-nil, take_more, take-append-drop}}
 use Rattle.std.specs.Io.KnownBytes.{Appends}
 use Rattle.rb_rules.specs.declared.record.SlotLine.{SlotLine}
 use Rattle.rb_outside.specs.Bytes.{AppendsPart}
 use Rattle.rb_outside.proofs.Known.{appends_join, part_join, part_widens}
-use Rattle.rb_long_run.specs.Hearing.{Open, letter_of, lines_text, with_line, with_lines}
-use Rattle.rb_long_run.specs.Reports.{given_text}
+use Rattle.rb_long_run.specs.{Hearing.{Open, letter_of, lines_text, with_line, with_lines}, Reports.given_text}
 
 -- the text of two parts of the lines is that of the one, and then that of the other
 pub text-split : (frame slot : ℕ) (all : Open) (xs ys : List SlotLine) → lines_text frame slot all (xs ++ ys) ≡ lines_text frame slot all xs ++ lines_text frame slot (with_lines all xs) ys

@@ -1,13 +1,9 @@
 -- What receivers hold stands for the deliveries that they heard.
-use Rattle.std.proofs.Common.{◌≡◌, ℕ, ◌<◌, ◌==◌, ◌⊎◌, inl, inr, nat_lt, Bool, true, false, cond, Option, None, List, [], ◌∷◌, ◌++◌, filter, length, map, get_or, replicate, slice_set, refl, sym, ap, ◌∙◌, subst, append_assoc, arith}
-use Rattle.std.proofs.lemmas.Bool.{and_from, and_left, and_parts, and_right, cases_eq, eq-eqb, lt-ltb, ltb-true, ne_eqb}
-use Rattle.std.proofs.lemmas.List.{append-nil, get_or-replicate, get_or-set_other, get_or-set_same, length-set}
+use Rattle.std.proofs.{Common.{◌≡◌, ℕ, ◌<◌, ◌==◌, ◌⊎◌, inl, inr, nat_lt, Bool, true, false, cond, Option, None, List, [], ◌∷◌, ◌++◌, filter, length, map, get_or, replicate, slice_set, refl, sym, ap, ◌∙◌, subst, append_assoc, arith}, lemmas.Bool.{and_from, and_left, and_parts, and_right, cases_eq, eq-eqb, lt-ltb, ltb-true, ne_eqb}, lemmas.List.{append-nil, get_or-replicate, get_or-set_other, get_or-set_same, length-set}}
 use Rattle.rb_base.specs.declared.values.Heard.{Heard}
 use Rattle.rb_rules.specs.declared.record.SlotLine.{SlotLine}
-use Rattle.rb_long.specs.Delivered.{is_from, is_named, letter_with, open_at, values_of}
-use Rattle.rb_long.specs.Reading.{OpenLetter, open_after, with_value}
-use Rattle.rb_long_run.specs.Hearing.{Open, letter_of, lines_text, read_of, with_line, with_lines}
-use Rattle.rb_long_run.specs.Reports.{given_text, slot_text}
+use Rattle.rb_long.specs.{Delivered.{is_from, is_named, letter_with, open_at, values_of}, Reading.{OpenLetter, open_after, with_value}}
+use Rattle.rb_long_run.specs.{Hearing.{Open, letter_of, lines_text, read_of, with_line, with_lines}, Reports.{given_text, slot_text}}
 
 -- each receiver holds of each sender the letter that is open after the deliveries `past`
 pub record Hears (all : Open) (past : List SlotLine) : Type 0 where

@@ -1,17 +1,14 @@
 -- For readers of the laws; no contract cites it yet: the letters of a run whose drive is plain are
 -- those of the records of the rounds.
 use Rattle.std.proofs.Common.{◌≡◌, ℕ, true, Option, List, [], ◌++◌, refl, sym, ap, ◌∙◌, subst}
-use Rattle.rb_rules.specs.Goodness.{Scenario}
-use Rattle.rb_rules.specs.Rounds.{records_of}
+use Rattle.rb_rules.specs.{Goodness.Scenario, Rounds.records_of}
 use Rattle.rb_world_book.specs.declared.turn.Turn.{Turn}
-use Rattle.rb_long_run.specs.Reports.{letters_after, letters_report}
-use Rattle.rb_long_run.specs.Texts.{letters_text}
+use Rattle.rb_long_run.specs.{Reports.{letters_after, letters_report}, Texts.letters_text}
 use Rattle.rb_long_run.proofs.Texts.{text-of-parts}
 use Rattle.rb_long.specs.Delivered.{deliveries_in}
 use Rattle.rb_outside.specs.Bytes.{AppendsPart}
 use Rattle.rb_outside.proofs.Known.{part_widens}
-use Rattle.rb_run.specs.Reports.{newest_after}
-use Rattle.rb_run.specs.Turns.{AreAll, AreGiven}
+use Rattle.rb_run.specs.{Reports.newest_after, Turns.{AreAll, AreGiven}}
 use Rattle.rb_run.proofs.Plain.{plain-records, records-back}
 
 -- the letters of all turns

@@ -1,20 +1,13 @@
 -- The text of one turn more.
-use Rattle.std.proofs.Common.{◌≡◌, ℕ, List, [], ◌∷◌, ◌++◌, Option, Some, None, refl, sym, ap, ◌∙◌, append_assoc, subst}
-use Rattle.std.proofs.lemmas.List.{append-nil}
+use Rattle.std.proofs.{Common.{◌≡◌, ℕ, List, [], ◌∷◌, ◌++◌, Option, Some, None, refl, sym, ap, ◌∙◌, append_assoc, subst}, lemmas.List.append-nil}
 use Rattle.std.specs.Option.{option_to_list}
-use Rattle.rb_rules.specs.declared.record.SlotLine.{SlotLine}
-use Rattle.rb_rules.specs.Book.{Record}
-use Rattle.rb_rules.specs.Book.Record.{Frame, Slot, Ended, Breach}
-use Rattle.rb_world_book.specs.Records.{record_of}
-use Rattle.rb_world_book.specs.declared.turn.Turn.{Turn}
-use Rattle.rb_long_run.specs.Hearing.{Open}
-use Rattle.rb_long_run.specs.Reports.{letters_after, slot_text}
+use Rattle.rb_rules.specs.{declared.record.SlotLine.SlotLine, Book.Record, Book.Record.{Frame, Slot, Ended, Breach}}
+use Rattle.rb_world_book.specs.{Records.record_of, declared.turn.Turn.Turn}
+use Rattle.rb_long_run.specs.{Hearing.Open, Reports.{letters_after, slot_text}, Texts.{letters_text, open_with, turn_text}}
 use Rattle.rb_long_run.proofs.Histories.{Hears, hears-all, slot-same}
-use Rattle.rb_long_run.specs.Texts.{letters_text, open_with, turn_text}
 use Rattle.rb_long.specs.Delivered.{deliveries_in, lines_in}
 use Rattle.rb_report.specs.Report.{breach_text, end_text}
-use Rattle.rb_run.specs.Reports.{newest_after}
-use Rattle.rb_run.specs.Turns.{records_in}
+use Rattle.rb_run.specs.{Reports.newest_after, Turns.records_in}
 use Rattle.rb_run.proofs.Texts.{records-more}
 
 -- the lines of a record, if there is one

@@ -1,13 +1,10 @@
 -- A sender that gives the words of one letter.
-use Rattle.std.proofs.Common.{◌≡◌, ℕ, ◌+◌, ◌<◌, ◌≤◌, ◌⊎◌, inl, inr, nat_lt, List, [], ◌∷◌, drop, length, get_or, cond, Option, sym, ap, ◌∙◌, subst, arith}
-use Rattle.std.proofs.lemmas.Bool.{cases_lt, le-leb, le-ltb, lt-leb, lt-ltb}
-use Rattle.std.proofs.lemmas.List.{drop-drop, get_or-drop, length-drop}
+use Rattle.std.proofs.{Common.{◌≡◌, ℕ, ◌+◌, ◌<◌, ◌≤◌, ◌⊎◌, inl, inr, nat_lt, List, [], ◌∷◌, drop, length, get_or, cond, Option, sym, ap, ◌∙◌, subst, arith}, lemmas.Bool.{cases_lt, le-leb, le-ltb, lt-leb, lt-ltb}, lemmas.List.{drop-drop, get_or-drop, length-drop}}
 use Rattle.std.specs.Io.KnownBytes.{Appends}
 use Rattle.rb_outside.specs.Bytes.{AppendsPart}
 use Rattle.rb_report.specs.Report.{word_text}
-use Rattle.rb_long.specs.Spelling.{parts_in, spelling_of}
+use Rattle.rb_long.specs.{Spelling.{parts_in, spelling_of}, Waiting.{next_word_of, without_word}}
 use Rattle.rb_long.proofs.Words.{words-in}
-use Rattle.rb_long.specs.Waiting.{next_word_of, without_word}
 
 -- the words after the first `n`, as the only letter that waits, if there are any
 abbrev pub left_of : ℕ → List ℕ → List (List ℕ)

@@ -1,8 +1,7 @@
 -- What the receivers of a bus hold, delivery by delivery.
 use Rattle.std.specs.Prelude.{ℕ, Option, None, List, [], ◌∷◌, ◌++◌, get_or, slice_set, if◌then◌else◌}
 use Rattle.rb_rules.specs.declared.record.SlotLine.{SlotLine}
-use Rattle.rb_long.specs.Delivered.{is_named}
-use Rattle.rb_long.specs.Reading.{OpenLetter, Read, with_value}
+use Rattle.rb_long.specs.{Delivered.is_named, Reading.{OpenLetter, Read, with_value}}
 use Rattle.rb_long_run.specs.Reports.{given_text}
 
 -- the letters that are open, by receiver and sender

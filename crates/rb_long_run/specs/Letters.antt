@@ -1,6 +1,5 @@
 -- What comes of a run whose letters are written.
-use Rattle.std.specs.Prelude.{ℕ, Bool, Option, List}
-use Rattle.std.specs.Io.KnownBytes.{Appends}
+use Rattle.std.specs.{Prelude.{ℕ, Bool, Option, List}, Io.KnownBytes.Appends}
 use Rattle.rb_rules.specs.Goodness.{Scenario}
 use Rattle.rb_world_book.specs.declared.turn.Turn.{Turn}
 use Rattle.rb_outside.specs.Bytes.{AppendsPart}

@@ -1,11 +1,7 @@
 -- The letters of a run, as text.
-use Rattle.std.specs.Prelude.{ℕ, Option, Some, None, List, [], ◌∷◌, ◌++◌}
-use Rattle.std.specs.List.{flat_map}
-use Rattle.rb_rules.specs.declared.record.SlotLine.{SlotLine}
-use Rattle.rb_rules.specs.Book.{Record}
-use Rattle.rb_rules.specs.Book.Record.{Frame, Slot, Ended, Breach}
-use Rattle.rb_long.specs.Delivered.{letter_with}
-use Rattle.rb_long.specs.Spelling.{spelling_of}
+use Rattle.std.specs.{Prelude.{ℕ, Option, Some, None, List, [], ◌∷◌, ◌++◌}, List.flat_map}
+use Rattle.rb_rules.specs.{declared.record.SlotLine.SlotLine, Book.Record, Book.Record.{Frame, Slot, Ended, Breach}}
+use Rattle.rb_long.specs.{Delivered.letter_with, Spelling.spelling_of}
 use Rattle.rb_report.specs.Report.{breach_text, end_text, letter_text, word_text}
 
 -- a line if a delivery gives a letter

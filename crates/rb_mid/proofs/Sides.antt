@@ -1,11 +1,9 @@
 -- On which side of a stamp the middle is.
-use Rattle.std.proofs.Common.{◌≡◌, ℕ, ◌+◌, ◌*◌, ◌<◌, ◌≤◌, List, length, nat_le, arith, inl, inr}
-use Rattle.std.proofs.lemmas.Bool.{cases_lt, le-leb, leb-true}
+use Rattle.std.proofs.{Common.{◌≡◌, ℕ, ◌+◌, ◌*◌, ◌<◌, ◌≤◌, List, length, nat_le, arith, inl, inr}, lemmas.Bool.{cases_lt, le-leb, leb-true}}
 use Rattle.rb_base.proofs.Counts.{count_if-le}
 use Rattle.rb_rules.specs.Middle.{below, up_to}
 use Rattle.rb_rules.proofs.Ranks.{below-le}
-use Rattle.rb_mid.specs.declared.Range.{Range}
-use Rattle.rb_mid.specs.Ranges.{IsWithin}
+use Rattle.rb_mid.specs.{declared.Range.Range, Ranges.IsWithin}
 
 -- at most as many stamps are up to a lower number
 up_to-most : (m n : ℕ) (stamps : List ℕ) → m ≤ n → up_to m stamps ≤ up_to n stamps

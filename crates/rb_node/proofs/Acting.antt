@@ -1,37 +1,15 @@
 -- Single parts of a tick.
-use Rattle.std.proofs.Common.{◌≡◌, ℕ, zero, suc, ◌<◌, ◌≤◌, ◌==◌, ◌&&◌, not, nat_lt, Bool, true, false, refl, ap, sym, ◌∙◌, subst, arith, Option, Some, None, IfSome, is_some, List, option_map, if◌then◌else◌}
+use Rattle.std.proofs.{Common.{◌≡◌, ℕ, zero, suc, ◌<◌, ◌≤◌, ◌==◌, ◌&&◌, not, nat_lt, Bool, true, false, refl, ap, sym, ◌∙◌, subst, arith, Option, Some, None, IfSome, is_some, List, option_map, if◌then◌else◌}, lemmas.Bool.Decides.nat_tests}
 use Rattle.std.specs.Option.{option_or}
-use Rattle.std.proofs.lemmas.Bool.Decides.{nat_tests}
-use Rattle.rb_base.specs.Nodes.{Side, has, other, set_of}
-use Rattle.rb_base.specs.Nodes.Side.{Biu, Rmu}
-use Rattle.rb_base.specs.Sizes.{IsShape, Sizes, sync_slot_of}
-use Rattle.rb_base.specs.declared.values.Heard.{Heard}
-use Rattle.rb_base.specs.declared.values.Heard.TheVariants as heard
-use Rattle.rb_base.proofs.Plain.{eq_self, none-from}
-use Rattle.rb_base.proofs.Sets.{has-set_of, same_set_of}
-use Rattle.rb_rules.specs.declared.message.Message.{Message}
-use Rattle.rb_rules.specs.declared.plan.Window.{Window}
-use Rattle.rb_rules.specs.declared.record.Epoch.{Epoch}
-use Rattle.rb_rules.specs.declared.role.Role.TheVariants.{Sync}
-use Rattle.rb_rules.specs.Core.{epoch_at, if_at, is_tick, state_kept}
-use Rattle.rb_rules.specs.ExactStage.{keep_sent, message_of, says}
-use Rattle.rb_rules.specs.Hearing.{epoch_of}
-use Rattle.rb_rules.specs.NodeState.{NodeState}
-use Rattle.rb_rules.specs.NodeSteps.{convicted_of, message_said}
-use Rattle.rb_rules.specs.Sense.{sense_of}
-use Rattle.rb_rules.specs.NodeSteps.{expect_of}
-use Rattle.rb_rules.specs.Slots.{count_of, listens}
-use Rattle.rb_rules.specs.SyncStage.{call_of, send_tick_of}
+use Rattle.rb_base.specs.{Nodes.{Side, has, other, set_of}, Nodes.Side.{Biu, Rmu}, Sizes.{IsShape, Sizes, sync_slot_of}, declared.values.Heard.Heard}
+use Rattle.rb_base.proofs.{Plain.{eq_self, none-from}, Sets.{has-set_of, same_set_of}}
+use Rattle.rb_rules.specs.{declared.message.Message.Message, declared.plan.Window.Window, declared.record.Epoch.Epoch, declared.role.Role.TheVariants.Sync, Core.{epoch_at, if_at, is_tick, state_kept}, ExactStage.{keep_sent, message_of, says}, Hearing.epoch_of, NodeState.NodeState, NodeSteps.{convicted_of, message_said}, Sense.sense_of, NodeSteps.expect_of, Slots.{count_of, listens}, SyncStage.{call_of, send_tick_of}}
 use Rattle.rb_rules.proofs.RoundStates.{Stays, close-stays}
 use Rattle.rb_eligible.specs.Inboxes.{Received, arrivals_of}
 use Rattle.rb_slot.specs.Engines.{IsSameFrame, Seated, is_active, kept_by, outcome_on, said_by}
-use Rattle.rb_node.specs.Acts.{IsSendable}
-use Rattle.rb_node.specs.Aheads.{SaysIn, tick_said}
-use Rattle.rb_node.specs.Aheads.SaysIn.{Silent, First, Second, Third}
-use Rattle.rb_node.specs.Saids.{said_in}
-use Rattle.rb_node.proofs.Busy.{said, stage_at, unsaid}
-use Rattle.rb_node.proofs.Cores.{stage-some}
-use Rattle.rb_node.proofs.Saying.{goes-out, kept-is, sending-is}
+use Rattle.rb_node.specs.{Acts.IsSendable, Aheads.{SaysIn, tick_said}, Aheads.SaysIn.{Silent, First, Second, Third}, Saids.said_in}
+use Rattle.rb_node.proofs.{Busy.{said, stage_at, unsaid}, Cores.stage-some, Saying.{goes-out, kept-is, sending-is}}
+use Rattle.rb_base.specs.declared.values.Heard.TheVariants as heard
 
 -- What is said.
 

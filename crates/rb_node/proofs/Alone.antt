@@ -1,38 +1,12 @@
 -- A tick at which nothing happens but the end of a window of a slot before the sync slot.
-use Rattle.std.proofs.Common.{◌≡◌, ℕ, ◌+◌, ◌-◌, ◌<◌, ◌≤◌, ◌^◌, ◌==◌, ◌&&◌, max, nat_lt, not, Bool, true, false, refl, ap, sym, ◌∙◌, subst, arith, inl, inr, Option, Some, None, is_some, List, []}
-use Rattle.std.proofs.lemmas.Bool.{cases_lt, eq-eqb, eqb-true, lt-ltb, ltb-true, not-true}
-use Rattle.std.proofs.lemmas.Bool.Decides.{nat_tests}
-use Rattle.std.proofs.lemmas.Option.{none-some}
-use Rattle.rb_base.specs.Nodes.{Side}
-use Rattle.rb_base.specs.Sizes.{IsShape, sync_slot_of}
-use Rattle.rb_rules.specs.declared.closing.Closed.{Closed}
-use Rattle.rb_rules.specs.declared.message.Message.{Message}
-use Rattle.rb_rules.specs.declared.plan.Window.{Window}
-use Rattle.rb_rules.specs.declared.record.Epoch.{Epoch}
-use Rattle.rb_rules.specs.Core.{Core, epoch_at, is_tick, next_tick, pass_to, said_at, state_at, tick}
-use Rattle.rb_rules.specs.Hearing.{epoch_of}
-use Rattle.rb_rules.specs.NodeState.{NodeState}
-use Rattle.rb_rules.specs.Plan.{IsFeasible, IsPlan}
-use Rattle.rb_rules.specs.SyncStage.{new_epoch_of}
+use Rattle.std.proofs.{Common.{◌≡◌, ℕ, ◌+◌, ◌-◌, ◌<◌, ◌≤◌, ◌^◌, ◌==◌, ◌&&◌, max, nat_lt, not, Bool, true, false, refl, ap, sym, ◌∙◌, subst, arith, inl, inr, Option, Some, None, is_some, List, []}, lemmas.Bool.{cases_lt, eq-eqb, eqb-true, lt-ltb, ltb-true, not-true}, lemmas.Bool.Decides.nat_tests, lemmas.Option.none-some}
+use Rattle.rb_base.specs.{Nodes.Side, Sizes.{IsShape, sync_slot_of}}
+use Rattle.rb_rules.specs.{declared.closing.Closed.Closed, declared.message.Message.Message, declared.plan.Window.Window, declared.record.Epoch.Epoch, Core.{Core, epoch_at, is_tick, next_tick, pass_to, said_at, state_at, tick}, Hearing.epoch_of, NodeState.NodeState, Plan.{IsFeasible, IsPlan}, SyncStage.new_epoch_of}
 use Rattle.rb_rules.proofs.Lawfulness.{sends_inside_all}
 use Rattle.rb_eligible.specs.Inboxes.{HoldsArrivals, KeptArrivals, Received}
-use Rattle.rb_slot.specs.Closable.{IsOfFrame}
-use Rattle.rb_slot.specs.Engines.{IsSameFrame, Seated, outcome_on}
-use Rattle.rb_node.specs.Aheads.{IsEnded, IsWindowOf, LooksAhead, SaysIn, following, is_alone}
-use Rattle.rb_node.specs.Aheads.SaysIn.{Silent, First, Second, Third}
-use Rattle.rb_node.specs.Cores.{received_of}
-use Rattle.rb_node.specs.Ends.{EndsExactWindow}
-use Rattle.rb_node.specs.Saids.{said_in}
-use Rattle.rb_node.specs.declared.ahead.Ahead.{Ahead}
-use Rattle.rb_node.specs.declared.ahead.Busy.{Busy}
-use Rattle.rb_node.proofs.Acting.{says-none}
-use Rattle.rb_node.proofs.Busy.{no-turn, said, said-form, some-first, some-second, some-third, stage_at}
-use Rattle.rb_node.proofs.Cores.{at-message, next-none, tick-now}
-use Rattle.rb_node.proofs.Ending.{ShowsEnd, ends-kept, kept-ends, kept-next, kept-stays, stays-kept, window-kept}
-use Rattle.rb_node.proofs.Going.{ended-follows, ended-soon, ended-stage}
-use Rattle.rb_node.proofs.Numbering.{IsNumbered, numbered-here}
-use Rattle.rb_node.proofs.Steps.{Gives, Parts, gives}
-use Rattle.rb_node.proofs.Windows.{has-ticks}
+use Rattle.rb_slot.specs.{Closable.IsOfFrame, Engines.{IsSameFrame, Seated, outcome_on}}
+use Rattle.rb_node.specs.{Aheads.{IsEnded, IsWindowOf, LooksAhead, SaysIn, following, is_alone}, Aheads.SaysIn.{Silent, First, Second, Third}, Cores.received_of, Ends.EndsExactWindow, Saids.said_in, declared.ahead.Ahead.Ahead, declared.ahead.Busy.Busy}
+use Rattle.rb_node.proofs.{Acting.says-none, Busy.{no-turn, said, said-form, some-first, some-second, some-third, stage_at}, Cores.{at-message, next-none, tick-now}, Ending.{ShowsEnd, ends-kept, kept-ends, kept-next, kept-stays, stays-kept, window-kept}, Going.{ended-follows, ended-soon, ended-stage}, Numbering.{IsNumbered, numbered-here}, Steps.{Gives, Parts, gives}, Windows.has-ticks}
 
 -- The flag, part by part.
 

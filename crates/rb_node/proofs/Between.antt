@@ -1,21 +1,14 @@
 -- What a node keeps at hand between two busy ticks.
-use Rattle.std.proofs.Common.{◌≡◌, ℕ, ◌<◌, ◌≤◌, ◌^◌, ◌&&◌, ◌++◌, ◌∷◌, [], max, nat_lt, not, Bool, true, false, refl, ap, sym, ◌∙◌, subst, arith, inl, inr, List, unwrap_or, if◌then◌else◌}
-use Rattle.std.proofs.lemmas.Bool.{cases_lt, le-ltb, lt-ltb}
-use Rattle.rb_base.specs.Nodes.{Side, other}
-use Rattle.rb_base.specs.Sizes.{Sizes}
+use Rattle.std.proofs.{Common.{◌≡◌, ℕ, ◌<◌, ◌≤◌, ◌^◌, ◌&&◌, ◌++◌, ◌∷◌, [], max, nat_lt, not, Bool, true, false, refl, ap, sym, ◌∙◌, subst, arith, inl, inr, List, unwrap_or, if◌then◌else◌}, lemmas.Bool.{cases_lt, le-ltb, lt-ltb}}
+use Rattle.rb_base.specs.{Nodes.{Side, other}, Sizes.Sizes}
 use Rattle.rb_base.proofs.Plain.{and-not_true}
-use Rattle.rb_rules.specs.Core.{Core, arrive, is_spent, pass_to, wants}
-use Rattle.rb_rules.specs.Slots.{count_of}
-use Rattle.rb_rules.specs.Sense.{Arrival}
+use Rattle.rb_rules.specs.{Core.{Core, arrive, is_spent, pass_to, wants}, Slots.count_of, Sense.Arrival}
 use Rattle.rb_rules.proofs.QuietTicks.{not-spent}
 use Rattle.rb_eligible.specs.Inboxes.{HoldsArrivals, KeptArrivals}
 use Rattle.rb_slot.specs.Engines.{Seated}
-use Rattle.rb_node.specs.Aheads.{IsNextBusy, IsRunning, IsWindowOf, LooksAhead, want_ahead, want_at}
-use Rattle.rb_node.specs.Cores.{Running, bare_core, next_of, passing_end, received_of}
-use Rattle.rb_node.specs.Wants.{want_for, want_then}
-use Rattle.rb_node.specs.declared.act.Want.TheVariants as want
-use Rattle.rb_node.specs.declared.ahead.Ahead.{Ahead}
+use Rattle.rb_node.specs.{Aheads.{IsNextBusy, IsRunning, IsWindowOf, LooksAhead, want_ahead, want_at}, Cores.{Running, bare_core, next_of, passing_end, received_of}, Wants.{want_for, want_then}, declared.ahead.Ahead.Ahead}
 use Rattle.rb_node.proofs.Cores.{next-is, next-none, received-append, spent-is, want-is, want-quiet, want-spent}
+use Rattle.rb_node.specs.declared.act.Want.TheVariants as want
 
 -- What is kept stays as it is up to the busy tick.
 

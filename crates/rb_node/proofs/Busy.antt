@@ -1,25 +1,13 @@
 -- Which tick is the next one that is not quiet.
-use Rattle.std.proofs.Common.{◌≡◌, ℕ, ◌+◌, ◌<◌, ◌≤◌, ◌^◌, ◌⊎◌, ◌==◌, ◌||◌, Bool, true, false, refl, ap, sym, ◌∙◌, subst, arith, inl, inr, Option, Some, None, is_some}
+use Rattle.std.proofs.{Common.{◌≡◌, ℕ, ◌+◌, ◌<◌, ◌≤◌, ◌^◌, ◌⊎◌, ◌==◌, ◌||◌, Bool, true, false, refl, ap, sym, ◌∙◌, subst, arith, inl, inr, Option, Some, None, is_some}, lemmas.Bool.{cases_lt, eqb-true}, lemmas.Bool.Decides.nat_tests}
 use Rattle.std.specs.Option.{option_or}
-use Rattle.std.proofs.lemmas.Bool.{cases_lt, eqb-true}
-use Rattle.std.proofs.lemmas.Bool.Decides.{nat_tests}
 use Rattle.rb_base.specs.Nodes.{Side}
 use Rattle.rb_base.proofs.Plain.{eq-turned, eq_self, more-differs, or_middle}
-use Rattle.rb_rules.specs.declared.message.Message.{Message}
-use Rattle.rb_rules.specs.declared.plan.Window.{Window}
-use Rattle.rb_rules.specs.Conviction.{turn}
-use Rattle.rb_rules.specs.Core.{if_at, is_busy, is_last, is_tick, said_at, state_at}
-use Rattle.rb_rules.specs.Hearing.{sending}
-use Rattle.rb_rules.specs.NodeState.{NodeState}
-use Rattle.rb_rules.specs.NodeSteps.{message_said}
-use Rattle.rb_rules.specs.SyncStage.{new_epoch_of, send_tick_of}
+use Rattle.rb_rules.specs.{declared.message.Message.Message, declared.plan.Window.Window, Conviction.turn, Core.{if_at, is_busy, is_last, is_tick, said_at, state_at}, Hearing.sending, NodeState.NodeState, NodeSteps.message_said, SyncStage.{new_epoch_of, send_tick_of}}
 use Rattle.rb_rules.proofs.RoundStates.{HasTicks}
 use Rattle.rb_slot.specs.Engines.{Seated}
-use Rattle.rb_node.specs.Aheads.{IsChosen, IsNextBusy, IsSooner, SaysIn, busy_at, tick_said, window_of_tick}
-use Rattle.rb_node.specs.Aheads.SaysIn.{Silent, First, Second, Third}
-use Rattle.rb_node.specs.declared.ahead.Busy.{Busy}
-use Rattle.rb_node.proofs.Saying.{sent_at, sending-is, goes-out, stays-in, nothing-out}
-use Rattle.rb_node.proofs.Windows.{goes-on}
+use Rattle.rb_node.specs.{Aheads.{IsChosen, IsNextBusy, IsSooner, SaysIn, busy_at, tick_said, window_of_tick}, Aheads.SaysIn.{Silent, First, Second, Third}, declared.ahead.Busy.Busy}
+use Rattle.rb_node.proofs.{Saying.{sent_at, sending-is, goes-out, stays-in, nothing-out}, Windows.goes-on}
 
 -- The state at a tick.
 

@@ -1,27 +1,15 @@
 -- What the core does that a node stands for: its next tick, its quiet ticks, and what it wants.
-use Rattle.std.proofs.Common.{◌≡◌, ℕ, zero, suc, ◌+◌, ◌-◌, ◌<◌, ◌≤◌, ◌^◌, ◌==◌, ◌||◌, Bool, true, false, refl, ap, sym, ◌∙◌, subst, arith, inl, inr, Option, Some, None, is_some, List, [], ◌∷◌, ◌++◌, map, filter, cond}
+use Rattle.std.proofs.{Common.{◌≡◌, ℕ, zero, suc, ◌+◌, ◌-◌, ◌<◌, ◌≤◌, ◌^◌, ◌==◌, ◌||◌, Bool, true, false, refl, ap, sym, ◌∙◌, subst, arith, inl, inr, Option, Some, None, is_some, List, [], ◌∷◌, ◌++◌, map, filter, cond}, lemmas.Bool.cases_lt, lemmas.Bool.Decides.nat_tests}
 use Rattle.std.specs.Option.{option_or}
-use Rattle.std.proofs.lemmas.Bool.{cases_lt}
-use Rattle.std.proofs.lemmas.Bool.Decides.{nat_tests}
-use Rattle.rb_base.specs.Nodes.{Side}
-use Rattle.rb_base.specs.Sizes.{Sizes}
+use Rattle.rb_base.specs.{Nodes.Side, Sizes.Sizes}
 use Rattle.rb_base.proofs.Plain.{none-from}
-use Rattle.rb_rules.specs.declared.message.Message.{Message}
-use Rattle.rb_rules.specs.declared.plan.Plan.{Plan}
-use Rattle.rb_rules.specs.Core.{Core, Act, act_at, act_on, busy_among, is_busy, is_last, is_spent, if_at, next_tick, of_source, said_at, slot_wanted, state_at, state_kept, tick, ticks, wants}
-use Rattle.rb_rules.specs.NodeState.{NodeState}
-use Rattle.rb_rules.specs.NodeSteps.{message_said}
-use Rattle.rb_rules.specs.Sense.{Arrival}
-use Rattle.rb_rules.specs.SyncStage.{send_tick_of}
+use Rattle.rb_rules.specs.{declared.message.Message.Message, declared.plan.Plan.Plan, Core.{Core, Act, act_at, act_on, busy_among, is_busy, is_last, is_spent, if_at, next_tick, of_source, said_at, slot_wanted, state_at, state_kept, tick, ticks, wants}, NodeState.NodeState, NodeSteps.message_said, Sense.Arrival, SyncStage.send_tick_of}
 use Rattle.rb_rules.proofs.QuietTicks.{IsQuiet, not-spent, nothing, quiet-from, quiet-tick, quiet-ticks}
 use Rattle.rb_eligible.specs.Inboxes.{Received, HoldsArrivals, arrivals_of}
 use Rattle.rb_slot.specs.Engines.{Seated}
-use Rattle.rb_node.specs.Aheads.{IsNextBusy, busy_at, want_at}
+use Rattle.rb_node.specs.{Aheads.{IsNextBusy, busy_at, want_at}, Cores.{IsCore, Running, received_of}, Wants.want_for}
+use Rattle.rb_node.proofs.{Busy.{said-form, stage_at}, Saying.{message-some, sending-is, sent_at}}
 use Rattle.rb_node.specs.declared.act.Want.TheVariants as want
-use Rattle.rb_node.specs.Cores.{IsCore, Running, received_of}
-use Rattle.rb_node.specs.Wants.{want_for}
-use Rattle.rb_node.proofs.Busy.{said-form, stage_at}
-use Rattle.rb_node.proofs.Saying.{message-some, sending-is, sent_at}
 
 -- The next busy tick is found.
 

@@ -1,20 +1,10 @@
 -- Whether the next busy tick ends a window of a slot before the sync slot.
-use Rattle.std.proofs.Common.{◌≡◌, ℕ, ◌+◌, ◌<◌, ◌≤◌, ◌^◌, ◌==◌, nat_lt, true, false, ap, sym, ◌∙◌, subst, arith, inl, inr, Some}
-use Rattle.std.proofs.lemmas.Bool.{cases_lt, eq-eqb, eqb-true}
-use Rattle.std.proofs.lemmas.Bool.Decides.{nat_tests}
-use Rattle.std.proofs.lemmas.Option.{none-some, same_Some}
-use Rattle.rb_base.specs.Nodes.{Side}
-use Rattle.rb_base.specs.Sizes.{sync_slot_of}
-use Rattle.rb_rules.specs.declared.plan.Window.{Window}
-use Rattle.rb_rules.specs.Core.{Core, is_last, is_tick, next_tick, state_at, window_here}
-use Rattle.rb_rules.specs.NodeState.{NodeState}
-use Rattle.rb_rules.specs.SyncStage.{new_epoch_of}
+use Rattle.std.proofs.{Common.{◌≡◌, ℕ, ◌+◌, ◌<◌, ◌≤◌, ◌^◌, ◌==◌, nat_lt, true, false, ap, sym, ◌∙◌, subst, arith, inl, inr, Some}, lemmas.Bool.{cases_lt, eq-eqb, eqb-true}, lemmas.Bool.Decides.nat_tests, lemmas.Option.{none-some, same_Some}}
+use Rattle.rb_base.specs.{Nodes.Side, Sizes.sync_slot_of}
+use Rattle.rb_rules.specs.{declared.plan.Window.Window, Core.{Core, is_last, is_tick, next_tick, state_at, window_here}, NodeState.NodeState, SyncStage.new_epoch_of}
 use Rattle.rb_slot.specs.Engines.{Seated}
-use Rattle.rb_node.specs.Aheads.{LooksAhead, window_of_tick}
-use Rattle.rb_node.specs.Ends.{EndsExactWindow}
-use Rattle.rb_node.specs.declared.ahead.Ahead.{Ahead}
-use Rattle.rb_node.proofs.Busy.{no-turn}
-use Rattle.rb_node.proofs.Cores.{next-is, next-none}
+use Rattle.rb_node.specs.{Aheads.{LooksAhead, window_of_tick}, Ends.EndsExactWindow, declared.ahead.Ahead.Ahead}
+use Rattle.rb_node.proofs.{Busy.no-turn, Cores.{next-is, next-none}}
 
 -- Tests on numbers.
 

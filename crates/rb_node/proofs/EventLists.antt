@@ -1,10 +1,7 @@
 -- Events in a row, in parts.
 use Rattle.std.proofs.Common.{◌≡◌, ℕ, zero, suc, replicate, List, [], ◌∷◌, ◌++◌, refl, ap}
-use Rattle.rb_base.specs.Nodes.{Side}
-use Rattle.rb_base.specs.Sizes.{Sizes}
-use Rattle.rb_rules.specs.declared.plan.Plan.{Plan}
-use Rattle.rb_rules.specs.Core.{Core, CoreEvent, arrive, tick, ticks, acts_of}
-use Rattle.rb_rules.specs.Core.CoreEvent.{Tick, Arrive}
+use Rattle.rb_base.specs.{Nodes.Side, Sizes.Sizes}
+use Rattle.rb_rules.specs.{declared.plan.Plan.Plan, Core.{Core, CoreEvent, arrive, tick, ticks, acts_of}, Core.CoreEvent.{Tick, Arrive}}
 use Rattle.rb_node.specs.Events.{core_after}
 
 pub cores-append : (sizes : Sizes) (plan : Plan) (me : Side) (index : ℕ) (c : Core) (before after : List CoreEvent)

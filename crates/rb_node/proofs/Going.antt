@@ -1,24 +1,12 @@
 -- The window of the next tick.
-use Rattle.std.proofs.Common.{◌≡◌, ℕ, ◌+◌, ◌-◌, ◌<◌, ◌≤◌, ◌^◌, ◌==◌, ◌%◌, ◌&&◌, is_some, Bool, true, false, ap, sym, ◌∙◌, subst, arith, inl, inr, Option, Some, None, unwrap_or, if◌then◌else◌}
-use Rattle.std.proofs.lemmas.Bool.{cases_lt}
-use Rattle.std.proofs.lemmas.Bool.Decides.{nat_tests}
-use Rattle.rb_base.specs.Nodes.{Side}
-use Rattle.rb_base.specs.Nodes.Side.{Biu, Rmu}
-use Rattle.rb_base.specs.Sizes.{IsShape, sync_slot_of}
-use Rattle.rb_base.specs.declared.values.Heard.{Heard}
-use Rattle.rb_rules.specs.declared.message.Message.{Message}
-use Rattle.rb_rules.specs.declared.plan.Window.{Window}
-use Rattle.rb_rules.specs.Core.{state_kept}
-use Rattle.rb_rules.specs.ExactStage.{says}
-use Rattle.rb_rules.specs.Hearing.{tail_at}
-use Rattle.rb_rules.specs.Plan.{IsPlan}
-use Rattle.rb_rules.specs.Windows.{window_at}
+use Rattle.std.proofs.{Common.{◌≡◌, ℕ, ◌+◌, ◌-◌, ◌<◌, ◌≤◌, ◌^◌, ◌==◌, ◌%◌, ◌&&◌, is_some, Bool, true, false, ap, sym, ◌∙◌, subst, arith, inl, inr, Option, Some, None, unwrap_or, if◌then◌else◌}, lemmas.Bool.cases_lt, lemmas.Bool.Decides.nat_tests}
+use Rattle.rb_base.specs.{Nodes.Side, Nodes.Side.{Biu, Rmu}, Sizes.{IsShape, sync_slot_of}, declared.values.Heard.Heard}
+use Rattle.rb_rules.specs.{declared.message.Message.Message, declared.plan.Window.Window, Core.state_kept, ExactStage.says, Hearing.tail_at, Plan.IsPlan, Windows.window_at}
 use Rattle.rb_rules.proofs.Slots.{few_slots}
 use Rattle.rb_slot.specs.Engines.{IsSameFrame, Seated}
 use Rattle.rb_slot.proofs.Fitting.{IsPlaced, placed}
 use Rattle.rb_node.specs.Aheads.{IsEnded, IsWindowOf, following}
-use Rattle.rb_node.proofs.Numbering.{IsNumbered, follows, numbered}
-use Rattle.rb_node.proofs.Windows.{ends-soon, goes-on, has-ticks}
+use Rattle.rb_node.proofs.{Numbering.{IsNumbered, follows, numbered}, Windows.{ends-soon, goes-on, has-ticks}}
 
 -- a window that is found at a tick is that of the tick
 pub found-here : (me : Side) (v : Seated) (k : ℕ) (w : Window) → IsShape v.sizes → IsPlan v.plan → v.state.epoch ≤ k → k ≤ 2 ^ 31

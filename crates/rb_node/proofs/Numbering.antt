@@ -1,25 +1,13 @@
 -- The windows below the sync slot by their numbers: which one follows, and what is sent in one.
-use Rattle.std.proofs.Common.{◌≡◌, ℕ, zero, suc, ◌+◌, ◌-◌, ◌*◌, ◌/◌, ◌%◌, ◌<◌, ◌≤◌, ◌==◌, nat_lt, Bool, true, false, refl, ap, sym, ◌∙◌, subst, arith, inl, inr, Option, Some, None, unwrap_or, if◌then◌else◌}
-use Rattle.std.proofs.lemmas.Bool.{cases_lt, ltb-false, ltb-true}
-use Rattle.std.proofs.Math.Nat.{add-mul, div-mul-le_self, lt-div-mul-add, mul-le-mul_right}
-use Rattle.rb_base.specs.Nodes.{Side}
-use Rattle.rb_base.specs.Sizes.{Sizes, sync_slot_of}
+use Rattle.std.proofs.{Common.{◌≡◌, ℕ, zero, suc, ◌+◌, ◌-◌, ◌*◌, ◌/◌, ◌%◌, ◌<◌, ◌≤◌, ◌==◌, nat_lt, Bool, true, false, refl, ap, sym, ◌∙◌, subst, arith, inl, inr, Option, Some, None, unwrap_or, if◌then◌else◌}, lemmas.Bool.{cases_lt, ltb-false, ltb-true}, Math.Nat.{add-mul, div-mul-le_self, lt-div-mul-add, mul-le-mul_right}}
+use Rattle.rb_base.specs.{Nodes.Side, Sizes.{Sizes, sync_slot_of}}
 use Rattle.rb_base.proofs.Plain.{less-differs, more-differs}
-use Rattle.rb_rules.specs.declared.plan.Plan.{Plan}
-use Rattle.rb_rules.specs.declared.plan.Window.{Window}
-use Rattle.rb_rules.specs.Core.{is_tick}
-use Rattle.rb_rules.specs.Hearing.{tail_at}
-use Rattle.rb_rules.specs.NodeSteps.{message_said}
-use Rattle.rb_rules.specs.Plan.{f0_of}
-use Rattle.rb_rules.specs.SyncStage.{call_tick_of, send_tick_of}
-use Rattle.rb_rules.specs.Windows.{exact_window, send_offset_of, window_at, window_of}
+use Rattle.rb_rules.specs.{declared.plan.Plan.Plan, declared.plan.Window.Window, Core.is_tick, Hearing.tail_at, NodeSteps.message_said, Plan.f0_of, SyncStage.{call_tick_of, send_tick_of}, Windows.{exact_window, send_offset_of, window_at, window_of}}
 use Rattle.rb_rules.proofs.RoundStates.{HasTicks}
 use Rattle.rb_plan.proofs.Offsets.{number_below, found_below, found_stage_1, found_stage_2, found_stage_3, found_none}
 use Rattle.rb_slot.specs.Engines.{Seated}
-use Rattle.rb_node.specs.Aheads.{IsChosen, IsSaidNext, IsWindowOf, following, tick_said}
-use Rattle.rb_node.specs.declared.ahead.Busy.{Busy}
-use Rattle.rb_node.proofs.Busy.{said-tick}
-use Rattle.rb_node.proofs.Windows.{window-or-tail}
+use Rattle.rb_node.specs.{Aheads.{IsChosen, IsSaidNext, IsWindowOf, following, tick_said}, declared.ahead.Busy.Busy}
+use Rattle.rb_node.proofs.{Busy.said-tick, Windows.window-or-tail}
 
 -- `w` is an exact window below the sync slot, and the offset lies in it
 pub record IsNumbered (sizes : Sizes) (plan : Plan) (offset : ℕ) (w : Window) : Type 0 where

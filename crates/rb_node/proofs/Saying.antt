@@ -1,24 +1,9 @@
 -- What a node says at a tick, and whether it says something, whatever its word.
-use Rattle.std.proofs.Common.{◌≡◌, ℕ, ◌==◌, Bool, true, false, refl, ap, sym, ◌∙◌, subst, Option, Some, None, is_some, option_and_then, option_map, unwrap_or, get_or, if◌then◌else◌}
-use Rattle.std.proofs.lemmas.Bool.{eqb-true}
-use Rattle.std.proofs.lemmas.Option.{same_Some}
-use Rattle.rb_base.specs.Nodes.{Side, other}
-use Rattle.rb_base.specs.Sizes.{Sizes, sync_slot_of}
-use Rattle.rb_base.specs.declared.values.Heard.{Heard}
-use Rattle.rb_base.specs.declared.values.Heard.TheVariants as heard
-use Rattle.rb_rules.specs.declared.message.Message.{Message}
-use Rattle.rb_rules.specs.declared.plan.Plan.{Plan}
-use Rattle.rb_rules.specs.declared.role.Role.{Role}
-use Rattle.rb_rules.specs.declared.role.Role.TheVariants.{Sync}
-use Rattle.rb_rules.specs.Core.{if_at, is_tick, state_kept}
-use Rattle.rb_rules.specs.ExactStage.{own_value, is_sender, value_said, says_of, says, message_of, keep_sent}
-use Rattle.rb_rules.specs.Hearing.{Sending, sending}
-use Rattle.rb_rules.specs.NodeState.{NodeState, sender_at}
-use Rattle.rb_rules.specs.NodeSteps.{message_said}
-use Rattle.rb_rules.specs.Slots.{Sender, role_of, listens}
-use Rattle.rb_rules.specs.Slots.Sender.{Nobody, Node, EachTrusted}
-use Rattle.rb_rules.specs.SyncStage.{call_of, calls, send_tick_of}
+use Rattle.std.proofs.{Common.{◌≡◌, ℕ, ◌==◌, Bool, true, false, refl, ap, sym, ◌∙◌, subst, Option, Some, None, is_some, option_and_then, option_map, unwrap_or, get_or, if◌then◌else◌}, lemmas.Bool.eqb-true, lemmas.Option.same_Some}
+use Rattle.rb_base.specs.{Nodes.{Side, other}, Sizes.{Sizes, sync_slot_of}, declared.values.Heard.Heard}
+use Rattle.rb_rules.specs.{declared.message.Message.Message, declared.plan.Plan.Plan, declared.role.Role.Role, declared.role.Role.TheVariants.Sync, Core.{if_at, is_tick, state_kept}, ExactStage.{own_value, is_sender, value_said, says_of, says, message_of, keep_sent}, Hearing.{Sending, sending}, NodeState.{NodeState, sender_at}, NodeSteps.message_said, Slots.{Sender, role_of, listens}, Slots.Sender.{Nobody, Node, EachTrusted}, SyncStage.{call_of, calls, send_tick_of}}
 use Rattle.rb_rules.proofs.Slots.{nothing-kept, sync_role}
+use Rattle.rb_base.specs.declared.values.Heard.TheVariants as heard
 
 -- Whether something is said does not depend on the word.
 

@@ -1,30 +1,12 @@
 -- The parts of a tick make the core's act.
-use Rattle.std.proofs.Common.{◌≡◌, ℕ, ◌+◌, ◌<◌, ◌≤◌, ◌^◌, ◌==◌, Bool, true, false, refl, ap, sym, ◌∙◌, subst, arith, Option, Some, None, List, [], if◌then◌else◌}
-use Rattle.std.proofs.Math.Path.{fun_ext}
-use Rattle.rb_base.specs.Nodes.{Side}
-use Rattle.rb_base.specs.Sizes.{Sizes}
-use Rattle.rb_rules.specs.declared.closing.Closed.{Closed}
-use Rattle.rb_rules.specs.declared.message.Message.{Message}
-use Rattle.rb_rules.specs.declared.plan.Window.{Window}
-use Rattle.rb_rules.specs.declared.record.Epoch.{Epoch}
-use Rattle.rb_rules.specs.Conviction.{turn}
-use Rattle.rb_rules.specs.Core.{Core, Act, act_at, act_on, epoch_at, is_busy, is_last, is_tick, of_source, said_at, state_at, state_kept, tick, window_here}
-use Rattle.rb_rules.specs.ExactStage.{Outcome}
-use Rattle.rb_rules.specs.Hearing.{close_window}
-use Rattle.rb_rules.specs.NodeState.{NodeState}
-use Rattle.rb_rules.specs.Sense.{Arrival}
-use Rattle.rb_rules.specs.SyncStage.{new_epoch_of}
-use Rattle.rb_rules.proofs.QuietTicks.{nothing}
-use Rattle.rb_rules.proofs.RoundStates.{Stays, stays-refl, keeping-stays}
+use Rattle.std.proofs.{Common.{◌≡◌, ℕ, ◌+◌, ◌<◌, ◌≤◌, ◌^◌, ◌==◌, Bool, true, false, refl, ap, sym, ◌∙◌, subst, arith, Option, Some, None, List, [], if◌then◌else◌}, Math.Path.fun_ext}
+use Rattle.rb_base.specs.{Nodes.Side, Sizes.Sizes}
+use Rattle.rb_rules.specs.{declared.closing.Closed.Closed, declared.message.Message.Message, declared.plan.Window.Window, declared.record.Epoch.Epoch, Conviction.turn, Core.{Core, Act, act_at, act_on, epoch_at, is_busy, is_last, is_tick, of_source, said_at, state_at, state_kept, tick, window_here}, ExactStage.Outcome, Hearing.close_window, NodeState.NodeState, Sense.Arrival, SyncStage.new_epoch_of}
+use Rattle.rb_rules.proofs.{QuietTicks.nothing, RoundStates.{Stays, stays-refl, keeping-stays}}
 use Rattle.rb_eligible.specs.Inboxes.{Received, HoldsArrivals, KeptArrivals}
 use Rattle.rb_slot.specs.Engines.{IsSameFrame, Seated, outcome_on}
-use Rattle.rb_node.specs.Acts.{IsAct}
-use Rattle.rb_node.specs.Aheads.{busy_at, window_of_tick}
-use Rattle.rb_node.specs.Cores.{IsCore, Running, received_of, tick_of}
-use Rattle.rb_node.specs.Saids.{said_in}
-use Rattle.rb_node.specs.declared.act.Step.{Step}
-use Rattle.rb_node.proofs.Busy.{no-turn, said-form, turned-epoch}
-use Rattle.rb_node.proofs.Cores.{arrivals-are, quiet-any, tick-now, tick-spent}
+use Rattle.rb_node.specs.{Acts.IsAct, Aheads.{busy_at, window_of_tick}, Cores.{IsCore, Running, received_of, tick_of}, Saids.said_in, declared.act.Step.Step}
+use Rattle.rb_node.proofs.{Busy.{no-turn, said-form, turned-epoch}, Cores.{arrivals-are, quiet-any, tick-now, tick-spent}}
 
 pub kept-stays : (sizes : Sizes) (me : Side) (index : ℕ) (st : NodeState) (word : ℕ) (m : Option Message) → Stays st (state_kept sizes me index st word m)
 kept-stays sizes me index st word None = stays-refl st

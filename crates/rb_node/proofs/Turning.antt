@@ -1,33 +1,13 @@
 -- The start of a frame, and what is wanted in its slots.
-use Rattle.std.proofs.Common.{◌≡◌, ℕ, ◌+◌, ◌-◌, ◌*◌, ◌≤◌, ◌==◌, ◌&&◌, nat_lt, Bool, true, false, refl, ap, sym, ◌∙◌, subst, arith, Option, Some, None, is_some, unwrap_or, if◌then◌else◌}
+use Rattle.std.proofs.{Common.{◌≡◌, ℕ, ◌+◌, ◌-◌, ◌*◌, ◌≤◌, ◌==◌, ◌&&◌, nat_lt, Bool, true, false, refl, ap, sym, ◌∙◌, subst, arith, Option, Some, None, is_some, unwrap_or, if◌then◌else◌}, lemmas.Bool.Decides.nat_tests}
 use Rattle.std.specs.Option.{option_or}
-use Rattle.std.proofs.lemmas.Bool.Decides.{nat_tests}
-use Rattle.rb_base.specs.Nodes.{Side}
-use Rattle.rb_base.specs.Nodes.Side.{Biu}
-use Rattle.rb_base.specs.Sizes.{IsShape, Sizes, sync_slot_of}
-use Rattle.rb_rules.specs.declared.message.Message.{Message}
-use Rattle.rb_rules.specs.declared.plan.Plan.{Plan}
-use Rattle.rb_rules.specs.declared.plan.Window.{Window}
-use Rattle.rb_rules.specs.Core.{if_at, is_tick, said_at, slot_wanted, state_at, window_here}
-use Rattle.rb_rules.specs.Hearing.{Span, span_of, tail_at}
-use Rattle.rb_rules.specs.NodeState.{NodeState}
-use Rattle.rb_rules.specs.NodeSteps.{message_said, turn_if_known}
-use Rattle.rb_rules.specs.Plan.{IsPlan}
-use Rattle.rb_rules.specs.Slots.{first_diagnosis_of}
-use Rattle.rb_rules.specs.SyncStage.{call_tick_of, new_epoch_of, send_tick_of}
-use Rattle.rb_rules.specs.Windows.{send_offset_of, window_at}
-use Rattle.rb_rules.specs.WorldStep.{span_from}
+use Rattle.rb_base.specs.{Nodes.Side, Nodes.Side.Biu, Sizes.{IsShape, Sizes, sync_slot_of}}
+use Rattle.rb_rules.specs.{declared.message.Message.Message, declared.plan.Plan.Plan, declared.plan.Window.Window, Core.{if_at, is_tick, said_at, slot_wanted, state_at, window_here}, Hearing.{Span, span_of, tail_at}, NodeState.NodeState, NodeSteps.{message_said, turn_if_known}, Plan.IsPlan, Slots.first_diagnosis_of, SyncStage.{call_tick_of, new_epoch_of, send_tick_of}, Windows.{send_offset_of, window_at}, WorldStep.span_from}
 use Rattle.rb_rules.proofs.RoundStates.{HasTicks}
 use Rattle.rb_slot.specs.Engines.{Seated}
-use Rattle.rb_node.specs.Aheads.{SaysIn, tick_said, want_at, window_of_tick}
-use Rattle.rb_node.specs.Aheads.SaysIn.{Silent, First, Second, Third}
-use Rattle.rb_node.specs.Saids.{span_if}
-use Rattle.rb_node.specs.Wants.{slot_of_words, want_for}
+use Rattle.rb_node.specs.{Aheads.{SaysIn, tick_said, want_at, window_of_tick}, Aheads.SaysIn.{Silent, First, Second, Third}, Saids.span_if, Wants.{slot_of_words, want_for}}
+use Rattle.rb_node.proofs.{Busy.{no-turn, said-form, said-tick, stage_at, turned-epoch, unsaid}, Saying.{HasPlace, goes-out, message-place, sending-is, sent_at, stays-in}, Steps.turned-frame, Windows.{first-is, has-ticks}}
 use Rattle.rb_node.specs.declared.act.Want.TheVariants as want
-use Rattle.rb_node.proofs.Busy.{no-turn, said-form, said-tick, stage_at, turned-epoch, unsaid}
-use Rattle.rb_node.proofs.Saying.{HasPlace, goes-out, message-place, sending-is, sent_at, stays-in}
-use Rattle.rb_node.proofs.Steps.{turned-frame}
-use Rattle.rb_node.proofs.Windows.{first-is, has-ticks}
 
 pub turns-is : (v : Seated) (me : Side) (k : ℕ) → is_tick (new_epoch_of v.plan me v.state) k ≡ true
     → state_at v.sizes v.plan me v.state k ≡ turn_if_known v.sizes v.plan me v.state

@@ -1,17 +1,7 @@
 -- Up to which tick the window of a tick goes on.
-use Rattle.std.proofs.Common.{◌≡◌, ℕ, ◌+◌, ◌-◌, ◌*◌, ◌/◌, ◌<◌, ◌≤◌, ◌⊎◌, refl, ap, sym, ◌∙◌, subst, arith, inl, inr, Some, None, unwrap_or}
-use Rattle.std.proofs.lemmas.Bool.{cases_lt}
-use Rattle.std.proofs.lemmas.Nat.{mul-le}
-use Rattle.std.proofs.Math.Nat.{add-mul, div-mul-le_self, lt-div-mul-add, mul-le-mul_right}
-use Rattle.rb_base.specs.Nodes.{Side}
-use Rattle.rb_base.specs.Sizes.{Sizes, sync_slot_of}
-use Rattle.rb_rules.specs.declared.plan.Plan.{Plan}
-use Rattle.rb_rules.specs.declared.plan.Window.{Window}
-use Rattle.rb_rules.specs.Core.{window_here}
-use Rattle.rb_rules.specs.Hearing.{tail_at}
-use Rattle.rb_rules.specs.NodeState.{NodeState}
-use Rattle.rb_rules.specs.Plan.{IsPlan, f0_of, tail_start_of}
-use Rattle.rb_rules.specs.Windows.{exact_window, window_at}
+use Rattle.std.proofs.{Common.{◌≡◌, ℕ, ◌+◌, ◌-◌, ◌*◌, ◌/◌, ◌<◌, ◌≤◌, ◌⊎◌, refl, ap, sym, ◌∙◌, subst, arith, inl, inr, Some, None, unwrap_or}, lemmas.Bool.cases_lt, lemmas.Nat.mul-le, Math.Nat.{add-mul, div-mul-le_self, lt-div-mul-add, mul-le-mul_right}}
+use Rattle.rb_base.specs.{Nodes.Side, Sizes.{Sizes, sync_slot_of}}
+use Rattle.rb_rules.specs.{declared.plan.Plan.Plan, declared.plan.Window.Window, Core.window_here, Hearing.tail_at, NodeState.NodeState, Plan.{IsPlan, f0_of, tail_start_of}, Windows.{exact_window, window_at}}
 use Rattle.rb_rules.proofs.RoundStates.{HasTicks}
 use Rattle.rb_plan.proofs.Offsets.{number_below, found_below, found_stage_1, found_stage_2, found_stage_3, found_none}
 

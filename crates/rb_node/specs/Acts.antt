@@ -1,14 +1,7 @@
 -- What a node gives at a tick.
 use Rattle.std.specs.Prelude.{◌≡◌, ◌≤◌, Some, None, option_and_then, option_map, if◌then◌else◌}
-use Rattle.rb_rules.specs.declared.closing.Closed.{Closed}
-use Rattle.rb_rules.specs.declared.message.Message.{Message}
-use Rattle.rb_rules.specs.declared.message.Version.{Version}
-use Rattle.rb_rules.specs.Core.{Act}
-use Rattle.rb_rules.specs.Hearing.{Span}
-use Rattle.rb_rules.specs.Spelling.{IsZeroUnlessWord, spelling_of}
-use Rattle.rb_node.specs.declared.act.Act.{Act as Given}
-use Rattle.rb_node.specs.declared.act.Step.{Step}
-use Rattle.rb_node.specs.declared.act.Span.{Span as Entered}
+use Rattle.rb_rules.specs.{declared.closing.Closed.Closed, declared.message.Message.Message, declared.message.Version.Version, Core.Act, Hearing.Span, Spelling.{IsZeroUnlessWord, spelling_of}}
+use Rattle.rb_node.specs.{declared.act.Act.Act as Given, declared.act.Step.Step, declared.act.Span.Span as Entered}
 
 -- what a step gives, and what the node shows after it, are the act's parts
 pub record IsAct (shown : Closed) (s : Step) (x : Act) : Type 0 where

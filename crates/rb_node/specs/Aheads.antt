@@ -1,20 +1,11 @@
 -- What a node keeps at hand of what is ahead of it.
 use Rattle.std.specs.Prelude.{ℕ, ◌≡◌, ◌≤◌, ◌<◌, ◌^◌, ◌+◌, ◌⊎◌, ◌==◌, ◌&&◌, not, nat_lt, if◌then◌else◌, Bool, true, false, is_some, Option, None}
-use Rattle.rb_base.specs.Nodes.{Side}
-use Rattle.rb_base.specs.Sizes.{sync_slot_of}
-use Rattle.rb_rules.specs.declared.plan.Plan.{Plan}
-use Rattle.rb_rules.specs.declared.plan.Window.{Window}
-use Rattle.rb_rules.specs.Core.{is_busy, is_tick, said_at, slot_wanted, state_at, window_here}
-use Rattle.rb_rules.specs.NodeSteps.{message_said}
-use Rattle.rb_rules.specs.SyncStage.{new_epoch_of, send_tick_of}
+use Rattle.rb_base.specs.{Nodes.Side, Sizes.sync_slot_of}
+use Rattle.rb_rules.specs.{declared.plan.Plan.Plan, declared.plan.Window.Window, Core.{is_busy, is_tick, said_at, slot_wanted, state_at, window_here}, NodeSteps.message_said, SyncStage.{new_epoch_of, send_tick_of}}
 use Rattle.rb_eligible.specs.Inboxes.{KeptArrivals, StampsUpTo}
-use Rattle.rb_slot.specs.Closable.{IsOfFrame}
-use Rattle.rb_slot.specs.Engines.{Seated}
-use Rattle.rb_node.specs.declared.ahead.Ahead.{Ahead}
-use Rattle.rb_node.specs.declared.ahead.Busy.{Busy}
-use Rattle.rb_node.specs.declared.act.Want.{Want}
+use Rattle.rb_slot.specs.{Closable.IsOfFrame, Engines.Seated}
+use Rattle.rb_node.specs.{declared.ahead.Ahead.Ahead, declared.ahead.Busy.Busy, declared.act.Want.Want, Wants.want_for}
 use Rattle.rb_node.specs.declared.act.Want.TheVariants as want
-use Rattle.rb_node.specs.Wants.{want_for}
 
 -- the earlier of two ticks; the second is ignored if it is absent or over at the tick `had`
 pub record IsSooner (had : ℕ) (candidate : Option ℕ) (before after : ℕ) : Type 0 where

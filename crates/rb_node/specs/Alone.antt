@@ -1,11 +1,8 @@
 -- Busy ticks at which a window ends, and nothing else happens.
 use Rattle.std.specs.Prelude.{ℕ, ◌≡◌, Bool, true, false, IsTrue, None, Some}
 use Rattle.rb_base.specs.Nodes.{Side}
-use Rattle.rb_rules.specs.Core.{Core, is_tick, pass_to}
-use Rattle.rb_rules.specs.SyncStage.{new_epoch_of}
-use Rattle.rb_node.specs.Acts.{IsAct}
-use Rattle.rb_node.specs.Cores.{IsCore, IsSameNode, Running, next_of, tick_of}
-use Rattle.rb_node.specs.Ends.{EndsExactWindow}
+use Rattle.rb_rules.specs.{Core.{Core, is_tick, pass_to}, SyncStage.new_epoch_of}
+use Rattle.rb_node.specs.{Acts.IsAct, Cores.{IsCore, IsSameNode, Running, next_of, tick_of}, Ends.EndsExactWindow}
 
 -- the answer is true if and only if the node's next busy tick ends a window of a slot before the
 -- sync slot, and no frame begins with it

@@ -1,9 +1,7 @@
 -- Which core of the rules a node stands for.
 use Rattle.std.specs.Prelude.{ℕ, ◌≡◌, ◌^◌, Option, unwrap_or, List, [], map}
 use Rattle.rb_base.specs.Nodes.{Side}
-use Rattle.rb_rules.specs.declared.closing.Closed.{Closed}
-use Rattle.rb_rules.specs.Core.{Core, Act, arrive, tick, ticks, next_tick}
-use Rattle.rb_rules.specs.Sense.{Arrival}
+use Rattle.rb_rules.specs.{declared.closing.Closed.Closed, Core.{Core, Act, arrive, tick, ticks, next_tick}, Sense.Arrival}
 use Rattle.rb_eligible.specs.Inboxes.{KeptArrivals, Received, HoldsArrivals}
 use Rattle.rb_slot.specs.Engines.{Seated}
 

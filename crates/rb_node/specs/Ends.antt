@@ -1,10 +1,7 @@
 -- Ticks that end a window.
 use Rattle.std.specs.Prelude.{ℕ, ◌≡◌, ◌<◌, true}
-use Rattle.rb_base.specs.Nodes.{Side}
-use Rattle.rb_base.specs.Sizes.{Sizes, sync_slot_of}
-use Rattle.rb_rules.specs.declared.plan.Plan.{Plan}
-use Rattle.rb_rules.specs.Core.{is_last, state_at, window_here}
-use Rattle.rb_rules.specs.NodeState.{NodeState}
+use Rattle.rb_base.specs.{Nodes.Side, Sizes.{Sizes, sync_slot_of}}
+use Rattle.rb_rules.specs.{declared.plan.Plan.Plan, Core.{is_last, state_at, window_here}, NodeState.NodeState}
 
 -- tick k ends a window of a slot before the sync slot
 pub record EndsExactWindow (sizes : Sizes) (plan : Plan) (me : Side) (st : NodeState) (k : ℕ) : Type 0 where

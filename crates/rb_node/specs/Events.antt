@@ -1,10 +1,7 @@
 -- Events in a row.
 use Rattle.std.specs.Prelude.{ℕ, ◌≡◌, List, [], ◌∷◌, ◌++◌, replicate}
-use Rattle.rb_base.specs.Nodes.{Side}
-use Rattle.rb_base.specs.Sizes.{Sizes}
-use Rattle.rb_rules.specs.declared.plan.Plan.{Plan}
-use Rattle.rb_rules.specs.Core.{Core, CoreEvent, arrive, tick, ticks, acts_of}
-use Rattle.rb_rules.specs.Core.CoreEvent.{Tick, Arrive}
+use Rattle.rb_base.specs.{Nodes.Side, Sizes.Sizes}
+use Rattle.rb_rules.specs.{declared.plan.Plan.Plan, Core.{Core, CoreEvent, arrive, tick, ticks, acts_of}, Core.CoreEvent.{Tick, Arrive}}
 
 -- core c after the events, one after another
 abbrev pub core_after : Sizes → Plan → Side → ℕ → Core → List CoreEvent → Core

@@ -1,11 +1,7 @@
 -- The parts of a tick.
-use Rattle.std.specs.Prelude.{ℕ, ◌+◌, ◌==◌, true, false, Option, Some, None}
-use Rattle.std.specs.Option.{option_or}
+use Rattle.std.specs.{Prelude.{ℕ, ◌+◌, ◌==◌, true, false, Option, Some, None}, Option.option_or}
 use Rattle.rb_base.specs.Nodes.{Side}
-use Rattle.rb_rules.specs.declared.message.Message.{Message}
-use Rattle.rb_rules.specs.Core.{if_at}
-use Rattle.rb_rules.specs.declared.plan.Window.{Window}
-use Rattle.rb_rules.specs.Hearing.{Sending, Span, sending}
+use Rattle.rb_rules.specs.{declared.message.Message.Message, Core.if_at, declared.plan.Window.Window, Hearing.{Sending, Span, sending}}
 use Rattle.rb_slot.specs.Engines.{Seated}
 
 -- what the node sends in a stage

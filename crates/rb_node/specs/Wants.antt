@@ -1,13 +1,9 @@
 -- What a node wants to be handed for a tick.
 use Rattle.std.specs.Prelude.{ℕ, nat_lt, true, false, Option, Some, None, if◌then◌else◌}
-use Rattle.rb_base.specs.Nodes.{Side}
-use Rattle.rb_base.specs.Nodes.Side.{Biu}
-use Rattle.rb_base.specs.Sizes.{Sizes}
-use Rattle.rb_rules.specs.Core.{Core, wants, pass_to}
-use Rattle.rb_rules.specs.Slots.{first_diagnosis_of}
-use Rattle.rb_node.specs.declared.act.Want.{Want}
+use Rattle.rb_base.specs.{Nodes.Side, Nodes.Side.Biu, Sizes.Sizes}
+use Rattle.rb_rules.specs.{Core.{Core, wants, pass_to}, Slots.first_diagnosis_of}
+use Rattle.rb_node.specs.{declared.act.Want.Want, Cores.Running}
 use Rattle.rb_node.specs.declared.act.Want.TheVariants as want
-use Rattle.rb_node.specs.Cores.{Running}
 
 -- in a schedule slot its request, in a data slot its word
 abbrev pub want_for : Sizes → Option ℕ → Want

@@ -1,8 +1,6 @@
 -- What is known of the bytes after calls in a row. Below, a, b and c are what is known at one
 -- moment, at a later one and at one later still, and h is what is known if nothing happened.
-use Rattle.std.proofs.Common.{◌≡◌, ℕ, ◌+◌, ◌<◌, ◌≤◌, List, [], ◌++◌, length, take, drop, Option, None, Some, IsSomeAnd, sym, ap, ◌∙◌, append_assoc, refl, arith, rules, length-append}
-use Rattle.std.proofs.lemmas.List.{take-append-drop}
-use Rattle.std.proofs.Math.Seq.{take-add}
+use Rattle.std.proofs.{Common.{◌≡◌, ℕ, ◌+◌, ◌<◌, ◌≤◌, List, [], ◌++◌, length, take, drop, Option, None, Some, IsSomeAnd, sym, ap, ◌∙◌, append_assoc, refl, arith, rules, length-append}, lemmas.List.take-append-drop, Math.Seq.take-add}
 use Rattle.std.specs.Io.KnownBytes.{Appends, Consumes, Keeps}
 use Rattle.rb_outside.specs.Bytes.{AppendsPart, Gave, ReadsToEnd}
 

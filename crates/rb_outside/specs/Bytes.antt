@@ -1,6 +1,5 @@
 -- What several calls together did to the bytes that a source has left and a sink holds.
-use Rattle.std.specs.Prelude.{◌≡◌, ℕ, List, ◌++◌, length, Option}
-use Rattle.std.specs.Io.KnownBytes.{Appends, Consumes, IsAtEnd}
+use Rattle.std.specs.{Prelude.{◌≡◌, ℕ, List, ◌++◌, length, Option}, Io.KnownBytes.{Appends, Consumes, IsAtEnd}}
 
 -- a first part of `bytes` was appended, perhaps none and perhaps all
 pub record AppendsPart (before after : Option (List ℕ)) (bytes : List ℕ) : Type 0 where

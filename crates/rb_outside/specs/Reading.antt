@@ -1,10 +1,6 @@
 -- What reading a source to its end did to it.
-use Rattle.std.specs.Prelude.{◌≡◌, ◌≢◌, ◌<◌, ◌≤◌, ◌⊎◌, ℕ, List, length, Option, Result, Err, IsOk, IfOk, IsSomeAnd, Vec}
-use Rattle.std.specs.Global.{Global}
-use Rattle.rb_outside.specs.Bytes.{Gave, ReadsToEnd}
-use Rattle.rb_outside.specs.Causes.{Rose}
-use Rattle.rb_outside.specs.declared.whole.Unread.{Unread}
-use Rattle.rb_outside.specs.declared.whole.Unread.TheVariants.{TooLong, Fault, OutOfMemory}
+use Rattle.std.specs.{Prelude.{◌≡◌, ◌≢◌, ◌<◌, ◌≤◌, ◌⊎◌, ℕ, List, length, Option, Result, Err, IsOk, IfOk, IsSomeAnd, Vec}, Global.Global}
+use Rattle.rb_outside.specs.{Bytes.{Gave, ReadsToEnd}, Causes.Rose, declared.whole.Unread.Unread, declared.whole.Unread.TheVariants.{TooLong, Fault, OutOfMemory}}
 
 -- Ok: these are all the bytes that the source had left, and they are within the limit. Err: it gave
 -- more, or a call of it failed, or memory ran out

@@ -1,8 +1,6 @@
 -- What a call that writes did to a sink.
-use Rattle.std.specs.Prelude.{ℕ, List, Option, Result, OnErr, OnOk}
-use Rattle.std.specs.Io.KnownBytes.{Appends}
-use Rattle.rb_outside.specs.Bytes.{AppendsPart}
-use Rattle.rb_outside.specs.Causes.{HasCause}
+use Rattle.std.specs.{Prelude.{ℕ, List, Option, Result, OnErr, OnOk}, Io.KnownBytes.Appends}
+use Rattle.rb_outside.specs.{Bytes.AppendsPart, Causes.HasCause}
 
 -- Ok: all of these bytes were appended to what the sink holds. Err: a first part of them, and a
 -- call of the sink failed

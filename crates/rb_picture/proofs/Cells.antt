@@ -1,13 +1,7 @@
 -- The cells of a line: one for each delivery.
 use Rattle.std.proofs.Common.{◌≡◌, ◌∙◌, ℕ, ◌==◌, Bool, true, false, if◌then◌else◌, List, [], ◌∷◌, ◌++◌, refl, ap}
-use Rattle.rb_picture.specs.declared.line.Line.{Line}
+use Rattle.rb_picture.specs.{declared.line.Line.Line, declared.column.Column.Column, declared.drawn.Stand.Stand, declared.extent.Facts.Facts, Picture.{Piece, head_of, no_stand, pieces_at, pieces_from, pieces_of_line, stand_at}, Picture.Piece.{Ground, Head, Tick, Cell, Break, Ending}, Laws.{OneCellEach, cells_of, deliveries_of}}
 use Rattle.rb_picture.specs.declared.line.Line.TheVariants as line
-use Rattle.rb_picture.specs.declared.column.Column.{Column}
-use Rattle.rb_picture.specs.declared.drawn.Stand.{Stand}
-use Rattle.rb_picture.specs.declared.extent.Facts.{Facts}
-use Rattle.rb_picture.specs.Picture.{Piece, head_of, no_stand, pieces_at, pieces_from, pieces_of_line, stand_at}
-use Rattle.rb_picture.specs.Picture.Piece.{Ground, Head, Tick, Cell, Break, Ending}
-use Rattle.rb_picture.specs.Laws.{OneCellEach, cells_of, deliveries_of}
 
 cells-append : (ps qs : List Piece) → cells_of (ps ++ qs) ≡ cells_of ps ++ cells_of qs
 cells-append [] qs = refl

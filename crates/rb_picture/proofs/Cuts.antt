@@ -1,7 +1,6 @@
 -- what is cut off a text
-use Rattle.std.proofs.Common.{◌≡◌, ◌≢◌, ◌∙◌, ℕ, ◌+◌, ◌<◌, List, [], ◌∷◌, ◌++◌, Option, Some, None, MatchOption, Bor, length, get_or, drop, sym, ap, subst, arith}
+use Rattle.std.proofs.{Common.{◌≡◌, ◌≢◌, ◌∙◌, ℕ, ◌+◌, ◌<◌, List, [], ◌∷◌, ◌++◌, Option, Some, None, MatchOption, Bor, length, get_or, drop, sym, ap, subst, arith}, lemmas.Str.Pattern.{IsSplitOnceResult, split_parts, strip_prefix_char}}
 use Rattle.std.specs.Str.Pattern.{FindsCharPrefix}
-use Rattle.std.proofs.lemmas.Str.Pattern.{IsSplitOnceResult, split_parts, strip_prefix_char}
 use Rattle.rb_picture.specs.Fields.{first_field, later_fields}
 use Rattle.rb_picture.proofs.Spaces.{all_by_index, first_by_index, later_by_index, none_by_index}
 

@@ -1,31 +1,9 @@
 -- a picture is one element
 use Rattle.std.proofs.Common.{ℕ, ◌+◌, ◌-◌, ◌%◌, ◌==◌, ◌&&◌, nat_lt, not, List, [], ◌∷◌, codes}
-use Rattle.rb_base.specs.Nodes.{has, size}
-use Rattle.rb_base.specs.declared.node.NodeName.{NodeName}
-use Rattle.rb_base.specs.declared.values.Place.{Place}
+use Rattle.rb_base.specs.{Nodes.{has, size}, declared.node.NodeName.NodeName, declared.values.Place.Place}
 use Rattle.rb_rules.specs.declared.cause.Cause.{Cause}
-use Rattle.rb_picture.specs.declared.line.DeliveryLine.{DeliveryLine}
-use Rattle.rb_picture.specs.declared.extent.Extent.{Extent}
-use Rattle.rb_picture.specs.declared.extent.Facts.{Facts}
-use Rattle.rb_picture.specs.declared.extent.Nodes.{Nodes}
-use Rattle.rb_picture.specs.declared.extent.Rows.{Rows}
-use Rattle.rb_picture.specs.declared.column.Column.{Column}
-use Rattle.rb_picture.specs.declared.sheet.Sheet.{Sheet}
-use Rattle.rb_picture.specs.declared.sheet.View.{View}
-use Rattle.rb_picture.specs.declared.sheet.View.TheVariants.{Panels, Overview}
-use Rattle.rb_picture.specs.Headings.{with_frames, with_heading, with_key}
-use Rattle.rb_picture.specs.Overview.{band_rows, is_numbered, newcomers, slot_step, with_axes, with_axes_at, with_break, with_frame_number, with_line, with_outcomes, with_row, with_sign, with_signature, with_signs, with_slot_name, with_slot_names, with_square}
-use Rattle.rb_picture.specs.Sheets.{sheet_height, sheet_width}
-use Rattle.rb_picture.specs.Content.{AddsContent}
-use Rattle.rb_picture.specs.Markup.{with_opening}
-use Rattle.rb_picture.specs.Extents.{biu_rows, rmu_rows}
-use Rattle.rb_picture.specs.Places.{is_behind, is_wide, slots_of}
-use Rattle.rb_picture.specs.Drawing.{with_absence, with_absent, with_axis, with_breach, with_breach_words, with_cell, with_close, with_cross, with_ending, with_ground, with_legend, with_marks, with_name, with_named, with_named_of, with_names, with_names_in, with_names_of, with_owner, with_panel, with_sender, with_senders, with_slot_number, with_slots, with_state, with_states, with_states_of, with_strokes, with_tick, with_whole}
-use Rattle.rb_picture.specs.Picture.{Piece, picture_text, pieces_of, with_part, with_piece, with_pieces}
-use Rattle.rb_picture.specs.Picture.Piece.{Ground, Head, Tick, Cell, Break, Ending}
-use Rattle.rb_picture.specs.Laws.{IsWellFormed}
-use Rattle.rb_picture.proofs.WellFormed.{adds_box, adds_each, adds_either, adds_if, adds_label, adds_more, adds_nothing}
-use Rattle.rb_picture.proofs.Openings.{document}
+use Rattle.rb_picture.specs.{declared.line.DeliveryLine.DeliveryLine, declared.extent.Extent.Extent, declared.extent.Facts.Facts, declared.extent.Nodes.Nodes, declared.extent.Rows.Rows, declared.column.Column.Column, declared.sheet.Sheet.Sheet, declared.sheet.View.View, declared.sheet.View.TheVariants.{Panels, Overview}, Headings.{with_frames, with_heading, with_key}, Overview.{band_rows, is_numbered, newcomers, slot_step, with_axes, with_axes_at, with_break, with_frame_number, with_line, with_outcomes, with_row, with_sign, with_signature, with_signs, with_slot_name, with_slot_names, with_square}, Sheets.{sheet_height, sheet_width}, Content.AddsContent, Markup.with_opening, Extents.{biu_rows, rmu_rows}, Places.{is_behind, is_wide, slots_of}, Drawing.{with_absence, with_absent, with_axis, with_breach, with_breach_words, with_cell, with_close, with_cross, with_ending, with_ground, with_legend, with_marks, with_name, with_named, with_named_of, with_names, with_names_in, with_names_of, with_owner, with_panel, with_sender, with_senders, with_slot_number, with_slots, with_state, with_states, with_states_of, with_strokes, with_tick, with_whole}, Picture.{Piece, picture_text, pieces_of, with_part, with_piece, with_pieces}, Picture.Piece.{Ground, Head, Tick, Cell, Break, Ending}, Laws.IsWellFormed}
+use Rattle.rb_picture.proofs.{WellFormed.{adds_box, adds_each, adds_either, adds_if, adds_label, adds_more, adds_nothing}, Openings.document}
 
 adds_cell : (extent : Extent) (t : List ℕ) (l : DeliveryLine) → AddsContent t (with_cell extent t l)
 unfolding with_cell

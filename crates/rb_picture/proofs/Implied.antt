@@ -1,12 +1,8 @@
 -- the faulty nodes that a lost majority implies
-use Rattle.std.proofs.Common.{◌≡◌, ◌∙◌, ℕ, ◌+◌, ◌*◌, ◌<◌, ◌≤◌, nat_lt, ◌||◌, inl, inr, arith, sym}
-use Rattle.std.proofs.Math.Nat.{min-le_right}
-use Rattle.std.proofs.lemmas.Bool.{or_cases, or_from, or_left, or_right}
+use Rattle.std.proofs.{Common.{◌≡◌, ◌∙◌, ℕ, ◌+◌, ◌*◌, ◌<◌, ◌≤◌, nat_lt, ◌||◌, inl, inr, arith, sym}, Math.Nat.min-le_right, lemmas.Bool.{or_cases, or_from, or_left, or_right}}
 use Rattle.rb_base.specs.Nodes.{has, set_of, size}
-use Rattle.rb_base.proofs.Sets.{has-set_of}
-use Rattle.rb_base.proofs.SetSizes.{size_apart, size_first}
-use Rattle.rb_picture.specs.Extents.{least_rows}
-use Rattle.rb_picture.specs.Laws.{HasLostMajority, RowsAreImplied}
+use Rattle.rb_base.proofs.{Sets.has-set_of, SetSizes.{size_apart, size_first}}
+use Rattle.rb_picture.specs.{Extents.least_rows, Laws.{HasLostMajority, RowsAreImplied}}
 
 abbrev either : ℕ → ℕ → ℕ
 either s t = set_of (λ i. has s i || has t i)

@@ -1,13 +1,7 @@
 -- what begins with an opening and ends with its element is a document
-use Rattle.std.proofs.Common.{◌≡◌, ◌∙◌, ℕ, List, [], ◌∷◌, ◌++◌, codes, sym, ap, append_assoc, append-nil}
-use Rattle.std.specs.Fmt.{decimal}
-use Rattle.std.specs.List.{flat_map}
-use Rattle.std.proofs.lemmas.List.Concat.{flat_map-append}
-use Rattle.rb_picture.specs.Content.{AddsContent, Attribute, IsDocument, attribute_text, content_text}
-use Rattle.rb_picture.specs.Content.Content.{Nothing, Text, Element}
-use Rattle.rb_picture.specs.Content.Tag.{Title, Style}
-use Rattle.rb_picture.specs.Content.Key.{Height, Role, ViewBox, Width, Xmlns}
-use Rattle.rb_picture.specs.Markup.{escape, escaped, with_number, with_opening}
+use Rattle.std.proofs.{Common.{◌≡◌, ◌∙◌, ℕ, List, [], ◌∷◌, ◌++◌, codes, sym, ap, append_assoc, append-nil}, lemmas.List.Concat.flat_map-append}
+use Rattle.std.specs.{Fmt.decimal, List.flat_map}
+use Rattle.rb_picture.specs.{Content.{AddsContent, Attribute, IsDocument, attribute_text, content_text}, Content.Content.{Nothing, Text, Element}, Content.Tag.{Title, Style}, Content.Key.{Height, Role, ViewBox, Width, Xmlns}, Markup.{escape, escaped, with_number, with_opening}}
 use Rattle.rb_picture.proofs.WellFormed.{with_all_is}
 
 svg_parts : (o n x r aw ah v z w sp h q g t st sty cl c e nl : List ℕ)

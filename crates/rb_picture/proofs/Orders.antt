@@ -1,12 +1,7 @@
 -- lists of lines that grow by a line at the end, and the bytes that they spell
-use Rattle.std.proofs.Common.{◌≡◌, ◌≢◌, ◌∙◌, ℕ, ◌+◌, ◌<◌, ◌≤◌, nat_lt, true, List, [], ◌∷◌, ◌++◌, length, take, drop, refl, sym, ap, subst, append-nil, take-append-drop, take-add, length-append, length-drop, arith}
-use Rattle.std.proofs.lemmas.Bool.{and_parts, lt-ltb}
-use Rattle.std.proofs.lemmas.List.{drop_all, take_all}
-use Rattle.std.proofs.lemmas.List.Concat.{flat_map-append}
-use Rattle.rb_picture.specs.declared.line.Line.{Line}
-use Rattle.rb_picture.specs.declared.reading.Fault.{Fault}
+use Rattle.std.proofs.{Common.{◌≡◌, ◌≢◌, ◌∙◌, ℕ, ◌+◌, ◌<◌, ◌≤◌, nat_lt, true, List, [], ◌∷◌, ◌++◌, length, take, drop, refl, sym, ap, subst, append-nil, take-append-drop, take-add, length-append, length-drop, arith}, lemmas.Bool.{and_parts, lt-ltb}, lemmas.List.{drop_all, take_all}, lemmas.List.Concat.flat_map-append}
+use Rattle.rb_picture.specs.{declared.line.Line.Line, declared.reading.Fault.Fault, Lines.{BeginsTooEarly, FailsAt, FailsBehind, IsNoReport, IsReport, SoFar, StandsFirst, ascend, end_of, last_place, line_place, line_text, text_of_lines}}
 use Rattle.rb_picture.specs.declared.reading.Fault.TheVariants as fault
-use Rattle.rb_picture.specs.Lines.{BeginsTooEarly, FailsAt, FailsBehind, IsNoReport, IsReport, SoFar, StandsFirst, ascend, end_of, last_place, line_place, line_text, text_of_lines}
 
 pub ascend_more : (from : ℕ) (ls : List Line) (l : Line) → ascend from ls ≡ true → end_of from ls < line_place l → ascend from (ls ++ l ∷ []) ≡ true
 ascend_more from [] l sorted less = rw (lt-ltb from (line_place l) less) refl

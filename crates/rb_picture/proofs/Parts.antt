@@ -1,21 +1,11 @@
 -- the fields of each line, and which line a text can be
-use Rattle.std.proofs.Common.{◌≡◌, ◌∙◌, ℕ, ◌+◌, ◌*◌, ◌<◌, ◌≤◌, ◌^◌, ◌==◌, true, false, List, [], ◌∷◌, ◌++◌, Option, Some, length, get_or, take, codes, refl, sym, ap, length-append, arith}
-use Rattle.std.specs.Fmt.{decimal}
-use Rattle.std.specs.Str.{IsAscii}
-use Rattle.std.proofs.Math.Seq.{take-append_seam}
-use Rattle.std.proofs.lemmas.Bool.{false≢true, eq-eqb}
-use Rattle.rb_base.specs.declared.node.NodeName.TheVariants.{Biu}
-use Rattle.rb_base.specs.declared.values.Place.{Place}
+use Rattle.std.proofs.{Common.{◌≡◌, ◌∙◌, ℕ, ◌+◌, ◌*◌, ◌<◌, ◌≤◌, ◌^◌, ◌==◌, true, false, List, [], ◌∷◌, ◌++◌, Option, Some, length, get_or, take, codes, refl, sym, ap, length-append, arith}, Math.Seq.take-append_seam, lemmas.Bool.{false≢true, eq-eqb}}
+use Rattle.std.specs.{Fmt.decimal, Str.IsAscii}
+use Rattle.rb_base.specs.{declared.node.NodeName.TheVariants.Biu, declared.values.Place.Place}
 use Rattle.rb_rules.specs.declared.cause.Cause.{Cause}
-use Rattle.rb_picture.specs.declared.line.ConvictedLine.{ConvictedLine}
-use Rattle.rb_picture.specs.declared.line.DeliveryLine.{DeliveryLine}
-use Rattle.rb_picture.specs.declared.line.EpochLine.{EpochLine}
-use Rattle.rb_picture.specs.declared.line.FramePort.{FramePort}
-use Rattle.rb_picture.specs.declared.line.Line.{Line}
-use Rattle.rb_picture.specs.declared.line.Line.TheVariants as line
-use Rattle.rb_picture.specs.Fields.{above, field_at}
-use Rattle.rb_picture.specs.Lines.{ConvictedFits, DeliveryFits, EpochFits, Fits, PlaceFits, PortFits, line_body, line_parts, line_text, line_word}
+use Rattle.rb_picture.specs.{declared.line.ConvictedLine.ConvictedLine, declared.line.DeliveryLine.DeliveryLine, declared.line.EpochLine.EpochLine, declared.line.FramePort.FramePort, declared.line.Line.Line, Fields.{above, field_at}, Lines.{ConvictedFits, DeliveryFits, EpochFits, Fits, PlaceFits, PortFits, line_body, line_parts, line_text, line_word}}
 use Rattle.rb_picture.proofs.Spaces.{all_above, all_under, cause_above, cause_under, decimal_above, decimal_ascii, field_is, fields_above, fields_under, heard_above, heard_under, node_above, node_under, under_ascii}
+use Rattle.rb_picture.specs.declared.line.Line.TheVariants as line
 
 small : (n : ℕ) → n < 2 ^ 64 → above 32 (decimal n) ≡ true
 small n fits = decimal_above 32 n (omega arith) fits

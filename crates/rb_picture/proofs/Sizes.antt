@@ -1,11 +1,6 @@
 -- how large an overview is
-use Rattle.std.proofs.Common.{◌≡◌, ℕ, zero, suc, ◌+◌, ◌*◌, ◌/◌, ◌<◌, ◌≤◌, min, max, nat_le, Bool, true, false, if◌then◌else◌, arith, refl}
-use Rattle.std.proofs.Math.Nat.{div-mul-le_self, le-max_left, le-max_right, lt-div-mul-add, max-le, min-le_left, min-le_right}
-use Rattle.std.proofs.lemmas.Bool.{leb-true}
-use Rattle.std.proofs.lemmas.Nat.{mul-le}
-use Rattle.rb_picture.specs.Overview.{frames_of, slot_width}
-use Rattle.rb_picture.specs.Places.{slots_of}
-use Rattle.rb_picture.specs.Sheets.{IsSmall}
+use Rattle.std.proofs.{Common.{◌≡◌, ℕ, zero, suc, ◌+◌, ◌*◌, ◌/◌, ◌<◌, ◌≤◌, min, max, nat_le, Bool, true, false, if◌then◌else◌, arith, refl}, Math.Nat.{div-mul-le_self, le-max_left, le-max_right, lt-div-mul-add, max-le, min-le_left, min-le_right}, lemmas.Bool.leb-true, lemmas.Nat.mul-le}
+use Rattle.rb_picture.specs.{Overview.{frames_of, slot_width}, Places.slots_of, Sheets.IsSmall}
 
 -- n items of a size that a test chooses have room if they have room with either answer
 chosen : (test : Bool) (a b n most : ℕ) → (test ≡ true → a * n ≤ most) → (test ≡ false → b * n ≤ most) → (if test then a else b) * n ≤ most

@@ -1,18 +1,7 @@
 -- a turn of each loop over lines, and its end
-use Rattle.std.proofs.Common.{◌≡◌, ◌∙◌, ℕ, true, false, ◌+◌, ◌<◌, ◌≤◌, ◌==◌, if◌then◌else◌, List, [], ◌∷◌, ◌++◌, length, get_or, drop, refl, sym, ap, subst, add-one}
-use Rattle.std.proofs.lemmas.List.{at_drop_all, at_drop_more, drop_more}
-use Rattle.rb_base.specs.Nodes.{has}
-use Rattle.rb_picture.specs.declared.line.Line.{Line}
-use Rattle.rb_base.specs.declared.values.Heard.{Heard}
-use Rattle.rb_picture.specs.declared.drawn.Stand.{Stand}
-use Rattle.rb_picture.specs.declared.sheet.Sheet.{Sheet}
-use Rattle.rb_picture.specs.declared.extent.Extent.{Extent}
-use Rattle.rb_picture.specs.declared.extent.Facts.{Facts}
-use Rattle.rb_picture.specs.declared.extent.Newest.{Newest}
-use Rattle.rb_picture.specs.Extents.{extent_after, extent_from, facts_after, facts_from, mark_of, newest_after, top_below}
-use Rattle.rb_picture.specs.Markup.{each_below}
-use Rattle.rb_picture.specs.Columns.{all_bring, brings, line_mark}
-use Rattle.rb_picture.specs.Picture.{Piece, pieces_at, pieces_from, stand_with, with_piece, with_pieces}
+use Rattle.std.proofs.{Common.{◌≡◌, ◌∙◌, ℕ, true, false, ◌+◌, ◌<◌, ◌≤◌, ◌==◌, if◌then◌else◌, List, [], ◌∷◌, ◌++◌, length, get_or, drop, refl, sym, ap, subst, add-one}, lemmas.List.{at_drop_all, at_drop_more, drop_more}}
+use Rattle.rb_base.specs.{Nodes.has, declared.values.Heard.Heard}
+use Rattle.rb_picture.specs.{declared.line.Line.Line, declared.drawn.Stand.Stand, declared.sheet.Sheet.Sheet, declared.extent.Extent.Extent, declared.extent.Facts.Facts, declared.extent.Newest.Newest, Extents.{extent_after, extent_from, facts_after, facts_from, mark_of, newest_after, top_below}, Markup.each_below, Columns.{all_bring, brings, line_mark}, Picture.{Piece, pieces_at, pieces_from, stand_with, with_piece, with_pieces}}
 
 pub extent_turn : (extent : Extent) (newest : Newest) (ls : List Line) (i : ℕ) (d : Line) → i < length ls
     → extent_from extent newest (drop i ls)

@@ -1,13 +1,7 @@
 -- all that is written behind a text is content
 use Rattle.std.proofs.Common.{◌≡◌, ◌∙◌, ℕ, zero, suc, Bool, true, false, if◌then◌else◌, List, [], ◌∷◌, ◌++◌, codes, refl, sym, ap, append_assoc, append-nil}
-use Rattle.std.specs.Fmt.{decimal}
-use Rattle.std.specs.List.{flat_map}
-use Rattle.rb_picture.specs.declared.markup.Area.{Area}
-use Rattle.rb_picture.specs.Content.{AddsContent, Attribute, Content, Key, attribute_text, content_text, element_text, key_text}
-use Rattle.rb_picture.specs.Content.Content.{Nothing, Text, Element}
-use Rattle.rb_picture.specs.Content.Tag.{Rect, Label}
-use Rattle.rb_picture.specs.Content.Key.{Class, Height, Width, X, Y}
-use Rattle.rb_picture.specs.Markup.{each_below, escaped, with_attribute, with_box, with_label, with_number}
+use Rattle.std.specs.{Fmt.decimal, List.flat_map}
+use Rattle.rb_picture.specs.{declared.markup.Area.Area, Content.{AddsContent, Attribute, Content, Key, attribute_text, content_text, element_text, key_text}, Content.Content.{Nothing, Text, Element}, Content.Tag.{Rect, Label}, Content.Key.{Class, Height, Width, X, Y}, Markup.{each_below, escaped, with_attribute, with_box, with_label, with_number}}
 
 -- the second content behind the first
 abbrev pub follow : Content → Content → Content

@@ -1,12 +1,6 @@
 -- what is left of a report behind the lines that were read
-use Rattle.std.proofs.Common.{◌≡◌, ◌≢◌, ◌∙◌, ℕ, ◌+◌, ◌<◌, ◌≤◌, nat_lt, Bool, true, false, List, [], ◌∷◌, ◌++◌, Option, Some, None, Result, Ok, Err, length, take, drop, codes, sym, ap, subst, append_assoc, length-append, length-drop, arith}
-use Rattle.std.proofs.Math.Seq.{drop-append_seam, take-append_seam}
-use Rattle.std.proofs.lemmas.Bool.{and_parts, false≢true, ltb-true}
-use Rattle.std.proofs.lemmas.List.{drop-drop, drop_all}
-use Rattle.rb_picture.specs.declared.line.Line.{Line}
-use Rattle.rb_picture.specs.declared.reading.Fault.{Fault}
-use Rattle.rb_picture.specs.Fields.{above}
-use Rattle.rb_picture.specs.Lines.{AllFit, FindsEach, Fits, IsNoReport, IsReport, ascend, end_of, last_place, line_body, line_place, line_text, text_of_lines}
+use Rattle.std.proofs.{Common.{◌≡◌, ◌≢◌, ◌∙◌, ℕ, ◌+◌, ◌<◌, ◌≤◌, nat_lt, Bool, true, false, List, [], ◌∷◌, ◌++◌, Option, Some, None, Result, Ok, Err, length, take, drop, codes, sym, ap, subst, append_assoc, length-append, length-drop, arith}, Math.Seq.{drop-append_seam, take-append_seam}, lemmas.Bool.{and_parts, false≢true, ltb-true}, lemmas.List.{drop-drop, drop_all}}
+use Rattle.rb_picture.specs.{declared.line.Line.Line, declared.reading.Fault.Fault, Fields.above, Lines.{AllFit, FindsEach, Fits, IsNoReport, IsReport, ascend, end_of, last_place, line_body, line_place, line_text, text_of_lines}}
 use Rattle.rb_picture.proofs.Parts.{body_above, body_is, text_some}
 
 -- the bytes from a place on are the text of the lines `left`, each in its place, and the last one

@@ -1,15 +1,8 @@
 -- what words ask for
-use Rattle.std.proofs.Common.{◌≡◌, ◌≢◌, ◌∙◌, ℕ, List, String, ◌^◌, ◌<◌, [], ◌∷◌, arith, sym}
-use Rattle.std.specs.Fmt.{decimal}
-use Rattle.std.specs.declared.alloc.Global.{Global}
-use Rattle.std.proofs.lemmas.Fmt.{decimal_injective}
-use Rattle.rb_flags.specs.declared.Flag.{Flag}
-use Rattle.rb_flags.specs.Flags.{flag_text}
-use Rattle.rb_picture.specs.declared.form.Form.{Form}
-use Rattle.rb_picture.specs.declared.form.Form.TheVariants.{Draw, Show}
-use Rattle.rb_picture.specs.declared.form.Frames.{Frames}
-use Rattle.rb_picture.specs.declared.form.Frames.TheVariants.{All, Between}
-use Rattle.rb_picture.specs.Forms.{AskFor, IsInRange, words_of}
+use Rattle.std.proofs.{Common.{◌≡◌, ◌≢◌, ◌∙◌, ℕ, List, String, ◌^◌, ◌<◌, [], ◌∷◌, arith, sym}, lemmas.Fmt.decimal_injective}
+use Rattle.std.specs.{Fmt.decimal, declared.alloc.Global.Global}
+use Rattle.rb_flags.specs.{declared.Flag.Flag, Flags.flag_text}
+use Rattle.rb_picture.specs.{declared.form.Form.Form, declared.form.Form.TheVariants.{Draw, Show}, declared.form.Frames.Frames, declared.form.Frames.TheVariants.{All, Between}, Forms.{AskFor, IsInRange, words_of}}
 
 -- two numbers that are not in order are the words for nothing
 pub not_in_order : (m n : ℕ) → n < m → m < 2 ^ 32 → (form : Form) → IsInRange form → words_of form ≡ decimal m ∷ decimal n ∷ [] → ⊥

@@ -1,25 +1,9 @@
 -- How the top call answers.
-use Rattle.std.specs.Prelude.{⊤, ℕ, ◌≡◌, ◌<◌, ◌≤◌, ◌⊎◌, List, ◌++◌, length, codes, Option, Some, String}
-use Rattle.std.specs.Fmt.{decimal}
-use Rattle.std.specs.Io.KnownBytes.{Appends}
-use Rattle.std.specs.declared.alloc.Global.{Global}
+use Rattle.std.specs.{Prelude.{⊤, ℕ, ◌≡◌, ◌<◌, ◌≤◌, ◌⊎◌, List, ◌++◌, length, codes, Option, Some, String}, Fmt.decimal, Io.KnownBytes.Appends, declared.alloc.Global.Global}
 use Rattle.rb_flags.specs.declared.Flag.{Flag}
-use Rattle.rb_outside.specs.Bytes.{AppendsPart, Gave, ReadsToEnd}
-use Rattle.rb_outside.specs.Causes.{Rose}
-use Rattle.rb_picture.specs.declared.form.Form.{Form}
-use Rattle.rb_picture.specs.declared.form.Form.TheVariants.{Draw, Show}
-use Rattle.rb_picture.specs.declared.form.Frames.{Frames}
-use Rattle.rb_picture.specs.declared.line.Line.{Line}
-use Rattle.rb_picture.specs.declared.reading.Fault.{Fault}
+use Rattle.rb_outside.specs.{Bytes.{AppendsPart, Gave, ReadsToEnd}, Causes.Rose}
+use Rattle.rb_picture.specs.{declared.form.Form.Form, declared.form.Form.TheVariants.{Draw, Show}, declared.form.Frames.Frames, declared.line.Line.Line, declared.reading.Fault.Fault, declared.status.Status.Status, declared.status.Status.TheVariants.{Done, Usage, Refused, TooLong, ReadFault, WriteFault, OutOfMemory}, declared.style.TheConstants.STYLE, Lines.{AllFit, FailsAt, IsReport}, Forms.{AskFor, first_of, last_of}, Pages.page_text, Picture.{asked_of, picture_text}, Sheets.sheet_of}
 use Rattle.rb_picture.specs.declared.reading.Fault.TheVariants as fault
-use Rattle.rb_picture.specs.declared.status.Status.{Status}
-use Rattle.rb_picture.specs.declared.status.Status.TheVariants.{Done, Usage, Refused, TooLong, ReadFault, WriteFault, OutOfMemory}
-use Rattle.rb_picture.specs.declared.style.TheConstants.{STYLE}
-use Rattle.rb_picture.specs.Lines.{AllFit, FailsAt, IsReport}
-use Rattle.rb_picture.specs.Forms.{AskFor, first_of, last_of}
-use Rattle.rb_picture.specs.Pages.{page_text}
-use Rattle.rb_picture.specs.Picture.{asked_of, picture_text}
-use Rattle.rb_picture.specs.Sheets.{sheet_of}
 
 -- the most bytes of a report
 abbrev pub report_limit : ℕ

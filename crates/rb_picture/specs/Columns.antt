@@ -1,14 +1,9 @@
 -- What the deliveries in a slot of a frame say together.
 use Rattle.std.specs.Prelude.{ℕ, ◌+◌, ◌*◌, ◌==◌, Bool, true, false, if◌then◌else◌, List, [], ◌∷◌}
-use Rattle.rb_base.specs.declared.values.Heard.{Heard}
-use Rattle.rb_base.specs.declared.values.Heard.TheVariants.{Word, Fault}
+use Rattle.rb_base.specs.{declared.values.Heard.Heard, declared.values.Heard.TheVariants.{Word, Fault}}
 use Rattle.rb_rules.specs.Majority.{same_heard}
-use Rattle.rb_picture.specs.declared.line.DeliveryLine.{DeliveryLine}
-use Rattle.rb_picture.specs.declared.line.Line.{Line}
+use Rattle.rb_picture.specs.{declared.line.DeliveryLine.DeliveryLine, declared.line.Line.Line, declared.column.Column.Column, declared.column.Outcome.Outcome, declared.column.Outcome.TheVariants.{Agree, Silent, Differ}}
 use Rattle.rb_picture.specs.declared.line.Line.TheVariants as line
-use Rattle.rb_picture.specs.declared.column.Column.{Column}
-use Rattle.rb_picture.specs.declared.column.Outcome.{Outcome}
-use Rattle.rb_picture.specs.declared.column.Outcome.TheVariants.{Agree, Silent, Differ}
 
 -- a number for the slot of a frame, above 0
 abbrev pub slot_mark : DeliveryLine → ℕ

@@ -1,6 +1,5 @@
 -- Well-formed text: elements that nest and close, and text that is escaped.
-use Rattle.std.specs.Prelude.{ℕ, ◌≡◌, List, [], ◌++◌, codes}
-use Rattle.std.specs.List.{flat_map}
+use Rattle.std.specs.{Prelude.{ℕ, ◌≡◌, List, [], ◌++◌, codes}, List.flat_map}
 use Rattle.rb_picture.specs.Markup.{escaped}
 
 -- the elements

@@ -1,24 +1,9 @@
 -- What is drawn: the parts of a picture, each written behind a text.
-use Rattle.std.specs.Prelude.{ℕ, ◌+◌, ◌-◌, ◌*◌, ◌/◌, nat_lt, ◌==◌, ◌&&◌, not, List, [], ◌∷◌, ◌++◌, codes, slice_index_or, if◌then◌else◌}
-use Rattle.std.specs.Fmt.{decimal}
-use Rattle.rb_base.specs.Nodes.{has, set_of, size}
-use Rattle.rb_base.specs.declared.node.NodeName.{NodeName}
-use Rattle.rb_base.specs.declared.values.Heard.{Heard}
-use Rattle.rb_base.specs.declared.values.Heard.TheVariants.{Word, Fault}
-use Rattle.rb_base.specs.declared.values.Place.{Place}
-use Rattle.rb_rules.specs.declared.cause.Cause.{Cause}
-use Rattle.rb_rules.specs.declared.cause.Cause.TheVariants.{FewGoodBiu, FewGoodRmu, TwoSided}
+use Rattle.std.specs.{Prelude.{ℕ, ◌+◌, ◌-◌, ◌*◌, ◌/◌, nat_lt, ◌==◌, ◌&&◌, not, List, [], ◌∷◌, ◌++◌, codes, slice_index_or, if◌then◌else◌}, Fmt.decimal}
+use Rattle.rb_base.specs.{Nodes.{has, set_of, size}, declared.node.NodeName.NodeName, declared.values.Heard.Heard, declared.values.Heard.TheVariants.{Word, Fault}, declared.values.Place.Place}
+use Rattle.rb_rules.specs.{declared.cause.Cause.Cause, declared.cause.Cause.TheVariants.{FewGoodBiu, FewGoodRmu, TwoSided}}
 use Rattle.rb_report.specs.Report.{heard_text}
-use Rattle.rb_picture.specs.declared.column.Column.{Column}
-use Rattle.rb_picture.specs.declared.extent.Begins.{Begins}
-use Rattle.rb_picture.specs.declared.extent.Extent.{Extent}
-use Rattle.rb_picture.specs.declared.extent.Facts.{Facts}
-use Rattle.rb_picture.specs.declared.extent.Nodes.{Nodes}
-use Rattle.rb_picture.specs.declared.extent.Rows.{Rows}
-use Rattle.rb_picture.specs.declared.line.DeliveryLine.{DeliveryLine}
-use Rattle.rb_picture.specs.Extents.{biu_rows, rmu_rows, spread_of}
-use Rattle.rb_picture.specs.Markup.{each_below, with_box, with_label}
-use Rattle.rb_picture.specs.Places.{breach_area, cell_area, cell_width, close_area, column_left, grid_area, grid_left, is_behind, is_wide, names_left, panel_area, panel_top, row_top, slots_of, strip_area, tick_area}
+use Rattle.rb_picture.specs.{declared.column.Column.Column, declared.extent.Begins.Begins, declared.extent.Extent.Extent, declared.extent.Facts.Facts, declared.extent.Nodes.Nodes, declared.extent.Rows.Rows, declared.line.DeliveryLine.DeliveryLine, Extents.{biu_rows, rmu_rows, spread_of}, Markup.{each_below, with_box, with_label}, Places.{breach_area, cell_area, cell_width, close_area, column_left, grid_area, grid_left, is_behind, is_wide, names_left, panel_area, panel_top, row_top, slots_of, strip_area, tick_area}}
 
 -- the looks of the senders' cells, by number
 abbrev pub looks : List (List ℕ)

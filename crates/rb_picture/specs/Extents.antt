@@ -1,21 +1,9 @@
 -- What the lines of the frames asked for span: nodes, slots, words and times.
 use Rattle.std.specs.Prelude.{ℕ, zero, suc, ◌+◌, ◌-◌, ◌*◌, ◌^◌, min, max, nat_lt, nat_le, ◌==◌, ◌&&◌, ◌||◌, Bool, true, if◌then◌else◌, List, [], ◌∷◌}
-use Rattle.rb_base.specs.Nodes.{has, set_of, size}
-use Rattle.rb_base.specs.declared.node.NodeName.{NodeName}
-use Rattle.rb_base.specs.declared.node.NodeName.TheVariants.{Biu, Rmu}
-use Rattle.rb_base.specs.declared.values.Heard.{Heard}
-use Rattle.rb_base.specs.declared.values.Heard.TheVariants.{Word, Fault}
-use Rattle.rb_base.specs.declared.values.Place.{Place}
-use Rattle.rb_rules.specs.declared.cause.Cause.{Cause}
-use Rattle.rb_rules.specs.declared.cause.Cause.TheVariants.{FewGoodBiu, FewGoodRmu, TwoSided}
-use Rattle.rb_picture.specs.declared.line.Line.{Line}
+use Rattle.rb_base.specs.{Nodes.{has, set_of, size}, declared.node.NodeName.NodeName, declared.node.NodeName.TheVariants.{Biu, Rmu}, declared.values.Heard.Heard, declared.values.Heard.TheVariants.{Word, Fault}, declared.values.Place.Place}
+use Rattle.rb_rules.specs.{declared.cause.Cause.Cause, declared.cause.Cause.TheVariants.{FewGoodBiu, FewGoodRmu, TwoSided}}
+use Rattle.rb_picture.specs.{declared.line.Line.Line, declared.extent.Extent.Extent, declared.extent.Begins.Begins, declared.extent.Facts.Facts, declared.extent.Newest.Newest, declared.extent.Nodes.Nodes, declared.extent.Rows.Rows}
 use Rattle.rb_picture.specs.declared.line.Line.TheVariants as line
-use Rattle.rb_picture.specs.declared.extent.Extent.{Extent}
-use Rattle.rb_picture.specs.declared.extent.Begins.{Begins}
-use Rattle.rb_picture.specs.declared.extent.Facts.{Facts}
-use Rattle.rb_picture.specs.declared.extent.Newest.{Newest}
-use Rattle.rb_picture.specs.declared.extent.Nodes.{Nodes}
-use Rattle.rb_picture.specs.declared.extent.Rows.{Rows}
 
 -- whether a frame is one of those asked for
 abbrev pub is_between : ℕ → ℕ → ℕ → Bool

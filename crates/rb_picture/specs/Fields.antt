@@ -1,9 +1,6 @@
 -- The fields of a line, and the numbers that a bus has.
 use Rattle.std.specs.Prelude.{⊤, ℕ, zero, suc, ◌<◌, ◌^◌, ◌==◌, nat_lt, ◌&&◌, Bool, true, if◌then◌else◌, List, [], ◌∷◌}
-use Rattle.rb_base.specs.declared.node.NodeName.{NodeName}
-use Rattle.rb_base.specs.declared.node.NodeName.TheVariants.{Biu, Rmu}
-use Rattle.rb_base.specs.declared.values.Heard.{Heard}
-use Rattle.rb_base.specs.declared.values.Heard.TheVariants.{Word, Fault}
+use Rattle.rb_base.specs.{declared.node.NodeName.NodeName, declared.node.NodeName.TheVariants.{Biu, Rmu}, declared.values.Heard.Heard, declared.values.Heard.TheVariants.{Word, Fault}}
 
 -- each byte is greater than this one
 abbrev pub above : ℕ → List ℕ → Bool

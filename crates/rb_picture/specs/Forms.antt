@@ -1,12 +1,7 @@
 -- What words ask for.
-use Rattle.std.specs.Prelude.{⊤, ℕ, ◌≡◌, ◌^◌, ◌-◌, ◌<◌, ◌≤◌, List, [], ◌∷◌, map, String, string_bytes}
-use Rattle.std.specs.Fmt.{decimal}
-use Rattle.std.specs.declared.alloc.Global.{Global}
+use Rattle.std.specs.{Prelude.{⊤, ℕ, ◌≡◌, ◌^◌, ◌-◌, ◌<◌, ◌≤◌, List, [], ◌∷◌, map, String, string_bytes}, Fmt.decimal, declared.alloc.Global.Global}
 use Rattle.rb_flags.specs.Flags.{flag_text}
-use Rattle.rb_picture.specs.declared.form.Form.{Form}
-use Rattle.rb_picture.specs.declared.form.Form.TheVariants.{Draw, Show}
-use Rattle.rb_picture.specs.declared.form.Frames.{Frames}
-use Rattle.rb_picture.specs.declared.form.Frames.TheVariants.{All, Between}
+use Rattle.rb_picture.specs.{declared.form.Form.Form, declared.form.Form.TheVariants.{Draw, Show}, declared.form.Frames.Frames, declared.form.Frames.TheVariants.{All, Between}}
 
 -- the words of a form: of a picture of all frames none, of others the first and the last, and the
 -- word of a flag

@@ -1,15 +1,6 @@
 -- What stands above all frames.
-use Rattle.std.specs.Prelude.{ℕ, ◌-◌, ◌==◌, List, ◌++◌, [], codes, nat_lt, if◌then◌else◌}
-use Rattle.std.specs.Fmt.{decimal}
-use Rattle.rb_picture.specs.declared.extent.Extent.{Extent}
-use Rattle.rb_picture.specs.declared.sheet.Sheet.{Sheet}
-use Rattle.rb_picture.specs.declared.sheet.View.{View}
-use Rattle.rb_picture.specs.declared.sheet.View.TheVariants.{Panels, Overview}
-use Rattle.rb_picture.specs.Drawing.{with_legend}
-use Rattle.rb_picture.specs.Markup.{with_box, with_label}
-use Rattle.rb_picture.specs.Overview.{with_signature}
-use Rattle.rb_picture.specs.Places.{is_behind}
-use Rattle.rb_picture.specs.Sheets.{sheet_height, sheet_width}
+use Rattle.std.specs.{Prelude.{ℕ, ◌-◌, ◌==◌, List, ◌++◌, [], codes, nat_lt, if◌then◌else◌}, Fmt.decimal}
+use Rattle.rb_picture.specs.{declared.extent.Extent.Extent, declared.sheet.Sheet.Sheet, declared.sheet.View.View, declared.sheet.View.TheVariants.{Panels, Overview}, Drawing.with_legend, Markup.{with_box, with_label}, Overview.with_signature, Places.is_behind, Sheets.{sheet_height, sheet_width}}
 
 -- the last whole frame that is drawn
 abbrev pub last_whole : Extent → ℕ

@@ -1,14 +1,8 @@
 -- What holds of every picture.
 use Rattle.std.specs.Prelude.{ℕ, ◌≡◌, ◌<◌, ◌≤◌, nat_lt, true, false, List, [], ◌∷◌}
 use Rattle.rb_base.specs.Nodes.{has, size}
-use Rattle.rb_picture.specs.declared.line.Line.{Line}
+use Rattle.rb_picture.specs.{declared.line.Line.Line, declared.line.DeliveryLine.DeliveryLine, declared.sheet.Sheet.Sheet, Content.IsDocument, Extents.least_rows, Picture.{Piece, picture_text, pieces_of}, Picture.Piece.{Ground, Head, Tick, Cell, Break, Ending}}
 use Rattle.rb_picture.specs.declared.line.Line.TheVariants as line
-use Rattle.rb_picture.specs.declared.line.DeliveryLine.{DeliveryLine}
-use Rattle.rb_picture.specs.declared.sheet.Sheet.{Sheet}
-use Rattle.rb_picture.specs.Content.{IsDocument}
-use Rattle.rb_picture.specs.Extents.{least_rows}
-use Rattle.rb_picture.specs.Picture.{Piece, picture_text, pieces_of}
-use Rattle.rb_picture.specs.Picture.Piece.{Ground, Head, Tick, Cell, Break, Ending}
 
 -- the cells among parts of a picture, each by its delivery
 abbrev pub cells_of : List Piece → List DeliveryLine

@@ -1,22 +1,10 @@
 -- A report as a list of lines: how a line is spelled, and which lists of lines are a report.
-use Rattle.std.specs.Prelude.{⊤, ℕ, ◌≡◌, ◌≢◌, ◌+◌, ◌*◌, ◌^◌, ◌<◌, ◌≤◌, nat_lt, ◌&&◌, Bool, true, List, [], ◌∷◌, ◌++◌, length, take, codes, Some, Result, Ok}
-use Rattle.std.specs.Fmt.{decimal}
-use Rattle.std.specs.List.{flat_map}
-use Rattle.rb_base.specs.declared.node.NodeName.{NodeName}
-use Rattle.rb_base.specs.declared.node.NodeName.TheVariants.{Biu, Rmu}
-use Rattle.rb_base.specs.declared.values.Place.{Place}
+use Rattle.std.specs.{Prelude.{⊤, ℕ, ◌≡◌, ◌≢◌, ◌+◌, ◌*◌, ◌^◌, ◌<◌, ◌≤◌, nat_lt, ◌&&◌, Bool, true, List, [], ◌∷◌, ◌++◌, length, take, codes, Some, Result, Ok}, Fmt.decimal, List.flat_map}
+use Rattle.rb_base.specs.{declared.node.NodeName.NodeName, declared.node.NodeName.TheVariants.{Biu, Rmu}, declared.values.Place.Place}
 use Rattle.rb_report.specs.Report.{epoch_text, convicted_text, port_text, delivery_text, end_text, breach_text, cause_text, heard_text, node_text, with_fields}
-use Rattle.rb_picture.specs.declared.line.ConvictedLine.{ConvictedLine}
-use Rattle.rb_picture.specs.declared.line.DeliveryLine.{DeliveryLine}
-use Rattle.rb_picture.specs.declared.line.EpochLine.{EpochLine}
-use Rattle.rb_picture.specs.declared.line.FramePort.{FramePort}
-use Rattle.rb_picture.specs.declared.line.Line.{Line}
+use Rattle.rb_picture.specs.{declared.line.ConvictedLine.ConvictedLine, declared.line.DeliveryLine.DeliveryLine, declared.line.EpochLine.EpochLine, declared.line.FramePort.FramePort, declared.line.Line.Line, declared.reading.Fault.Fault, declared.reading.Unreadable.Unreadable, declared.reading.Unreadable.TheVariants.{At, OutOfMemory}, Fields.{HeardFits, NodeFits}}
 use Rattle.rb_picture.specs.declared.line.Line.TheVariants as line
-use Rattle.rb_picture.specs.declared.reading.Fault.{Fault}
 use Rattle.rb_picture.specs.declared.reading.Fault.TheVariants as fault
-use Rattle.rb_picture.specs.declared.reading.Unreadable.{Unreadable}
-use Rattle.rb_picture.specs.declared.reading.Unreadable.TheVariants.{At, OutOfMemory}
-use Rattle.rb_picture.specs.Fields.{HeardFits, NodeFits}
 
 -- the text of a line
 abbrev pub line_text : Line → List ℕ

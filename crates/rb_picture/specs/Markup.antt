@@ -1,7 +1,5 @@
 -- The text of a picture: each definition gives a text with something more behind it.
-use Rattle.std.specs.Prelude.{ℕ, zero, suc, ◌==◌, List, [], ◌∷◌, ◌++◌, codes, if◌then◌else◌}
-use Rattle.std.specs.Fmt.{decimal}
-use Rattle.std.specs.List.{flat_map}
+use Rattle.std.specs.{Prelude.{ℕ, zero, suc, ◌==◌, List, [], ◌∷◌, ◌++◌, codes, if◌then◌else◌}, Fmt.decimal, List.flat_map}
 use Rattle.rb_picture.specs.declared.markup.Area.{Area}
 
 -- a byte of text, with a name for those that mean more

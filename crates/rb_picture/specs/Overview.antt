@@ -1,18 +1,8 @@
 -- An overview: a row for each frame, a cell for each slot, in bands side by side.
-use Rattle.std.specs.Prelude.{ℕ, ◌+◌, ◌-◌, ◌*◌, ◌/◌, ◌%◌, min, max, nat_le, ◌==◌, ◌&&◌, not, Bool, if◌then◌else◌, List, [], codes}
-use Rattle.std.specs.Fmt.{decimal}
-use Rattle.rb_base.specs.Nodes.{has, set_of}
-use Rattle.rb_base.specs.declared.values.Place.{Place}
+use Rattle.std.specs.{Prelude.{ℕ, ◌+◌, ◌-◌, ◌*◌, ◌/◌, ◌%◌, min, max, nat_le, ◌==◌, ◌&&◌, not, Bool, if◌then◌else◌, List, [], codes}, Fmt.decimal}
+use Rattle.rb_base.specs.{Nodes.{has, set_of}, declared.values.Place.Place}
 use Rattle.rb_rules.specs.declared.cause.Cause.{Cause}
-use Rattle.rb_picture.specs.declared.column.Column.{Column}
-use Rattle.rb_picture.specs.declared.column.Outcome.{Outcome}
-use Rattle.rb_picture.specs.declared.column.Outcome.TheVariants.{Agree, Silent, Differ}
-use Rattle.rb_picture.specs.declared.extent.Extent.{Extent}
-use Rattle.rb_picture.specs.declared.extent.Nodes.{Nodes}
-use Rattle.rb_picture.specs.declared.markup.Area.{Area}
-use Rattle.rb_picture.specs.Drawing.{with_breach_words, with_names_in}
-use Rattle.rb_picture.specs.Markup.{each_below, with_box, with_label}
-use Rattle.rb_picture.specs.Places.{is_behind, slots_of}
+use Rattle.rb_picture.specs.{declared.column.Column.Column, declared.column.Outcome.Outcome, declared.column.Outcome.TheVariants.{Agree, Silent, Differ}, declared.extent.Extent.Extent, declared.extent.Nodes.Nodes, declared.markup.Area.Area, Drawing.{with_breach_words, with_names_in}, Markup.{each_below, with_box, with_label}, Places.{is_behind, slots_of}}
 
 -- how many frames are drawn
 abbrev pub frames_of : Extent → ℕ

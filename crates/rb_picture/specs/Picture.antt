@@ -1,27 +1,9 @@
 -- A picture: what it shows of the lines of a report, and its text.
-use Rattle.std.specs.Prelude.{ℕ, ◌-◌, ◌==◌, if◌then◌else◌, List, [], ◌∷◌, ◌++◌, codes}
-use Rattle.std.specs.List.{filter}
-use Rattle.rb_base.specs.declared.node.NodeName.{NodeName}
-use Rattle.rb_base.specs.declared.values.Place.{Place}
+use Rattle.std.specs.{Prelude.{ℕ, ◌-◌, ◌==◌, if◌then◌else◌, List, [], ◌∷◌, ◌++◌, codes}, List.filter}
+use Rattle.rb_base.specs.{declared.node.NodeName.NodeName, declared.values.Place.Place}
 use Rattle.rb_rules.specs.declared.cause.Cause.{Cause}
-use Rattle.rb_picture.specs.declared.line.Line.{Line}
+use Rattle.rb_picture.specs.{declared.line.Line.Line, declared.line.DeliveryLine.DeliveryLine, declared.column.Column.Column, declared.extent.Extent.Extent, declared.extent.Facts.Facts, declared.drawn.Panel.Panel, declared.drawn.Stand.Stand, declared.sheet.Sheet.Sheet, declared.sheet.View.View, declared.sheet.View.TheVariants.{Panels, Overview}, Columns.{column_with, no_column}, Drawing.{with_breach, with_cell, with_ending, with_owner, with_panel, with_tick}, Headings.{with_heading, with_key}, Overview.{with_break, with_row, with_square}, Sheets.{sheet_height, sheet_width}, Extents.{facts_of, is_asked, mark_of, no_facts}, Markup.with_opening}
 use Rattle.rb_picture.specs.declared.line.Line.TheVariants as line
-use Rattle.rb_picture.specs.declared.line.DeliveryLine.{DeliveryLine}
-use Rattle.rb_picture.specs.declared.column.Column.{Column}
-use Rattle.rb_picture.specs.declared.extent.Extent.{Extent}
-use Rattle.rb_picture.specs.declared.extent.Facts.{Facts}
-use Rattle.rb_picture.specs.declared.drawn.Panel.{Panel}
-use Rattle.rb_picture.specs.declared.drawn.Stand.{Stand}
-use Rattle.rb_picture.specs.declared.sheet.Sheet.{Sheet}
-use Rattle.rb_picture.specs.declared.sheet.View.{View}
-use Rattle.rb_picture.specs.declared.sheet.View.TheVariants.{Panels, Overview}
-use Rattle.rb_picture.specs.Columns.{column_with, no_column}
-use Rattle.rb_picture.specs.Drawing.{with_breach, with_cell, with_ending, with_owner, with_panel, with_tick}
-use Rattle.rb_picture.specs.Headings.{with_heading, with_key}
-use Rattle.rb_picture.specs.Overview.{with_break, with_row, with_square}
-use Rattle.rb_picture.specs.Sheets.{sheet_height, sheet_width}
-use Rattle.rb_picture.specs.Extents.{facts_of, is_asked, mark_of, no_facts}
-use Rattle.rb_picture.specs.Markup.{with_opening}
 
 -- a part of a picture
 pub data Piece : Type 0 where

@@ -1,12 +1,8 @@
 -- The places of things in a picture, in pixels: a panel for each frame, in it a row for each node,
 -- and a column for each slot.
 use Rattle.std.specs.Prelude.{ℕ, ◌+◌, ◌-◌, ◌*◌, ◌/◌, ◌==◌, ◌&&◌, min, max, nat_le, nat_lt, Bool, if◌then◌else◌}
-use Rattle.rb_base.specs.declared.node.NodeName.{NodeName}
-use Rattle.rb_base.specs.declared.node.NodeName.TheVariants.{Biu, Rmu}
-use Rattle.rb_base.specs.declared.values.Place.{Place}
-use Rattle.rb_picture.specs.declared.extent.Extent.{Extent}
-use Rattle.rb_picture.specs.declared.line.DeliveryLine.{DeliveryLine}
-use Rattle.rb_picture.specs.declared.markup.Area.{Area}
+use Rattle.rb_base.specs.{declared.node.NodeName.NodeName, declared.node.NodeName.TheVariants.{Biu, Rmu}, declared.values.Place.Place}
+use Rattle.rb_picture.specs.{declared.extent.Extent.Extent, declared.line.DeliveryLine.DeliveryLine, declared.markup.Area.Area}
 
 abbrev pub rows_of : Extent → ℕ
 rows_of extent = extent.bius + extent.rmus

@@ -1,15 +1,6 @@
 -- How a report is shown: a panel for each frame, or a row.
 use Rattle.std.specs.Prelude.{ℕ, ◌-◌, ◌≤◌, nat_lt, if◌then◌else◌, List}
-use Rattle.rb_picture.specs.declared.extent.Extent.{Extent}
-use Rattle.rb_picture.specs.declared.form.Frames.{Frames}
-use Rattle.rb_picture.specs.declared.form.Frames.TheVariants.{All, Between}
-use Rattle.rb_picture.specs.declared.line.Line.{Line}
-use Rattle.rb_picture.specs.declared.sheet.Sheet.{Sheet}
-use Rattle.rb_picture.specs.declared.sheet.View.{View}
-use Rattle.rb_picture.specs.declared.sheet.View.TheVariants.{Panels, Overview}
-use Rattle.rb_picture.specs.Extents.{extent_of}
-use Rattle.rb_picture.specs.Overview.{frames_of, overview_height, overview_width}
-use Rattle.rb_picture.specs.Places.{picture_height, picture_width, slots_of}
+use Rattle.rb_picture.specs.{declared.extent.Extent.Extent, declared.form.Frames.Frames, declared.form.Frames.TheVariants.{All, Between}, declared.line.Line.Line, declared.sheet.Sheet.Sheet, declared.sheet.View.View, declared.sheet.View.TheVariants.{Panels, Overview}, Extents.extent_of, Overview.{frames_of, overview_height, overview_width}, Places.{picture_height, picture_width, slots_of}}
 
 -- all frames of a long run as an overview; behind its whole frames stands one more, with which it
 -- ended or broke off

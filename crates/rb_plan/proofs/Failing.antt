@@ -1,13 +1,9 @@
 -- The first inequality that fails.
-use Rattle.std.proofs.Common.{◌≡◌, ℕ, zero, suc, ◌+◌, ◌-◌, ◌<◌, ◌≤◌, Bool, true, false, Option, Some, None, List, [], ◌∷◌, length, get_or, refl, ap, ◌∙◌, arith, inl, inr, nat_lt}
-use Rattle.std.specs.Prelude.{int_lt, slice_get, position, option_map}
-use Rattle.std.specs.List.{position_or_len}
-use Rattle.std.proofs.lemmas.Bool.{cases_lt, lt-ltb}
-use Rattle.std.proofs.lemmas.List.Sums.{position_or_len_is}
+use Rattle.std.proofs.{Common.{◌≡◌, ℕ, zero, suc, ◌+◌, ◌-◌, ◌<◌, ◌≤◌, Bool, true, false, Option, Some, None, List, [], ◌∷◌, length, get_or, refl, ap, ◌∙◌, arith, inl, inr, nat_lt}, lemmas.Bool.{cases_lt, lt-ltb}, lemmas.List.Sums.position_or_len_is}
+use Rattle.std.specs.{Prelude.{int_lt, slice_get, position, option_map}, List.position_or_len}
 use Rattle.rb_base.specs.Sizes.{Sizes}
-use Rattle.rb_rules.specs.declared.plan.Plan.{Plan}
+use Rattle.rb_rules.specs.{declared.plan.Plan.Plan, Plan.{Sides, inequalities_of, first_failing, IsFeasible}}
 use Rattle.rb_rules.proofs.Feasibility.{not_less, feasible_exactly}
-use Rattle.rb_rules.specs.Plan.{Sides, inequalities_of, first_failing, IsFeasible}
 
 -- an item that a list has at an index is the one there, and the index is below the length
 pub item_at : {X : Type 0} (xs : List X) (i : ℕ) (x d : X) → slice_get xs i ≡ Some x → (i < length xs) × (get_or xs i d ≡ x)

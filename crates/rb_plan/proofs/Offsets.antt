@@ -1,17 +1,8 @@
 -- The window in which an offset lies, by a division.
-use Rattle.std.proofs.Common.{◌≡◌, ℕ, zero, suc, ◌+◌, ◌-◌, ◌*◌, ◌/◌, ◌%◌, ◌<◌, ◌≤◌, Bool, true, false, Some, None, List, [], ◌∷◌, map, refl, ap, sym, ◌∙◌, arith, inl, inr, nat_le}
-use Rattle.std.specs.Prelude.{find}
-use Rattle.std.specs.Option.{option_or}
-use Rattle.std.specs.List.{range_with_len}
-use Rattle.std.proofs.lemmas.Bool.{cases_lt, le-leb, lt-leb}
-use Rattle.std.proofs.lemmas.List.Folds.{find-append}
-use Rattle.std.proofs.lemmas.Nat.{div_below, div-add-mod', mod_below}
-use Rattle.std.proofs.Math.Nat.{mul-le-mul_right}
+use Rattle.std.proofs.{Common.{◌≡◌, ℕ, zero, suc, ◌+◌, ◌-◌, ◌*◌, ◌/◌, ◌%◌, ◌<◌, ◌≤◌, Bool, true, false, Some, None, List, [], ◌∷◌, map, refl, ap, sym, ◌∙◌, arith, inl, inr, nat_le}, lemmas.Bool.{cases_lt, le-leb, lt-leb}, lemmas.List.Folds.find-append, lemmas.Nat.{div_below, div-add-mod', mod_below}, Math.Nat.mul-le-mul_right}
+use Rattle.std.specs.{Prelude.find, Option.option_or, List.range_with_len}
 use Rattle.rb_base.specs.Sizes.{Sizes, sync_slot_of}
-use Rattle.rb_rules.specs.declared.plan.Plan.{Plan}
-use Rattle.rb_rules.specs.declared.plan.Window.{Window}
-use Rattle.rb_rules.specs.Plan.{f0_of}
-use Rattle.rb_rules.specs.Windows.{window_of, exact_window, sync_windows, holds_offset, window_at}
+use Rattle.rb_rules.specs.{declared.plan.Plan.Plan, declared.plan.Window.Window, Plan.f0_of, Windows.{window_of, exact_window, sync_windows, holds_offset, window_at}}
 
 -- ---- one window
 

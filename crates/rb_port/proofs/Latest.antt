@@ -1,10 +1,7 @@
 -- The latest deliveries, the newest last, beside the faults of all deliveries, the newest first.
-use Rattle.std.proofs.Common.{◌≡◌, ℕ, zero, suc, ◌-◌, min, Bool, List, [], ◌∷◌, ◌++◌, length, map, reverse, take, drop, count_by, refl, sym, ◌∙◌, ap, arith}
-use Rattle.std.proofs.Math.Seq.{take-append_seam}
-use Rattle.std.proofs.lemmas.List.{length-drop, length-reverse, reverse-append, take-append-drop, take-map, take_min}
+use Rattle.std.proofs.{Common.{◌≡◌, ℕ, zero, suc, ◌-◌, min, Bool, List, [], ◌∷◌, ◌++◌, length, map, reverse, take, drop, count_by, refl, sym, ◌∙◌, ap, arith}, Math.Seq.take-append_seam, lemmas.List.{length-drop, length-reverse, reverse-append, take-append-drop, take-map, take_min}}
 use Rattle.circular_buffer.specs.Buffer.{keep_last}
-use Rattle.rb_base.specs.Counting.{count_if}
-use Rattle.rb_base.specs.declared.values.Delivery.{Delivery}
+use Rattle.rb_base.specs.{Counting.count_if, declared.values.Delivery.Delivery}
 use Rattle.rb_base.proofs.Counts.{count_if-append, count_if-count_by, count_if-map}
 use Rattle.rb_rules.specs.Ports.{is_fault}
 use Rattle.rb_port.specs.Keeping.{is_lost}

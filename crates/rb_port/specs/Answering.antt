@@ -1,6 +1,5 @@
 -- Entries that answer as an application does, on all arguments within the ranges of their types.
-use Rattle.std.specs.Prelude.{ℕ, ◌^◌, ◌<◌, ◌≡◌, Option}
-use Rattle.std.specs.Option.{ForSome}
+use Rattle.std.specs.{Prelude.{ℕ, ◌^◌, ◌<◌, ◌≡◌, Option}, Option.ForSome}
 use Rattle.rb_rules.specs.Ports.{learned_by, offered_by}
 
 -- by what a call needs and what it may answer: each call may be made, and answers the word that the

@@ -1,11 +1,8 @@
 -- The arrivals of a lane when one is pushed or gone.
-use Rattle.std.proofs.Common.{◌≡◌, ℕ, zero, suc, ◌+◌, ◌-◌, ◌<◌, ◌≤◌, Option, Some, slice_get, List, [], ◌∷◌, ◌++◌, length, drop, refl, sym, ap, ◌∙◌, subst, arith, inl, inr}
+use Rattle.std.proofs.{Common.{◌≡◌, ℕ, zero, suc, ◌+◌, ◌-◌, ◌<◌, ◌≤◌, Option, Some, slice_get, List, [], ◌∷◌, ◌++◌, length, drop, refl, sym, ap, ◌∙◌, subst, arith, inl, inr}, lemmas.List.{drop_more, length-drop}}
 use Rattle.std.specs.Prelude.{max, remove}
-use Rattle.std.proofs.lemmas.List.{drop_more, length-drop}
 use Rattle.rb_rules.specs.Hearing.{Coming}
-use Rattle.rb_queue.specs.Waiting.{Held, without_place}
-use Rattle.rb_queue.specs.Scanning.{AreBy}
-use Rattle.rb_queue.specs.Keeping.{IsLane}
+use Rattle.rb_queue.specs.{Waiting.{Held, without_place}, Scanning.AreBy, Keeping.IsLane}
 use Rattle.rb_queue.proofs.First.{is_last}
 
 -- with one more arrival all are due by the later of the two times

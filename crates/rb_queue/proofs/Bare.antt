@@ -1,19 +1,9 @@
 -- If nothing is kept beside, what is pending at a node is what its lane holds.
-use Rattle.std.proofs.Common.{◌≡◌, ℕ, Option, Some, None, slice_get, List, [], ◌∷◌, ◌++◌, length, map, refl, sym, ap, ◌∙◌, subst}
-use Rattle.std.specs.List.{flat_map}
-use Rattle.std.specs.Prelude.{◌↔◌, true, false, is_some, IsNone, option_map, option_to_list}
-use Rattle.std.proofs.lemmas.List.{append-nil, length-map, map-append}
-use Rattle.std.proofs.lemmas.Simd.{map-map}
-use Rattle.std.proofs.lemmas.Option.{slice_get-map}
-use Rattle.rb_base.specs.Counting.{numbers}
-use Rattle.rb_base.specs.declared.node.NodeName.{NodeName}
-use Rattle.rb_rules.specs.Hearing.{Coming}
-use Rattle.rb_rules.specs.WorldStep.{least}
-use Rattle.rb_queue.specs.declared.pending.Pending.{Pending}
-use Rattle.rb_queue.specs.Waiting.{Held, Ready, arrivals_at, coming_at, event_with, head_of, ready_at, ready_event, ready_from, ready_of, tick_at, unless_any, without_found, without_ready}
-use Rattle.rb_queue.specs.Waiting.Ready.{Comes}
-use Rattle.rb_queue.specs.Queued.{IsEmpty, Queued, as_event, least_time_of, senders_at, sent_at, takeable_at, takeable_event, takeable_from, takeable_of, ticks_at, unless_some, with_held, without_any, without_takeable}
-use Rattle.rb_queue.specs.Queued.Takeable.{InLane}
+use Rattle.std.proofs.{Common.{◌≡◌, ℕ, Option, Some, None, slice_get, List, [], ◌∷◌, ◌++◌, length, map, refl, sym, ap, ◌∙◌, subst}, lemmas.List.{append-nil, length-map, map-append}, lemmas.Simd.map-map, lemmas.Option.slice_get-map}
+use Rattle.std.specs.{List.flat_map, Prelude.{◌↔◌, true, false, is_some, IsNone, option_map, option_to_list}}
+use Rattle.rb_base.specs.{Counting.numbers, declared.node.NodeName.NodeName}
+use Rattle.rb_rules.specs.{Hearing.Coming, WorldStep.least}
+use Rattle.rb_queue.specs.{declared.pending.Pending.Pending, Waiting.{Held, Ready, arrivals_at, coming_at, event_with, head_of, ready_at, ready_event, ready_from, ready_of, tick_at, unless_any, without_found, without_ready}, Waiting.Ready.Comes, Queued.{IsEmpty, Queued, as_event, least_time_of, senders_at, sent_at, takeable_at, takeable_event, takeable_from, takeable_of, ticks_at, unless_some, with_held, without_any, without_takeable}, Queued.Takeable.InLane}
 use Rattle.rb_queue.proofs.Sources.{no_items}
 
 pub least_bare : (q : Queued) → q.more ≡ [] → least_time_of q ≡ head_of q.lane

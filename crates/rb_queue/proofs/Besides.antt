@@ -1,24 +1,12 @@
 -- What is pending at one node if something is kept beside its lane.
-use Rattle.std.proofs.Common.{◌≡◌, ℕ, zero, suc, ◌+◌, ◌-◌, ◌<◌, ◌==◌, min, Bool, true, false, cond, Option, Some, None, slice_get, List, [], ◌∷◌, ◌++◌, length, filter, map, take, drop, get_or, refl, sym, ap, ◌∙◌, subst, arith, length-append, append_assoc, drop-cons, add-one}
-use Rattle.std.specs.List.{enumerate_from, flat_map, range_with_len}
-use Rattle.std.specs.Prelude.{option_map}
-use Rattle.std.proofs.lemmas.List.{length-map, map-append, take_more}
-use Rattle.std.proofs.lemmas.Option.{slice_get-get_or, slice_get-map, slice_get_within}
+use Rattle.std.proofs.{Common.{◌≡◌, ℕ, zero, suc, ◌+◌, ◌-◌, ◌<◌, ◌==◌, min, Bool, true, false, cond, Option, Some, None, slice_get, List, [], ◌∷◌, ◌++◌, length, filter, map, take, drop, get_or, refl, sym, ap, ◌∙◌, subst, arith, length-append, append_assoc, drop-cons, add-one}, lemmas.List.{length-map, map-append, take_more}, lemmas.Option.{slice_get-get_or, slice_get-map, slice_get_within}}
+use Rattle.std.specs.{List.{enumerate_from, flat_map, range_with_len}, Prelude.option_map}
 use Rattle.rb_base.specs.Counting.{count_if}
-use Rattle.rb_base.proofs.Counts.{count_if-take_more}
-use Rattle.rb_base.proofs.Plain.{slice_get-back, slice_get-front}
-use Rattle.rb_rules.specs.Hearing.{Coming}
-use Rattle.rb_rules.specs.WorldStep.{least}
-use Rattle.rb_queue.specs.declared.pending.Pending.{Pending}
-use Rattle.rb_queue.specs.Waiting.{Held, comes, coming_at, tick_at}
-use Rattle.rb_queue.specs.Waiting.Ready.{Comes, Ticks}
-use Rattle.rb_queue.specs.Queued.{IsBeside, Takeable, beside_at, is_of, is_sent_between, senders_at, sent_at, sooner_of, source_of, ticks_at, unless_some}
-use Rattle.rb_queue.specs.Queued.Takeable.{InLane, Beside}
-use Rattle.rb_queue.specs.Scanning.{is_between}
-use Rattle.rb_queue.specs.Spots.{IsArrival, IsKept, IsSpot}
-use Rattle.rb_queue.specs.declared.beside.Spot.{Spot}
-use Rattle.rb_queue.specs.declared.beside.Spot.TheVariants as spot
+use Rattle.rb_base.proofs.{Counts.count_if-take_more, Plain.{slice_get-back, slice_get-front}}
+use Rattle.rb_rules.specs.{Hearing.Coming, WorldStep.least}
+use Rattle.rb_queue.specs.{declared.pending.Pending.Pending, Waiting.{Held, comes, coming_at, tick_at}, Waiting.Ready.{Comes, Ticks}, Queued.{IsBeside, Takeable, beside_at, is_of, is_sent_between, senders_at, sent_at, sooner_of, source_of, ticks_at, unless_some}, Queued.Takeable.{InLane, Beside}, Scanning.is_between, Spots.{IsArrival, IsKept, IsSpot}, declared.beside.Spot.Spot}
 use Rattle.rb_queue.proofs.Sources.{from_on, from_on-suc, from_on-zero, length-coming_at, length-from_on, never_both, one_or_later}
+use Rattle.rb_queue.specs.declared.beside.Spot.TheVariants as spot
 
 -- ---- the least time
 

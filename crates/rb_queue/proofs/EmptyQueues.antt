@@ -1,6 +1,5 @@
 -- What stands by node, before there is any event: the same at each.
-use Rattle.std.proofs.Common.{◌≡◌, ℕ, ◌+◌, List, [], ◌∷◌, ◌++◌, map, sym, ap, ◌∙◌, arith}
-use Rattle.std.proofs.lemmas.List.FromFn.{map-range_with_len_more}
+use Rattle.std.proofs.{Common.{◌≡◌, ℕ, ◌+◌, List, [], ◌∷◌, ◌++◌, map, sym, ap, ◌∙◌, arith}, lemmas.List.FromFn.map-range_with_len_more}
 use Rattle.rb_base.specs.Counting.{numbers}
 
 -- one more of `n` empty items is made

@@ -1,15 +1,9 @@
 -- The first of the arrivals of a lane.
-use Rattle.std.proofs.Common.{◌≡◌, ℕ, zero, suc, ◌+◌, ◌-◌, ◌<◌, ◌≤◌, ◌==◌, ◌&&◌, ◌||◌, ◌⊎◌, min, nat_lt, Bool, true, false, cond, Option, Some, None, slice_get, List, [], ◌∷◌, ◌++◌, length, map, take, get_or, refl, sym, ap, ◌∙◌, subst, arith, length-append, inl, inr}
-use Rattle.std.proofs.lemmas.Bool.{cases_lt}
-use Rattle.std.proofs.lemmas.Bool.Decides.{nat_tests}
-use Rattle.std.proofs.lemmas.List.{take_more}
-use Rattle.std.proofs.lemmas.Option.{slice_get-get_or, slice_get_within}
+use Rattle.std.proofs.{Common.{◌≡◌, ℕ, zero, suc, ◌+◌, ◌-◌, ◌<◌, ◌≤◌, ◌==◌, ◌&&◌, ◌||◌, ◌⊎◌, min, nat_lt, Bool, true, false, cond, Option, Some, None, slice_get, List, [], ◌∷◌, ◌++◌, length, map, take, get_or, refl, sym, ap, ◌∙◌, subst, arith, length-append, inl, inr}, lemmas.Bool.cases_lt, lemmas.Bool.Decides.nat_tests, lemmas.List.take_more, lemmas.Option.{slice_get-get_or, slice_get_within}}
 use Rattle.rb_base.specs.Counting.{count_if}
 use Rattle.rb_base.proofs.Plain.{slice_get-back, slice_get-front}
-use Rattle.rb_rules.specs.WorldStep.{least}
-use Rattle.rb_rules.specs.Hearing.{Coming}
-use Rattle.rb_queue.specs.Waiting.{comes, coming_at, arrivals_at}
-use Rattle.rb_queue.specs.Scanning.{IsFirst, HasFirst, StandsAt, comes_before}
+use Rattle.rb_rules.specs.{WorldStep.least, Hearing.Coming}
+use Rattle.rb_queue.specs.{Waiting.{comes, coming_at, arrivals_at}, Scanning.{IsFirst, HasFirst, StandsAt, comes_before}}
 use Rattle.rb_queue.proofs.Sources.{from_on, next_source, all_left, left_here, found_here, arrivals_are, passing_from, passing_next}
 
 -- ---- one event more

@@ -2,8 +2,7 @@
 use Rattle.std.specs.Prelude.{ℕ, ◌≡◌, ◌↔◌, ◌++◌, true, false, is_some, IsNone, Option, Some, None, option_to_list, List, [], ◌∷◌, map}
 use Rattle.std.proofs.Common.{◌∙◌, ap, refl, sym}
 use Rattle.rb_queue.specs.Waiting.{Held, IsIdle, head_of}
-use Rattle.rb_rules.specs.Hearing.{Coming}
-use Rattle.rb_rules.specs.WorldStep.{least}
+use Rattle.rb_rules.specs.{Hearing.Coming, WorldStep.least}
 
 none_of : (arrivals : List Coming) (tick o : Option ℕ) → o ≡ least (option_to_list tick ++ map (λ c. c.time) arrivals)
     → IsNone o ↔ ((arrivals ≡ []) × (tick ≡ None))

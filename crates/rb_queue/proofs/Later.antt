@@ -1,13 +1,7 @@
 -- What is left of a lane when all that comes before a time is dropped.
-use Rattle.std.proofs.Common.{◌≡◌, ℕ, zero, suc, ◌+◌, ◌-◌, ◌<◌, ◌≤◌, nat_le, Bool, true, false, Option, Some, None, slice_get, List, [], ◌∷◌, length, drop, filter, cond, refl, sym, ap, ◌∙◌, subst, arith}
-use Rattle.std.proofs.lemmas.Bool.Decides.{nat_tests}
-use Rattle.std.proofs.lemmas.List.{length-drop}
+use Rattle.std.proofs.{Common.{◌≡◌, ℕ, zero, suc, ◌+◌, ◌-◌, ◌<◌, ◌≤◌, nat_le, Bool, true, false, Option, Some, None, slice_get, List, [], ◌∷◌, length, drop, filter, cond, refl, sym, ap, ◌∙◌, subst, arith}, lemmas.Bool.Decides.nat_tests, lemmas.List.length-drop}
 use Rattle.rb_rules.specs.Hearing.{Coming}
-use Rattle.rb_queue.specs.Scanning.{AreBy}
-use Rattle.rb_queue.specs.Keeping.{IsLane}
-use Rattle.rb_queue.specs.Queued.{IsQueue}
-use Rattle.rb_queue.specs.Waiting.{Held, without_before}
-use Rattle.rb_queue.specs.declared.pending.Pending.{Pending}
+use Rattle.rb_queue.specs.{Scanning.AreBy, Keeping.IsLane, Queued.IsQueue, Waiting.{Held, without_before}, declared.pending.Pending.Pending}
 
 -- what passes a test is among all
 among : (p : Coming → Bool) (xs : List Coming) (k : ℕ) (c : Coming) → slice_get (filter p xs) k ≡ Some c → (j : ℕ) × (slice_get xs j ≡ Some c)

@@ -1,17 +1,11 @@
 -- What is ready in a lane: arrivals of the least time, else the tick.
-use Rattle.std.proofs.Common.{◌≡◌, ℕ, zero, suc, ◌<◌, ◌≤◌, ◌==◌, ◌&&◌, ◌⊎◌, min, nat_le, nat_lt, Bool, true, false, Option, Some, None, slice_get, List, [], ◌∷◌, ◌++◌, length, map, get_or, refl, sym, ap, ◌∙◌, subst, arith, inl, inr}
+use Rattle.std.proofs.{Common.{◌≡◌, ℕ, zero, suc, ◌<◌, ◌≤◌, ◌==◌, ◌&&◌, ◌⊎◌, min, nat_le, nat_lt, Bool, true, false, Option, Some, None, slice_get, List, [], ◌∷◌, ◌++◌, length, map, get_or, refl, sym, ap, ◌∙◌, subst, arith, inl, inr}, lemmas.Bool.Decides.nat_tests, lemmas.List.length-map}
 use Rattle.std.specs.Prelude.{option_to_list, unwrap_or}
-use Rattle.std.proofs.lemmas.Bool.Decides.{nat_tests}
-use Rattle.std.proofs.lemmas.List.{length-map}
 use Rattle.rb_base.specs.Counting.{count_if}
 use Rattle.rb_base.proofs.Plain.{eq_self}
-use Rattle.rb_rules.specs.Hearing.{Coming}
-use Rattle.rb_rules.specs.WorldStep.{least}
-use Rattle.rb_queue.specs.Waiting.{Held, IsFirstBefore, IsReadyBefore, IsTickReady, Ready, arrivals_at, head_of, ready_from, tick_at, unless_any}
-use Rattle.rb_queue.specs.Waiting.Ready.{Comes, Ticks}
-use Rattle.rb_queue.specs.Scanning.{HasFirst, StandsAt, is_between, is_sooner}
-use Rattle.rb_queue.proofs.First.{first_is, first_ready, first_time, first_within, none_pass, same_first, some_events}
-use Rattle.rb_queue.proofs.Sources.{count_arrivals, no_items}
+use Rattle.rb_rules.specs.{Hearing.Coming, WorldStep.least}
+use Rattle.rb_queue.specs.{Waiting.{Held, IsFirstBefore, IsReadyBefore, IsTickReady, Ready, arrivals_at, head_of, ready_from, tick_at, unless_any}, Waiting.Ready.{Comes, Ticks}, Scanning.{HasFirst, StandsAt, is_between, is_sooner}}
+use Rattle.rb_queue.proofs.{First.{first_is, first_ready, first_time, first_within, none_pass, same_first, some_events}, Sources.{count_arrivals, no_items}}
 
 -- ---- how many
 

@@ -1,14 +1,10 @@
 -- The arrivals of a time by source: how many there are, and which is the i-th.
-use Rattle.std.proofs.Common.{◌≡◌, ℕ, zero, suc, ◌+◌, ◌-◌, ◌<◌, ◌≤◌, ◌==◌, ◌&&◌, nat_le, nat_lt, Bool, true, false, cond, Some, slice_get, List, [], ◌∷◌, ◌++◌, length, filter, take, drop, get_or, refl, sym, ap, ◌∙◌, subst, arith, length-append, append_assoc, drop-cons, add-one}
+use Rattle.std.proofs.{Common.{◌≡◌, ℕ, zero, suc, ◌+◌, ◌-◌, ◌<◌, ◌≤◌, ◌==◌, ◌&&◌, nat_le, nat_lt, Bool, true, false, cond, Some, slice_get, List, [], ◌∷◌, ◌++◌, length, filter, take, drop, get_or, refl, sym, ap, ◌∙◌, subst, arith, length-append, append_assoc, drop-cons, add-one}, lemmas.Bool.Decides.nat_tests, lemmas.Option.{slice_get-get_or, slice_get_within}}
 use Rattle.std.specs.List.{enumerate_from, flat_map, range_with_len}
-use Rattle.std.proofs.lemmas.Bool.Decides.{nat_tests}
-use Rattle.std.proofs.lemmas.Option.{slice_get-get_or, slice_get_within}
 use Rattle.rb_base.specs.Counting.{count_if}
-use Rattle.rb_base.proofs.Counts.{count_if-take_more}
-use Rattle.rb_base.proofs.Plain.{slice_get-back, slice_get-front}
+use Rattle.rb_base.proofs.{Counts.count_if-take_more, Plain.{slice_get-back, slice_get-front}}
 use Rattle.rb_rules.specs.Hearing.{Coming}
-use Rattle.rb_queue.specs.Waiting.{comes, coming_at, arrivals_at}
-use Rattle.rb_queue.specs.Scanning.{is_between, StandsAt}
+use Rattle.rb_queue.specs.{Waiting.{comes, coming_at, arrivals_at}, Scanning.{is_between, StandsAt}}
 
 -- what comes at a time from `n` sources, the first of which is `a`
 unfoldable pub from_on : ℕ → List Coming → ℕ → ℕ → List (ℕ × Coming)

@@ -1,17 +1,10 @@
 -- All that is pending by node: what lanes hold, and what is kept beside them as it was pushed.
-use Rattle.std.specs.Prelude.{⊤, ℕ, ◌≡◌, ◌+◌, ◌-◌, ◌<◌, ◌≤◌, ◌==◌, ◌&&◌, nat_le, nat_lt, min, not, Bool, true, false, Option, Some, None, is_none, option_map, option_to_list, unwrap_or, List, [], ◌∷◌, ◌++◌, filter, flat_map, length, map, remove, slice_get, slice_set}
-use Rattle.std.specs.List.{enumerate_from}
-use Rattle.rb_base.specs.Counting.{numbers}
-use Rattle.rb_base.specs.declared.event.Event.{Event}
-use Rattle.rb_base.specs.declared.event.EventKind.{EventKind}
+use Rattle.std.specs.{Prelude.{⊤, ℕ, ◌≡◌, ◌+◌, ◌-◌, ◌<◌, ◌≤◌, ◌==◌, ◌&&◌, nat_le, nat_lt, min, not, Bool, true, false, Option, Some, None, is_none, option_map, option_to_list, unwrap_or, List, [], ◌∷◌, ◌++◌, filter, flat_map, length, map, remove, slice_get, slice_set}, List.enumerate_from}
+use Rattle.rb_base.specs.{Counting.numbers, declared.event.Event.Event, declared.event.EventKind.EventKind, declared.node.NodeName.NodeName}
+use Rattle.rb_rules.specs.{Book.Each, WorldStep.least}
+use Rattle.rb_queue.specs.{declared.pending.Pending.Pending, Waiting.{Held, IsIdle, Ready, coming_at, empty_lane, event_with, tick_at, with_event, without, without_events}, Waiting.Ready.{Comes, Ticks}}
 use Rattle.rb_base.specs.declared.event.EventKind.TheVariants as kind
-use Rattle.rb_base.specs.declared.node.NodeName.{NodeName}
 use Rattle.rb_base.specs.declared.node.NodeName.TheVariants as node
-use Rattle.rb_rules.specs.Book.{Each}
-use Rattle.rb_rules.specs.WorldStep.{least}
-use Rattle.rb_queue.specs.declared.pending.Pending.{Pending}
-use Rattle.rb_queue.specs.Waiting.{Held, IsIdle, Ready, coming_at, empty_lane, event_with, tick_at, with_event, without, without_events}
-use Rattle.rb_queue.specs.Waiting.Ready.{Comes, Ticks}
 
 -- what is pending at a node: what its lane holds, and what is kept beside, in the order of pushing
 pub record Queued : Type 0 where

@@ -1,8 +1,7 @@
 -- How a lane is looked through.
 use Rattle.std.specs.Prelude.{⊤, ℕ, nat_le, nat_lt, ◌≡◌, ◌≤◌, ◌==◌, ◌&&◌, ◌||◌, Bool, false, Option, None, Some, List, [], ◌∷◌, slice_get}
 use Rattle.rb_rules.specs.Hearing.{Coming}
-use Rattle.rb_queue.specs.Waiting.{Held, ready_of}
-use Rattle.rb_queue.specs.Waiting.Ready.{Comes, Ticks}
+use Rattle.rb_queue.specs.{Waiting.{Held, ready_of}, Waiting.Ready.{Comes, Ticks}}
 
 -- the arrival comes at this time from one of the sources that begin with the first and stand before
 -- the end

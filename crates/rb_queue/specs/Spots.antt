@@ -1,13 +1,8 @@
 -- The spots of what is pending.
 use Rattle.std.specs.Prelude.{ℕ, ◌≡◌, Some, List, slice_get}
 use Rattle.rb_rules.specs.Hearing.{Coming}
-use Rattle.rb_queue.specs.declared.pending.Pending.{Pending}
-use Rattle.rb_queue.specs.declared.beside.Spot.{Spot}
+use Rattle.rb_queue.specs.{declared.pending.Pending.Pending, declared.beside.Spot.Spot, Waiting.Held, Waiting.Ready.{Comes, Ticks}, Queued.Takeable, Queued.Takeable.{InLane, Beside}}
 use Rattle.rb_queue.specs.declared.beside.Spot.TheVariants as spot
-use Rattle.rb_queue.specs.Waiting.{Held}
-use Rattle.rb_queue.specs.Waiting.Ready.{Comes, Ticks}
-use Rattle.rb_queue.specs.Queued.{Takeable}
-use Rattle.rb_queue.specs.Queued.Takeable.{InLane, Beside}
 
 -- the i-th that is listed is the arrival at this place of the lane
 pub record IsArrival (listed : List Takeable) (i : ℕ) (arrivals : List Coming) (place : ℕ) : Type 0 where

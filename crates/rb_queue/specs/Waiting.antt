@@ -1,15 +1,9 @@
 -- Pending events by node: which is the least time at a node, and which events are ready then.
-use Rattle.std.specs.Prelude.{ℕ, ◌≡◌, ◌+◌, ◌-◌, ◌<◌, ◌≤◌, ◌==◌, ◌&&◌, ◌⊎◌, nat_le, Bool, true, false, Option, Some, None, option_map, option_to_list, unwrap_or, List, [], ◌∷◌, ◌++◌, filter, flat_map, length, map, remove, slice_get, slice_set}
-use Rattle.std.specs.List.{enumerate_from}
-use Rattle.rb_base.specs.Counting.{numbers}
-use Rattle.rb_base.specs.declared.event.Event.{Event}
-use Rattle.rb_base.specs.declared.event.EventKind.{EventKind}
+use Rattle.std.specs.{Prelude.{ℕ, ◌≡◌, ◌+◌, ◌-◌, ◌<◌, ◌≤◌, ◌==◌, ◌&&◌, ◌⊎◌, nat_le, Bool, true, false, Option, Some, None, option_map, option_to_list, unwrap_or, List, [], ◌∷◌, ◌++◌, filter, flat_map, length, map, remove, slice_get, slice_set}, List.enumerate_from}
+use Rattle.rb_base.specs.{Counting.numbers, declared.event.Event.Event, declared.event.EventKind.EventKind, declared.node.NodeName.NodeName}
+use Rattle.rb_rules.specs.{Book.Each, Hearing.Coming, WorldStep.least}
 use Rattle.rb_base.specs.declared.event.EventKind.TheVariants as kind
-use Rattle.rb_base.specs.declared.node.NodeName.{NodeName}
 use Rattle.rb_base.specs.declared.node.NodeName.TheVariants as node
-use Rattle.rb_rules.specs.Book.{Each}
-use Rattle.rb_rules.specs.Hearing.{Coming}
-use Rattle.rb_rules.specs.WorldStep.{least}
 
 -- what a lane holds: what comes to the node, in the order of pushing, the time of its tick, and for
 -- how many events it has room

@@ -1,23 +1,8 @@
 -- What is given without an event ends the run.
-use Rattle.std.proofs.Common.{◌≡◌, ℕ, suc, ◌+◌, ◌==◌, Bool, true, false, List, [], ◌∷◌, ◌++◌, refl, ap, ◌∙◌, Option, Some, None, if◌then◌else◌}
-use Rattle.std.proofs.lemmas.List.{append-nil}
-use Rattle.rb_base.specs.Nodes.{Side}
-use Rattle.rb_base.specs.Nodes.Side.{Biu, Rmu}
-use Rattle.rb_base.specs.Sizes.{IsShape}
-use Rattle.rb_base.specs.declared.values.Place.{Place}
-use Rattle.rb_rules.specs.Book.{Begun, Book, Each, Milestone, Record, Row, after_verdict, frame_records, in_order, judged_of, map_from, with_stage}
-use Rattle.rb_rules.specs.Book.Milestone.{Begin, Stage, End}
-use Rattle.rb_rules.specs.ExactStage.{present}
-use Rattle.rb_rules.specs.Goodness.{Scenario, good_at, is_good}
-use Rattle.rb_rules.specs.Judging.{JudgedStage, verdict_of}
-use Rattle.rb_rules.specs.WorldStep.{Site, World, begun_for, go_on, needs_no_event, nobody_good, record_since, settle, settle_next, told_by_good}
-use Rattle.rb_rules.specs.WorldStep.Way.{ByItself}
-use Rattle.rb_laws_events.proofs.Alone.{nobody-each}
-use Rattle.rb_laws_events.proofs.Completing.{next_world}
-use Rattle.rb_laws_events.proofs.GivenAlone.{breach-alone, go-on-is, next-alone}
-use Rattle.rb_laws_events.proofs.SettledOnce.{FrameGiven, ended-still, frame-given, settle-still}
-use Rattle.rb_laws_events.proofs.Waiting.{no-good}
-use Rattle.rb_laws_events.proofs.WorldBooks.{none-past, settle_rest}
+use Rattle.std.proofs.{Common.{◌≡◌, ℕ, suc, ◌+◌, ◌==◌, Bool, true, false, List, [], ◌∷◌, ◌++◌, refl, ap, ◌∙◌, Option, Some, None, if◌then◌else◌}, lemmas.List.append-nil}
+use Rattle.rb_base.specs.{Nodes.Side, Nodes.Side.{Biu, Rmu}, Sizes.IsShape, declared.values.Place.Place}
+use Rattle.rb_rules.specs.{Book.{Begun, Book, Each, Milestone, Record, Row, after_verdict, frame_records, in_order, judged_of, map_from, with_stage}, Book.Milestone.{Begin, Stage, End}, ExactStage.present, Goodness.{Scenario, good_at, is_good}, Judging.{JudgedStage, verdict_of}, WorldStep.{Site, World, begun_for, go_on, needs_no_event, nobody_good, record_since, settle, settle_next, told_by_good}, WorldStep.Way.ByItself}
+use Rattle.rb_laws_events.proofs.{Alone.nobody-each, Completing.next_world, GivenAlone.{breach-alone, go-on-is, next-alone}, SettledOnce.{FrameGiven, ended-still, frame-given, settle-still}, Waiting.no-good, WorldBooks.{none-past, settle_rest}}
 
 -- A stage in which nobody is good is a breach.
 

@@ -1,30 +1,16 @@
 -- How a run ends in which each step takes the first due event.
-use Rattle.std.proofs.Common.{◌≡◌, ◌⊎◌, ℕ, zero, suc, ◌+◌, ◌-◌, ◌^◌, ◌<◌, ◌≤◌, Bool, true, false, Option, Some, None, List, [], ◌∷◌, ◌++◌, append_assoc, length, slice_get, refl, sym, ap, ◌∙◌, subst, arith, inl, inr}
-use Rattle.std.specs.Prelude.{option_and_then, option_map}
-use Rattle.std.specs.List.{last_or}
-use Rattle.std.proofs.lemmas.Bool.{cases_lt}
-use Rattle.std.proofs.lemmas.List.{append-nil}
-use Rattle.rb_base.specs.declared.event.Event.{Event}
-use Rattle.rb_base.specs.declared.node.NodeName.{NodeName}
+use Rattle.std.proofs.{Common.{◌≡◌, ◌⊎◌, ℕ, zero, suc, ◌+◌, ◌-◌, ◌^◌, ◌<◌, ◌≤◌, Bool, true, false, Option, Some, None, List, [], ◌∷◌, ◌++◌, append_assoc, length, slice_get, refl, sym, ap, ◌∙◌, subst, arith, inl, inr}, lemmas.Bool.cases_lt, lemmas.List.append-nil}
+use Rattle.std.specs.{Prelude.{option_and_then, option_map}, List.last_or}
+use Rattle.rb_base.specs.{declared.event.Event.Event, declared.node.NodeName.NodeName}
 use Rattle.rb_base.proofs.Plain.{true-false}
-use Rattle.rb_rules.specs.Book.{Record, of_kind}
-use Rattle.rb_rules.specs.Entries.{IsListed}
-use Rattle.rb_rules.specs.Goodness.{Scenario}
-use Rattle.rb_rules.specs.Lawful.{IsLawful}
-use Rattle.rb_rules.specs.Rounds.{records_of}
-use Rattle.rb_rules.specs.WorldStep.{Due, World, due_of, event_at, event_of, first_world, go_on, needs_no_event, take}
+use Rattle.rb_rules.specs.{Book.{Record, of_kind}, Entries.IsListed, Goodness.Scenario, Lawful.IsLawful, Rounds.records_of, WorldStep.{Due, World, due_of, event_at, event_of, first_world, go_on, needs_no_event, take}}
 use Rattle.rb_laws_logs.specs.Given.{AreGiven, first_run, first_step, given_in, given_next, if_given}
 use Rattle.rb_laws_logs.proofs.Worlds.{no-hands}
-use Rattle.rb_laws_events.proofs.EventsHold.{due-holds, events-hold, turns-hold}
-use Rattle.rb_laws_events.proofs.RoundNodes.{item-at}
+use Rattle.rb_laws_events.proofs.{EventsHold.{due-holds, events-hold, turns-hold}, RoundNodes.item-at}
 use Rattle.rb_laws_events.specs.Laws.{IsNextTurn}
 use Rattle.rb_world.specs.Worlds.{IsReached}
-use Rattle.rb_world.proofs.GoingOn.{ended-stays}
-use Rattle.rb_world.proofs.LastTurn.{reached-ends}
-use Rattle.rb_world.proofs.Numbered.{none-due}
-use Rattle.rb_world.proofs.Steps.{none-last}
-use Rattle.rb_record.proofs.Alone.{alone-ends}
-use Rattle.rb_record.proofs.Runs.{choices_of, few-steps, run-busy, run-idle, run-is, run-reached}
+use Rattle.rb_world.proofs.{GoingOn.ended-stays, LastTurn.reached-ends, Numbered.none-due, Steps.none-last}
+use Rattle.rb_record.proofs.{Alone.alone-ends, Runs.{choices_of, few-steps, run-busy, run-idle, run-is, run-reached}}
 
 -- Nothing is due once the run has ended.
 

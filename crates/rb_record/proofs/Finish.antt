@@ -1,17 +1,13 @@
 -- How a run ends is told by the turn that comes last.
 use Rattle.std.proofs.Common.{◌≡◌, ℕ, true, false, Some, None, sym, ap, ◌∙◌}
-use Rattle.rb_rules.specs.Goodness.{Scenario}
-use Rattle.rb_rules.specs.Lawful.{IsLawful}
-use Rattle.rb_world_book.specs.Records.{record_of}
-use Rattle.rb_world_book.specs.declared.turn.Turn.{Turn}
+use Rattle.rb_rules.specs.{Goodness.Scenario, Lawful.IsLawful}
+use Rattle.rb_world_book.specs.{Records.record_of, declared.turn.Turn.Turn}
 use Rattle.rb_laws_logs.specs.Given.{first_run}
 use Rattle.rb_world.specs.Nexts.{is_last}
 use Rattle.rb_world.proofs.LastTurn.{reached-ended}
-use Rattle.rb_run.specs.Runs.{EndsWith, end_at}
-use Rattle.rb_run.specs.declared.ending.Ending.{Ending}
+use Rattle.rb_run.specs.{Runs.{EndsWith, end_at}, declared.ending.Ending.Ending}
 use Rattle.rb_run.proofs.UnderWay.{ends-last, goes-on}
-use Rattle.rb_record.proofs.Ends.{ends-as-rounds}
-use Rattle.rb_record.proofs.Runs.{run-reached}
+use Rattle.rb_record.proofs.{Ends.ends-as-rounds, Runs.run-reached}
 
 -- the run goes on after a turn that does not end it
 pub turn-goes : (sc : Scenario) (n : ℕ) (t : Turn) → (first_run sc n).turn ≡ record_of t → end_at (record_of t) ≡ None → (first_run sc n).book.ended ≡ false

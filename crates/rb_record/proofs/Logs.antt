@@ -1,47 +1,19 @@
 -- What is recorded is a log.
-use Rattle.std.proofs.Common.{◌≡◌, ℕ, zero, suc, ◌+◌, ◌^◌, ◌<◌, ◌≤◌, ◌&&◌, Bool, true, false, All, List, [], ◌∷◌, get_or, length, refl, sym, ◌∙◌, subst, arith, inl, inr, Option, Some, None, is_some, slice_get}
+use Rattle.std.proofs.{Common.{◌≡◌, ℕ, zero, suc, ◌+◌, ◌^◌, ◌<◌, ◌≤◌, ◌&&◌, Bool, true, false, All, List, [], ◌∷◌, get_or, length, refl, sym, ◌∙◌, subst, arith, inl, inr, Option, Some, None, is_some, slice_get}, lemmas.Bool.cases_lt, lemmas.List.get_or_past, lemmas.List.Elements.{All-append, All-cons, All-nil}, lemmas.Nat.mod_below, lemmas.Option.same_Some}
 use Rattle.std.specs.Prelude.{if◌then◌else◌}
-use Rattle.std.proofs.lemmas.Bool.{cases_lt}
-use Rattle.std.proofs.lemmas.List.{get_or_past}
-use Rattle.std.proofs.lemmas.List.Elements.{All-append, All-cons, All-nil}
-use Rattle.std.proofs.lemmas.Nat.{mod_below}
-use Rattle.std.proofs.lemmas.Option.{same_Some}
-use Rattle.rb_base.specs.Nodes.{Side, other}
-use Rattle.rb_base.specs.Sizes.{Sizes}
-use Rattle.rb_base.specs.declared.event.Event.{Event}
-use Rattle.rb_base.specs.declared.event.EventKind.TheVariants as kind
-use Rattle.rb_base.specs.declared.node.NodeName.{NodeName}
-use Rattle.rb_rules.specs.declared.role.Role.{Role}
-use Rattle.rb_rules.specs.declared.role.Role.TheVariants.{Schedule, Data, DiagBiu, DiagRmu, Sync}
-use Rattle.rb_rules.specs.Book.{of_kind}
-use Rattle.rb_rules.specs.Core.{pass_to}
-use Rattle.rb_rules.specs.Entries.{IsListed}
-use Rattle.rb_rules.specs.Goodness.{Scenario}
-use Rattle.rb_rules.specs.Hearing.{Coming, word_for}
-use Rattle.rb_rules.specs.Lawful.{HasEach, IsLawful, IsNodeOf, kind_of}
-use Rattle.rb_rules.specs.Links.{same_node}
-use Rattle.rb_rules.specs.Ports.{PortState}
-use Rattle.rb_rules.specs.Slots.{count_of, role_of}
-use Rattle.rb_rules.specs.WorldStep.{Due, Pending, Site, World, event_at, event_of, wants_in, word_of}
-use Rattle.rb_rules.specs.WorldStep.Pending.{Tick, Arrival}
+use Rattle.rb_base.specs.{Nodes.{Side, other}, Sizes.Sizes, declared.event.Event.Event, declared.node.NodeName.NodeName}
+use Rattle.rb_rules.specs.{declared.role.Role.Role, declared.role.Role.TheVariants.{Schedule, Data, DiagBiu, DiagRmu, Sync}, Book.of_kind, Core.pass_to, Entries.IsListed, Goodness.Scenario, Hearing.{Coming, word_for}, Lawful.{HasEach, IsLawful, IsNodeOf, kind_of}, Links.same_node, Ports.PortState, Slots.{count_of, role_of}, WorldStep.{Due, Pending, Site, World, event_at, event_of, wants_in, word_of}, WorldStep.Pending.{Tick, Arrival}}
 use Rattle.rb_laws_logs.specs.Given.{first_run, given_in, given_next, is_before_end, site_of}
-use Rattle.rb_laws_logs.proofs.FirstRuns.{same-given}
-use Rattle.rb_laws_logs.proofs.Recorded.{ticks-append}
-use Rattle.rb_log.specs.Laws.{IsTellable, MayHappen, ticks_in}
-use Rattle.rb_log.specs.LogText.{senders_of}
-use Rattle.rb_log.specs.Writing.{given, ticks_given}
+use Rattle.rb_laws_logs.proofs.{FirstRuns.same-given, Recorded.ticks-append}
+use Rattle.rb_log.specs.{Laws.{IsTellable, MayHappen, ticks_in}, LogText.senders_of, Writing.{given, ticks_given}}
 use Rattle.rb_log.proofs.RoundTrip.{written_read}
-use Rattle.rb_laws_events.proofs.DueEvents.{IsDue, IsReady}
-use Rattle.rb_laws_events.proofs.PendingLists.{StandsAt}
-use Rattle.rb_laws_events.proofs.WorldNodes.{Known, worlds-known}
+use Rattle.rb_laws_events.proofs.{DueEvents.{IsDue, IsReady}, PendingLists.StandsAt, WorldNodes.{Known, worlds-known}}
 use Rattle.rb_world.specs.Worlds.{IsReached}
 use Rattle.rb_world.proofs.Ready.{due-reached}
-use Rattle.rb_record.specs.Laws.{OneLog, RecordedIsRead}
-use Rattle.rb_record.specs.Recording.{MayTell}
-use Rattle.rb_record.proofs.Comings.{AreSound, IsSound, run-sound}
-use Rattle.rb_record.proofs.Runs.{run-reached}
-use Rattle.rb_record.proofs.Ticks.{IsEvent, at-node, is-event, may-tell, next-is, sized-at}
+use Rattle.rb_record.specs.{Laws.{OneLog, RecordedIsRead}, Recording.MayTell}
+use Rattle.rb_record.proofs.{Comings.{AreSound, IsSound, run-sound}, Runs.run-reached, Ticks.{IsEvent, at-node, is-event, may-tell, next-is, sized-at}}
 use Rattle.rb_laws_agreement.proofs.Speaking.{word_fits}
+use Rattle.rb_base.specs.declared.event.EventKind.TheVariants as kind
 
 -- One event.
 

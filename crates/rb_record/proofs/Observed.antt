@@ -1,35 +1,17 @@
 -- Who writes the log writes what a run tells, one after another, up to the next record.
 use Rattle.std.proofs.Common.{◌≡◌, ◌⊎◌, inl, inr, ℕ, suc, ◌+◌, ◌≤◌, List, [], ◌∷◌, ◌++◌, Option, Some, None, refl, sym, ap, ◌∙◌, subst, arith}
 use Rattle.std.specs.Prelude.{Result, Ok, Err, IsErr, IsOk, MatchResult, OnErr}
-use Rattle.rb_base.specs.declared.event.Event.{Event}
-use Rattle.rb_base.specs.declared.node.NodeName.{NodeName}
-use Rattle.rb_rules.specs.Entries.{IsListed}
-use Rattle.rb_rules.specs.Goodness.{Scenario}
-use Rattle.rb_rules.specs.Lawful.{IsLawful}
-use Rattle.rb_rules.specs.WorldStep.{World, first_world}
-use Rattle.rb_world_book.specs.Records.{record_of}
-use Rattle.rb_world_book.specs.declared.turn.Turn.{Turn}
+use Rattle.rb_base.specs.{declared.event.Event.Event, declared.node.NodeName.NodeName}
+use Rattle.rb_rules.specs.{Entries.IsListed, Goodness.Scenario, Lawful.IsLawful, WorldStep.{World, first_world}}
+use Rattle.rb_world_book.specs.{Records.record_of, declared.turn.Turn.Turn}
 use Rattle.rb_laws_logs.specs.Given.{first_run, given_in}
-use Rattle.rb_log.specs.Laws.{ticks_in}
-use Rattle.rb_log.specs.Writing.{Tally, ticks_given}
-use Rattle.rb_outside.specs.Bytes.{AppendsPart}
-use Rattle.rb_outside.specs.Causes.{HasCause, Rose}
-use Rattle.rb_run.specs.Runs.{EndsWith, end_at}
-use Rattle.rb_run.specs.declared.ending.Ending.{Ending}
+use Rattle.rb_log.specs.{Laws.ticks_in, Writing.{Tally, ticks_given}}
+use Rattle.rb_outside.specs.{Bytes.AppendsPart, Causes.{HasCause, Rose}}
+use Rattle.rb_run.specs.{Runs.{EndsWith, end_at}, declared.ending.Ending.Ending}
 use Rattle.rb_laws_sweeps.specs.Told.{Told}
-use Rattle.rb_world.specs.Nexts.{Standing}
-use Rattle.rb_world.specs.Observing.{TellsToNext, WasTold, told_to}
-use Rattle.rb_world.specs.Worlds.{KeptWorld, Stands}
-use Rattle.rb_record.specs.declared.recorder.Recorder.{Recorder}
-use Rattle.rb_record.specs.Buffering.{PassesOn}
-use Rattle.rb_record.specs.Observing.{Records, RecordsNext, Settles, all_of_log, of_log}
-use Rattle.rb_record.specs.Recording.{IsRecorded, IsRecordedInPart, IsRecordedSoFar, IsRecordedWhole, MayTell, PassesNext, PassesPartOf, fresh_log}
-use Rattle.rb_record.proofs.Ends.{first-going}
-use Rattle.rb_record.proofs.Finish.{ends-so, turn-ends, turn-goes}
-use Rattle.rb_record.proofs.Passing.{part-settled, part-then-none, passes-join, passes-none, passes-settled, passes-then-part}
-use Rattle.rb_record.proofs.Runs.{after-first}
-use Rattle.rb_record.proofs.ToldGiven.{given-told, may-tell-more, standing, told_more}
-use Rattle.rb_record.proofs.Writing.{match-err, none-recorded, recorded-more, recorded-part}
+use Rattle.rb_world.specs.{Nexts.Standing, Observing.{TellsToNext, WasTold, told_to}, Worlds.{KeptWorld, Stands}}
+use Rattle.rb_record.specs.{declared.recorder.Recorder.Recorder, Buffering.PassesOn, Observing.{Records, RecordsNext, Settles, all_of_log, of_log}, Recording.{IsRecorded, IsRecordedInPart, IsRecordedSoFar, IsRecordedWhole, MayTell, PassesNext, PassesPartOf, fresh_log}}
+use Rattle.rb_record.proofs.{Ends.first-going, Finish.{ends-so, turn-ends, turn-goes}, Passing.{part-settled, part-then-none, passes-join, passes-none, passes-settled, passes-then-part}, Runs.after-first, ToldGiven.{given-told, may-tell-more, standing, told_more}, Writing.{match-err, none-recorded, recorded-more, recorded-part}}
 
 -- Events of which the writer may be told.
 

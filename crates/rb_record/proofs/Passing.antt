@@ -1,14 +1,12 @@
 -- Bytes of a log that wait, and that are written. Below, v, w and u are what waits at one moment,
 -- at a later one and at one later still, and h, i and j what is held then.
-use Rattle.std.proofs.Common.{◌≡◌, ℕ, ◌+◌, List, [], ◌++◌, append_assoc, Option, refl, sym, ap, ◌∙◌, subst, arith}
-use Rattle.std.proofs.lemmas.List.{append-nil}
+use Rattle.std.proofs.{Common.{◌≡◌, ℕ, ◌+◌, List, [], ◌++◌, append_assoc, Option, refl, sym, ap, ◌∙◌, subst, arith}, lemmas.List.append-nil}
 use Rattle.rb_base.specs.declared.event.Event.{Event}
 use Rattle.rb_log.specs.Writing.{Tally, written}
 use Rattle.rb_outside.specs.Bytes.{AppendsPart}
 use Rattle.rb_outside.proofs.Known.{appends_join, appends_none, part_join, part_widens}
 use Rattle.rb_laws_logs.proofs.Recorded.{ticks-append}
-use Rattle.rb_record.specs.Buffering.{PassesOn}
-use Rattle.rb_record.specs.Recording.{IsTold, PassesNext, PassesPartOf}
+use Rattle.rb_record.specs.{Buffering.PassesOn, Recording.{IsTold, PassesNext, PassesPartOf}}
 
 -- Some events.
 

@@ -1,18 +1,10 @@
 -- A run in which each step takes the first due event.
 use Rattle.std.proofs.Common.{◌≡◌, ℕ, zero, suc, ◌+◌, ◌^◌, ◌<◌, ◌≤◌, Some, None, List, [], ◌∷◌, ◌++◌, fold, length, slice_get, refl, sym, ap, ◌∙◌, subst, arith}
-use Rattle.rb_rules.specs.Entries.{IsListed}
-use Rattle.rb_rules.specs.Goodness.{Scenario}
-use Rattle.rb_rules.specs.Lawful.{IsLawful}
-use Rattle.rb_rules.specs.WorldStep.{Choice, Due, World, choose, due_of, first_world, go_on, take, world_after}
-use Rattle.rb_rules.specs.WorldStep.Choice.{Take, GoOn}
+use Rattle.rb_rules.specs.{Entries.IsListed, Goodness.Scenario, Lawful.IsLawful, WorldStep.{Choice, Due, World, choose, due_of, first_world, go_on, take, world_after}, WorldStep.Choice.{Take, GoOn}}
 use Rattle.rb_laws_logs.specs.Given.{first_run, first_step, step_with}
-use Rattle.rb_laws_events.proofs.EventsHold.{ends-hold}
-use Rattle.rb_laws_events.proofs.EveryWorld.{after-more}
-use Rattle.rb_laws_events.proofs.RunsEnd.{takes-append}
+use Rattle.rb_laws_events.proofs.{EventsHold.ends-hold, EveryWorld.after-more, RunsEnd.takes-append}
 use Rattle.rb_laws_events.specs.Laws.{taken_by, takes_from}
-use Rattle.rb_world.specs.declared.ties.Ties.TheVariants.{First}
-use Rattle.rb_world.specs.Nexts.{Standing, after_steps, step, step_among}
-use Rattle.rb_world.specs.Worlds.{IsReached}
+use Rattle.rb_world.specs.{declared.ties.Ties.TheVariants.First, Nexts.{Standing, after_steps, step, step_among}, Worlds.IsReached}
 use Rattle.rb_world.proofs.Steps.{few-takes}
 
 -- One step.

@@ -1,57 +1,20 @@
 -- What a node is given in a run are at most 2^31 ticks, and arrivals of some bytes.
-use Rattle.std.proofs.Common.{◌≡◌, ℕ, zero, suc, ◌+◌, ◌-◌, ◌^◌, ◌<◌, ◌≤◌, ◌==◌, ◌&&◌, max, Bool, true, false, List, [], ◌∷◌, ◌++◌, length, refl, sym, ◌∙◌, ap, subst, arith, Option, Some, None, slice_get}
+use Rattle.std.proofs.{Common.{◌≡◌, ℕ, zero, suc, ◌+◌, ◌-◌, ◌^◌, ◌<◌, ◌≤◌, ◌==◌, ◌&&◌, max, Bool, true, false, List, [], ◌∷◌, ◌++◌, length, refl, sym, ◌∙◌, ap, subst, arith, Option, Some, None, slice_get}, lemmas.Bool.Decides.nat_tests, lemmas.Option.{same_Some, slice_get_within}}
 use Rattle.std.specs.Prelude.{option_and_then, option_map, if◌then◌else◌}
-use Rattle.std.proofs.lemmas.Bool.Decides.{nat_tests}
-use Rattle.std.proofs.lemmas.Option.{same_Some, slice_get_within}
-use Rattle.rb_base.specs.Nodes.{Side, other}
-use Rattle.rb_base.specs.Nodes.Side.{Biu, Rmu}
-use Rattle.rb_base.specs.declared.event.Event.{Event}
-use Rattle.rb_base.specs.declared.node.NodeName.{NodeName}
-use Rattle.rb_base.specs.declared.node.NodeName.TheVariants as node
+use Rattle.rb_base.specs.{Nodes.{Side, other}, Nodes.Side.{Biu, Rmu}, declared.event.Event.Event, declared.node.NodeName.NodeName}
 use Rattle.rb_base.proofs.Plain.{eq-either_way, max-less, option_map-back}
-use Rattle.rb_rules.specs.declared.message.Message.{Message}
-use Rattle.rb_rules.specs.Book.{Each, of_kind}
-use Rattle.rb_rules.specs.Clock.{stamp_of}
-use Rattle.rb_rules.specs.Core.{Act, Core, pass_to}
-use Rattle.rb_rules.specs.Entries.{IsListed}
-use Rattle.rb_rules.specs.Goodness.{Scenario, clock_of}
-use Rattle.rb_rules.specs.Hearing.{Coming, Sending, coming_of}
-use Rattle.rb_rules.specs.Lawful.{IsLawful, kind_of}
-use Rattle.rb_rules.specs.Links.{name_of, same_node}
-use Rattle.rb_rules.specs.Ports.{PortState}
-use Rattle.rb_rules.specs.Slots.{count_of, same_side}
-use Rattle.rb_rules.specs.WorldStep.{Due, Pending, Site, Timed, World, after_act, after_arrival, at_node, due_of, event_at, event_of, happens, pass_and_tick, sent_to, settle, take, take_if_due, wants_in, with_act, with_message, with_pending, word_of}
-use Rattle.rb_rules.specs.WorldStep.Pending.{Tick, Arrival}
-use Rattle.rb_rules.specs.WorldStep.Way.{ByAnEvent}
-use Rattle.rb_rules.proofs.QuietTicks.{arrive-same}
-use Rattle.rb_rules.proofs.Stamps.{stamp_le, stamp_of-is}
-use Rattle.rb_rules.proofs.WindowNumbers.{get-each}
+use Rattle.rb_rules.specs.{declared.message.Message.Message, Book.{Each, of_kind}, Clock.stamp_of, Core.{Act, Core, pass_to}, Entries.IsListed, Goodness.{Scenario, clock_of}, Hearing.{Coming, Sending, coming_of}, Lawful.{IsLawful, kind_of}, Links.{name_of, same_node}, Ports.PortState, Slots.{count_of, same_side}, WorldStep.{Due, Pending, Site, Timed, World, after_act, after_arrival, at_node, due_of, event_at, event_of, happens, pass_and_tick, sent_to, settle, take, take_if_due, wants_in, with_act, with_message, with_pending, word_of}, WorldStep.Pending.{Tick, Arrival}, WorldStep.Way.ByAnEvent}
+use Rattle.rb_rules.proofs.{QuietTicks.arrive-same, Stamps.{stamp_le, stamp_of-is}, WindowNumbers.get-each}
 use Rattle.rb_laws_logs.specs.Given.{first_run, given_in, given_next, if_given, index_of, is_before_end, site_of}
-use Rattle.rb_laws_logs.proofs.NodeRun.{go-on-sites}
-use Rattle.rb_laws_logs.proofs.NodeSites.{act-core}
-use Rattle.rb_laws_logs.proofs.Recorded.{ticks-append}
-use Rattle.rb_log.specs.Laws.{ticks_in}
-use Rattle.rb_log.specs.Writing.{HasBytes, ticks_given}
-use Rattle.rb_laws_events.proofs.DueEvents.{IsDue, IsReady}
-use Rattle.rb_laws_events.proofs.EventsHold.{any, ends-hold, nodes_at, ticks-left}
-use Rattle.rb_laws_events.proofs.EveryWorld.{AnyWorld, due-going}
-use Rattle.rb_laws_events.proofs.OneEvent.{all-pend}
-use Rattle.rb_laws_events.proofs.PendingLists.{StandsAt}
-use Rattle.rb_laws_events.proofs.RoundNodes.{item-at}
-use Rattle.rb_laws_events.proofs.RunsEnd.{HasTicksLeft}
-use Rattle.rb_laws_events.proofs.Takes.{tick-had}
-use Rattle.rb_laws_events.proofs.WorldNodes.{settle-sites, worlds-known}
-use Rattle.rb_laws_events.proofs.WorldStands.{AllPend, is_node, node-is}
+use Rattle.rb_laws_logs.proofs.{NodeRun.go-on-sites, NodeSites.act-core, Recorded.ticks-append, Sized.{AreSized, IsSized}}
+use Rattle.rb_log.specs.{Laws.ticks_in, Writing.{HasBytes, ticks_given}}
+use Rattle.rb_laws_events.proofs.{DueEvents.{IsDue, IsReady}, EventsHold.{any, ends-hold, nodes_at, ticks-left}, EveryWorld.{AnyWorld, due-going}, OneEvent.all-pend, PendingLists.StandsAt, RoundNodes.item-at, RunsEnd.HasTicksLeft, Takes.tick-had, WorldNodes.{settle-sites, worlds-known}, WorldStands.{AllPend, is_node, node-is}}
 use Rattle.rb_world.specs.Worlds.{IsReached}
-use Rattle.rb_world.proofs.Ready.{due-reached}
-use Rattle.rb_world.proofs.InTime.{HasTick, reached-in-time}
-use Rattle.rb_laws_sweeps.proofs.SentLater.{node-moves}
-use Rattle.rb_laws_sweeps.proofs.Telling.{shown-node}
+use Rattle.rb_world.proofs.{Ready.due-reached, InTime.{HasTick, reached-in-time}}
+use Rattle.rb_laws_sweeps.proofs.{SentLater.node-moves, Telling.shown-node}
 use Rattle.rb_record.specs.Recording.{MayTell}
-use Rattle.rb_record.proofs.Ends.{none-given}
-use Rattle.rb_laws_logs.proofs.Sized.{AreSized, IsSized}
-use Rattle.rb_record.proofs.Comings.{AreSound, IsSound, due-runs, run-sound}
-use Rattle.rb_record.proofs.Runs.{run-busy, run-idle, run-reached}
+use Rattle.rb_record.proofs.{Ends.none-given, Comings.{AreSound, IsSound, due-runs, run-sound}, Runs.{run-busy, run-idle, run-reached}}
+use Rattle.rb_base.specs.declared.node.NodeName.TheVariants as node
 
 -- How many ticks a node has had.
 

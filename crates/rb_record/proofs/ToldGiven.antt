@@ -1,28 +1,17 @@
 -- What a run tells of a node, as far as it is of the log, is what the node is given.
-use Rattle.std.proofs.Common.{◌≡◌, ℕ, zero, suc, ◌+◌, ◌&&◌, nat_lt, Bool, true, false, Option, Some, None, List, [], ◌∷◌, ◌++◌, append_assoc, refl, sym, ap, ◌∙◌, subst, arith}
+use Rattle.std.proofs.{Common.{◌≡◌, ℕ, zero, suc, ◌+◌, ◌&&◌, nat_lt, Bool, true, false, Option, Some, None, List, [], ◌∷◌, ◌++◌, append_assoc, refl, sym, ap, ◌∙◌, subst, arith}, lemmas.List.append-nil}
 use Rattle.std.specs.Prelude.{if◌then◌else◌}
-use Rattle.std.proofs.lemmas.List.{append-nil}
-use Rattle.rb_base.specs.declared.event.Event.{Event}
-use Rattle.rb_base.specs.declared.node.NodeName.{NodeName}
-use Rattle.rb_base.specs.declared.node.NodeName.TheVariants as node
-use Rattle.rb_rules.specs.Entries.{IsListed}
-use Rattle.rb_rules.specs.Goodness.{Scenario}
-use Rattle.rb_rules.specs.Lawful.{IsLawful, kind_of}
-use Rattle.rb_rules.specs.Links.{same_node}
-use Rattle.rb_rules.specs.WorldStep.{Site, World, event_at}
+use Rattle.rb_base.specs.{declared.event.Event.Event, declared.node.NodeName.NodeName}
+use Rattle.rb_rules.specs.{Entries.IsListed, Goodness.Scenario, Lawful.{IsLawful, kind_of}, Links.same_node, WorldStep.{Site, World, event_at}}
 use Rattle.rb_laws_logs.specs.Given.{first_run, given_in, given_next, if_given, is_before_end, site_of}
 use Rattle.rb_laws_logs.proofs.Recorded.{ticks-append}
-use Rattle.rb_log.specs.Laws.{ticks_in}
-use Rattle.rb_log.specs.Writing.{ticks_given}
+use Rattle.rb_log.specs.{Laws.ticks_in, Writing.ticks_given}
 use Rattle.rb_laws_sweeps.specs.Told.{Told, if_told, told_next}
 use Rattle.rb_world_traffic.specs.Arriving.{number_of}
-use Rattle.rb_world.specs.declared.ties.Ties.TheVariants.{First}
-use Rattle.rb_world.specs.Nexts.{Standing, after_steps}
-use Rattle.rb_world.specs.Observing.{told_to}
-use Rattle.rb_record.specs.Observing.{all_of_log, of_log}
-use Rattle.rb_record.specs.Recording.{MayTell}
-use Rattle.rb_record.proofs.Runs.{after-first}
-use Rattle.rb_record.proofs.Ticks.{may-tell}
+use Rattle.rb_world.specs.{declared.ties.Ties.TheVariants.First, Nexts.{Standing, after_steps}, Observing.told_to}
+use Rattle.rb_record.specs.{Observing.{all_of_log, of_log}, Recording.MayTell}
+use Rattle.rb_record.proofs.{Runs.after-first, Ticks.may-tell}
+use Rattle.rb_base.specs.declared.node.NodeName.TheVariants as node
 
 -- One step.
 

@@ -1,23 +1,15 @@
 -- What is written of a log while a run goes on.
-use Rattle.std.proofs.Common.{◌≡◌, ℕ, List, [], ◌++◌, append_assoc, Option, refl, sym, ap, ◌∙◌, subst}
-use Rattle.std.specs.Prelude.{IfOk, Result, Ok, Err, IsErr, MatchResult, OnErr}
-use Rattle.std.specs.Io.KnownBytes.{Appends}
-use Rattle.std.proofs.lemmas.List.{append-nil}
-use Rattle.rb_base.specs.declared.event.Event.{Event}
-use Rattle.rb_base.specs.declared.node.NodeName.{NodeName}
-use Rattle.rb_rules.specs.Entries.{IsListed}
-use Rattle.rb_rules.specs.Goodness.{Scenario}
-use Rattle.rb_rules.specs.Lawful.{IsLawful}
-use Rattle.rb_rules.specs.WorldStep.{first_world}
+use Rattle.std.proofs.{Common.{◌≡◌, ℕ, List, [], ◌++◌, append_assoc, Option, refl, sym, ap, ◌∙◌, subst}, lemmas.List.append-nil}
+use Rattle.std.specs.{Prelude.{IfOk, Result, Ok, Err, IsErr, MatchResult, OnErr}, Io.KnownBytes.Appends}
+use Rattle.rb_base.specs.{declared.event.Event.Event, declared.node.NodeName.NodeName}
+use Rattle.rb_rules.specs.{Entries.IsListed, Goodness.Scenario, Lawful.IsLawful, WorldStep.first_world}
 use Rattle.rb_laws_logs.specs.Given.{first_run, given_in}
-use Rattle.rb_log.specs.Header.{header_of}
-use Rattle.rb_log.specs.Writing.{Tally, written}
+use Rattle.rb_log.specs.{Header.header_of, Writing.{Tally, written}}
 use Rattle.rb_outside.specs.Bytes.{AppendsPart}
 use Rattle.rb_outside.proofs.Known.{appends_join, part_join, part_widens}
 use Rattle.rb_world.specs.Worlds.{KeptWorld, Stands}
 use Rattle.rb_record.specs.Recording.{IsRecorded, IsRecordedInPart, IsRecordedWhole, PassesNext, PassesPartOf, WritesAll, WritesPart, fresh_log, timetable_of}
-use Rattle.rb_record.proofs.Ends.{all-given}
-use Rattle.rb_record.proofs.Passing.{passes-join, passes-none, passes-then-part}
+use Rattle.rb_record.proofs.{Ends.all-given, Passing.{passes-join, passes-none, passes-then-part}}
 
 -- The run.
 

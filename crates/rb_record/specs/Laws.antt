@@ -1,14 +1,9 @@
 -- What holds of every log that is recorded.
-use Rattle.std.specs.Prelude.{◌≡◌, List, Ok}
-use Rattle.std.specs.List.{flat_map}
-use Rattle.rb_base.specs.declared.event.Event.{Event}
-use Rattle.rb_base.specs.declared.node.NodeName.{NodeName}
-use Rattle.rb_rules.specs.Entries.{IsListed}
-use Rattle.rb_rules.specs.Goodness.{Scenario}
-use Rattle.rb_rules.specs.Lawful.{IsLawful, IsNodeOf}
+use Rattle.std.specs.{Prelude.{◌≡◌, List, Ok}, List.flat_map}
+use Rattle.rb_base.specs.{declared.event.Event.Event, declared.node.NodeName.NodeName}
+use Rattle.rb_rules.specs.{Entries.IsListed, Goodness.Scenario, Lawful.{IsLawful, IsNodeOf}}
 use Rattle.rb_laws_logs.specs.Given.{AreGiven}
-use Rattle.rb_log.specs.LogText.{log_in}
-use Rattle.rb_log.specs.Writing.{given}
+use Rattle.rb_log.specs.{LogText.log_in, Writing.given}
 use Rattle.rb_record.specs.Recording.{log_text}
 
 -- if faulty nodes do what the entries list, what is recorded of a node is a log, which says the

@@ -1,17 +1,11 @@
 -- What is written of a log by whom a run tells what a node is given.
 use Rattle.std.specs.Prelude.{ℕ, ◌≡◌, nat_lt, if◌then◌else◌, Option, List, [], ◌∷◌, ◌++◌, Result, IfOk, IsErr, IsOk, MatchResult}
-use Rattle.rb_base.specs.declared.event.Event.{Event}
-use Rattle.rb_base.specs.declared.node.NodeName.{NodeName}
-use Rattle.rb_outside.specs.Bytes.{AppendsPart}
-use Rattle.rb_outside.specs.Causes.{HasCause}
+use Rattle.rb_base.specs.{declared.event.Event.Event, declared.node.NodeName.NodeName}
+use Rattle.rb_outside.specs.{Bytes.AppendsPart, Causes.HasCause}
 use Rattle.rb_laws_sweeps.specs.Told.{Told}
-use Rattle.rb_record.specs.declared.recorder.Recorder.{Recorder}
-use Rattle.rb_record.specs.Buffering.{PassesOn}
-use Rattle.rb_record.specs.Recording.{IsRecordedInPart, IsRecordedWhole, MayTell, PassesNext, PassesPartOf, fresh_log}
-use Rattle.rb_rules.specs.Lawful.{IsNodeOf}
-use Rattle.rb_rules.specs.WorldStep.{first_world}
-use Rattle.rb_run.specs.Runs.{EndsWith}
-use Rattle.rb_run.specs.declared.ending.Ending.{Ending}
+use Rattle.rb_record.specs.{declared.recorder.Recorder.Recorder, Buffering.PassesOn, Recording.{IsRecordedInPart, IsRecordedWhole, MayTell, PassesNext, PassesPartOf, fresh_log}}
+use Rattle.rb_rules.specs.{Lawful.IsNodeOf, WorldStep.first_world}
+use Rattle.rb_run.specs.{Runs.EndsWith, declared.ending.Ending.Ending}
 use Rattle.rb_world.specs.Worlds.{KeptWorld, Stands}
 
 -- what is told, if it is of the log: an event up to the node's first tick of the frame after the

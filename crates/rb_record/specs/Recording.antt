@@ -1,13 +1,9 @@
 -- The log of what a node is given in a run, and how it is written while the run goes on.
-use Rattle.std.specs.Prelude.{⊤, ℕ, ◌≡◌, ◌+◌, ◌≤◌, true, false, Option, List, [], ◌∷◌, ◌++◌}
-use Rattle.std.specs.Io.KnownBytes.{Appends}
-use Rattle.rb_base.specs.declared.event.Event.{Event}
-use Rattle.rb_base.specs.declared.node.NodeName.{NodeName}
+use Rattle.std.specs.{Prelude.{⊤, ℕ, ◌≡◌, ◌+◌, ◌≤◌, true, false, Option, List, [], ◌∷◌, ◌++◌}, Io.KnownBytes.Appends}
+use Rattle.rb_base.specs.{declared.event.Event.Event, declared.node.NodeName.NodeName}
 use Rattle.rb_rules.specs.Goodness.{Scenario}
 use Rattle.rb_laws_logs.specs.Given.{AreGiven, first_run, given_in}
-use Rattle.rb_log.specs.Header.{header_of}
-use Rattle.rb_log.specs.Laws.{ticks_in}
-use Rattle.rb_log.specs.Writing.{HasBytes, Tally, ticks_given, written}
+use Rattle.rb_log.specs.{Header.header_of, Laws.ticks_in, Writing.{HasBytes, Tally, ticks_given, written}}
 use Rattle.rb_plan.specs.Timetable.{Timetable}
 use Rattle.rb_outside.specs.Bytes.{AppendsPart}
 use Rattle.rb_world.specs.Worlds.{KeptWorld, Stands}

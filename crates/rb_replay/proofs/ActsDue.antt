@@ -1,28 +1,16 @@
 -- What is due of a replay, event by event.
-use Rattle.std.proofs.Common.{◌≡◌, ℕ, ◌+◌, ◌≤◌, ◌^◌, nat_lt, Bool, true, false, cond, refl, ap, sym, ◌∙◌, subst, arith, lit≤, Option, Some, None, List, [], ◌∷◌, ◌++◌}
-use Rattle.std.proofs.Math.ListN.{replicate}
-use Rattle.std.specs.List.{flat_map}
-use Rattle.std.specs.Io.KnownBytes.{Appends}
-use Rattle.rb_base.specs.Nodes.{Side}
-use Rattle.rb_base.specs.Sizes.{Sizes}
-use Rattle.rb_base.specs.declared.node.NodeName.{NodeName}
-use Rattle.rb_rules.specs.declared.plan.Plan.{Plan}
-use Rattle.rb_rules.specs.declared.record.Epoch.{Epoch}
-use Rattle.rb_rules.specs.Core.{Act, Core, CoreEvent, act_at, act_on, acts_of, first_core, is_last, is_spent, tick}
-use Rattle.rb_rules.specs.Core.CoreEvent.{Tick, Arrive}
-use Rattle.rb_rules.specs.declared.message.Message.{Message}
-use Rattle.rb_rules.specs.Lawful.{kind_of}
-use Rattle.rb_rules.specs.NodeState.{NodeState, first_state}
+use Rattle.std.proofs.{Common.{◌≡◌, ℕ, ◌+◌, ◌≤◌, ◌^◌, nat_lt, Bool, true, false, cond, refl, ap, sym, ◌∙◌, subst, arith, lit≤, Option, Some, None, List, [], ◌∷◌, ◌++◌}, Math.ListN.replicate}
+use Rattle.std.specs.{List.flat_map, Io.KnownBytes.Appends}
+use Rattle.rb_base.specs.{Nodes.Side, Sizes.Sizes, declared.node.NodeName.NodeName}
+use Rattle.rb_rules.specs.{declared.plan.Plan.Plan, declared.record.Epoch.Epoch, Core.{Act, Core, CoreEvent, act_at, act_on, acts_of, first_core, is_last, is_spent, tick}, Core.CoreEvent.{Tick, Arrive}, declared.message.Message.Message, Lawful.kind_of, NodeState.{NodeState, first_state}}
 use Rattle.rb_rules.proofs.QuietTicks.{IsQuiet, arrive-same}
 use Rattle.rb_node.specs.Cores.{IsCore, IsSameNode, Running, arrive_of, passing_end, tick_of, ticks_of}
 use Rattle.rb_slot.specs.Engines.{Seated}
 use Rattle.rb_outside.specs.Bytes.{AppendsPart}
 use Rattle.rb_outside.proofs.Known.{appends_none, part_widens}
 use Rattle.rb_report.specs.Report.{end_text}
-use Rattle.rb_laws_logs.specs.Given.{index_of}
-use Rattle.rb_laws_logs.specs.Replays.{act_lines, acts_from, acts_text, frames_in, frames_with, replay_text}
-use Rattle.rb_replay.specs.Advancing.{Advances}
-use Rattle.rb_replay.specs.Replaying.{IsDue, acts_at, text_after}
+use Rattle.rb_laws_logs.specs.{Given.index_of, Replays.{act_lines, acts_from, acts_text, frames_in, frames_with, replay_text}}
+use Rattle.rb_replay.specs.{Advancing.Advances, Replaying.{IsDue, acts_at, text_after}}
 use Rattle.rb_replay.proofs.QuietActs.{quiet-before, quiet-text, text-step}
 
 -- Quiet ticks.

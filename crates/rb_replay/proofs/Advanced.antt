@@ -1,9 +1,7 @@
 -- What was written of a text that is due, and what more is.
 use Rattle.std.proofs.Common.{◌≡◌, ◌≤◌, ℕ, arith, refl, ap, sym, ◌∙◌, subst, Option, Result, Ok, Err, OnOk, OnErr, List, [], ◌++◌, append_assoc}
 use Rattle.std.specs.Io.KnownBytes.{Appends}
-use Rattle.rb_outside.specs.Bytes.{AppendsPart}
-use Rattle.rb_outside.specs.Causes.{HasCause}
-use Rattle.rb_outside.specs.Writing.{Writes}
+use Rattle.rb_outside.specs.{Bytes.AppendsPart, Causes.HasCause, Writing.Writes}
 use Rattle.rb_outside.proofs.Known.{appends_join, appends_none, part_join}
 use Rattle.rb_rules.specs.Core.{CoreEvent}
 use Rattle.rb_replay.specs.Advancing.{Advances}

@@ -1,8 +1,7 @@
 -- The events of a log, one after another.
 use Rattle.std.proofs.Common.{◌≡◌, refl, Option, Some, None, option_map, List, [], ◌∷◌, drop}
 use Rattle.std.specs.Prelude.{slice_get}
-use Rattle.rb_log.specs.Cursor.{shown}
-use Rattle.rb_log.specs.declared.cursor.LogEvent.{LogEvent}
+use Rattle.rb_log.specs.{Cursor.shown, declared.cursor.LogEvent.LogEvent}
 use Rattle.rb_rules.specs.Core.{CoreEvent}
 
 -- if an event is given, it is the first of the events

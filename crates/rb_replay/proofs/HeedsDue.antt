@@ -1,30 +1,18 @@
 -- What is due of a log that is listened to, event by event.
-use Rattle.std.proofs.Common.{◌≡◌, ℕ, ◌+◌, ◌-◌, ◌≤◌, ◌^◌, refl, ap, sym, ◌∙◌, subst, arith, Option, Result, List, [], ◌∷◌, ◌++◌}
-use Rattle.std.proofs.Math.ListN.{replicate}
-use Rattle.std.specs.Io.KnownBytes.{Appends}
-use Rattle.std.specs.List.{flat_map}
-use Rattle.rb_base.specs.Sizes.{Sizes}
-use Rattle.rb_base.specs.declared.node.NodeName.{NodeName}
-use Rattle.rb_rules.specs.declared.plan.Plan.{Plan}
-use Rattle.rb_rules.specs.Core.{CoreEvent}
-use Rattle.rb_rules.specs.Core.CoreEvent.{Tick, Arrive}
+use Rattle.std.proofs.{Common.{◌≡◌, ℕ, ◌+◌, ◌-◌, ◌≤◌, ◌^◌, refl, ap, sym, ◌∙◌, subst, arith, Option, Result, List, [], ◌∷◌, ◌++◌}, Math.ListN.replicate}
+use Rattle.std.specs.{Io.KnownBytes.Appends, List.flat_map}
+use Rattle.rb_base.specs.{Sizes.Sizes, declared.node.NodeName.NodeName}
+use Rattle.rb_rules.specs.{declared.plan.Plan.Plan, Core.CoreEvent, Core.CoreEvent.{Tick, Arrive}}
 use Rattle.rb_node.specs.Cores.{Running}
 use Rattle.rb_plan.specs.Timetable.{Timetable}
-use Rattle.rb_outside.specs.Bytes.{AppendsPart}
-use Rattle.rb_outside.specs.Writing.{Writes}
+use Rattle.rb_outside.specs.{Bytes.AppendsPart, Writing.Writes}
 use Rattle.rb_outside.proofs.Known.{appends_none, part_widens}
 use Rattle.rb_report.specs.Report.{end_text}
-use Rattle.rb_listen.specs.Listeners.{Hearer, IsListening, IsListeningIn, IsSameBus, had_at, had_in}
-use Rattle.rb_listen.specs.Listening.{Heeding, Listening, TellNothing, first_search, had_by, hear, heed, heeds, told_of}
-use Rattle.rb_listen.specs.Listening as now
-use Rattle.rb_listen.specs.declared.heed.Heed.{Heed}
-use Rattle.rb_listen.specs.declared.listener.Stage.{Stage}
-use Rattle.rb_listen.specs.declared.listener.Stage.TheVariants as stage
-use Rattle.rb_listen.specs.declared.search.Search.{Search}
-use Rattle.rb_replay.specs.Advancing.{Advances}
-use Rattle.rb_replay.specs.ListeningOn.{IsDue, text_after}
-use Rattle.rb_replay.specs.Overhearing.{begun_in, begun_with, from_tick, heed_lines, heeds_text, overheard_text}
+use Rattle.rb_listen.specs.{Listeners.{Hearer, IsListening, IsListeningIn, IsSameBus, had_at, had_in}, Listening.{Heeding, Listening, TellNothing, first_search, had_by, hear, heed, heeds, told_of}, declared.heed.Heed.Heed, declared.listener.Stage.Stage, declared.search.Search.Search}
+use Rattle.rb_replay.specs.{Advancing.Advances, ListeningOn.{IsDue, text_after}, Overhearing.{begun_in, begun_with, from_tick, heed_lines, heeds_text, overheard_text}}
 use Rattle.rb_replay.proofs.QuietHeeds.{Counts, heed-counts, quiet-text, text-step}
+use Rattle.rb_listen.specs.Listening as now
+use Rattle.rb_listen.specs.declared.listener.Stage.TheVariants as stage
 
 -- the ticks that the listener has had are those of its stage
 had-in : (st : Stage) (s : Search) (n : Running) (l : Listening) → IsListeningIn st s n l → had_by l ≡ had_in st s n

@@ -1,15 +1,8 @@
 -- Quiet ticks print nothing.
-use Rattle.std.proofs.Common.{◌≡◌, ℕ, zero, suc, ◌+◌, ◌-◌, ◌<◌, ◌≤◌, ◌^◌, ◌==◌, Bool, true, false, refl, ap, sym, ◌∙◌, subst, arith, Option, Some, unwrap_or, List, ◌∷◌, ◌++◌, append_assoc}
-use Rattle.std.proofs.Math.ListN.{replicate}
-use Rattle.std.proofs.lemmas.Bool.Decides.{nat_tests}
+use Rattle.std.proofs.{Common.{◌≡◌, ℕ, zero, suc, ◌+◌, ◌-◌, ◌<◌, ◌≤◌, ◌^◌, ◌==◌, Bool, true, false, refl, ap, sym, ◌∙◌, subst, arith, Option, Some, unwrap_or, List, ◌∷◌, ◌++◌, append_assoc}, Math.ListN.replicate, lemmas.Bool.Decides.nat_tests}
 use Rattle.std.specs.List.{flat_map}
-use Rattle.rb_base.specs.Nodes.{Side}
-use Rattle.rb_base.specs.Sizes.{Sizes}
-use Rattle.rb_base.specs.declared.node.NodeName.{NodeName}
-use Rattle.rb_rules.specs.declared.plan.Plan.{Plan}
-use Rattle.rb_rules.specs.Core.{Act, Core, CoreEvent, acts_of, busy_among, is_busy, tick, ticks}
-use Rattle.rb_rules.specs.Core.CoreEvent.{Tick}
-use Rattle.rb_rules.specs.NodeState.{NodeState}
+use Rattle.rb_base.specs.{Nodes.Side, Sizes.Sizes, declared.node.NodeName.NodeName}
+use Rattle.rb_rules.specs.{declared.plan.Plan.Plan, Core.{Act, Core, CoreEvent, acts_of, busy_among, is_busy, tick, ticks}, Core.CoreEvent.Tick, NodeState.NodeState}
 use Rattle.rb_rules.proofs.QuietTicks.{IsQuiet, nothing, quiet-from, quiet-tick}
 use Rattle.rb_report.specs.Report.{end_text}
 use Rattle.rb_laws_logs.specs.Replays.{act_lines, frames_in, frames_with}

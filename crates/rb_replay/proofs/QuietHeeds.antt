@@ -1,27 +1,13 @@
 -- The text of what is told at ticks, one after another, and how many frames begin.
-use Rattle.std.proofs.Common.{◌≡◌, ℕ, zero, suc, ◌+◌, ◌-◌, ◌<◌, ◌≤◌, ◌^◌, ◌==◌, nat_lt, Bool, true, false, refl, ap, ◌∙◌, subst, arith, lit≤, Option, Some, None, List, ◌∷◌, ◌++◌, append_assoc}
-use Rattle.std.proofs.Math.ListN.{replicate}
-use Rattle.std.proofs.lemmas.Bool.Decides.{nat_tests}
+use Rattle.std.proofs.{Common.{◌≡◌, ℕ, zero, suc, ◌+◌, ◌-◌, ◌<◌, ◌≤◌, ◌^◌, ◌==◌, nat_lt, Bool, true, false, refl, ap, ◌∙◌, subst, arith, lit≤, Option, Some, None, List, ◌∷◌, ◌++◌, append_assoc}, Math.ListN.replicate, lemmas.Bool.Decides.nat_tests}
 use Rattle.std.specs.List.{flat_map}
-use Rattle.rb_base.specs.Nodes.Side.{Biu}
-use Rattle.rb_base.specs.Sizes.{Sizes}
-use Rattle.rb_base.specs.declared.node.NodeName.{NodeName}
-use Rattle.rb_rules.specs.declared.plan.Plan.{Plan}
-use Rattle.rb_rules.specs.declared.record.Epoch.{Epoch}
-use Rattle.rb_rules.specs.Core.{Act, Core, CoreEvent, act_on, is_spent, state_at}
-use Rattle.rb_rules.specs.Core.CoreEvent.{Tick}
-use Rattle.rb_rules.specs.NodeState.{NodeState}
+use Rattle.rb_base.specs.{Nodes.Side.Biu, Sizes.Sizes, declared.node.NodeName.NodeName}
+use Rattle.rb_rules.specs.{declared.plan.Plan.Plan, declared.record.Epoch.Epoch, Core.{Act, Core, CoreEvent, act_on, is_spent, state_at}, Core.CoreEvent.Tick, NodeState.NodeState}
 use Rattle.rb_report.specs.Report.{end_text}
-use Rattle.rb_listen.specs.Following.{follow}
-use Rattle.rb_listen.specs.Lessons.{first_of}
-use Rattle.rb_listen.specs.Listening.{Heeding, Listening, TellNothing, decided, first_core, followed, had_by, heed, heeds, if_after, is_deciding, is_over, later, no_heed, search_on, told_of, untold, wait_on}
-use Rattle.rb_listen.specs.Listening as now
-use Rattle.rb_listen.specs.declared.heed.Heed.{Heed}
-use Rattle.rb_listen.specs.declared.lesson.First.{First}
-use Rattle.rb_listen.specs.declared.search.Search.{Search}
-use Rattle.rb_replay.specs.ListeningOn.{text_after}
-use Rattle.rb_replay.specs.Overhearing.{begun_in, begun_with, heed_lines}
+use Rattle.rb_listen.specs.{Following.follow, Lessons.first_of, Listening.{Heeding, Listening, TellNothing, decided, first_core, followed, had_by, heed, heeds, if_after, is_deciding, is_over, later, no_heed, search_on, told_of, untold, wait_on}, declared.heed.Heed.Heed, declared.lesson.First.First, declared.search.Search.Search}
+use Rattle.rb_replay.specs.{ListeningOn.text_after, Overhearing.{begun_in, begun_with, heed_lines}}
 use Rattle.rb_replay.proofs.ActsDue.{act-had}
+use Rattle.rb_listen.specs.Listening as now
 
 -- The text.
 

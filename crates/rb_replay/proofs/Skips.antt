@@ -1,8 +1,6 @@
 -- What is dropped in front of a tick.
-use Rattle.std.proofs.Common.{◌≡◌, ℕ, zero, suc, ◌-◌, ◌≤◌, refl, ap, ◌∙◌, arith, List, [], ◌∷◌, ◌++◌}
-use Rattle.std.proofs.Math.ListN.{replicate}
-use Rattle.rb_rules.specs.Core.{CoreEvent}
-use Rattle.rb_rules.specs.Core.CoreEvent.{Tick, Arrive}
+use Rattle.std.proofs.{Common.{◌≡◌, ℕ, zero, suc, ◌-◌, ◌≤◌, refl, ap, ◌∙◌, arith, List, [], ◌∷◌, ◌++◌}, Math.ListN.replicate}
+use Rattle.rb_rules.specs.{Core.CoreEvent, Core.CoreEvent.{Tick, Arrive}}
 use Rattle.rb_replay.specs.Overhearing.{from_tick}
 
 -- ticks are counted

@@ -1,6 +1,5 @@
 -- A text that is written part by part.
-use Rattle.std.specs.Prelude.{ℕ, ◌≡◌, Option, List, ◌++◌, Result, IfOk, OnErr}
-use Rattle.std.specs.Io.KnownBytes.{Appends}
+use Rattle.std.specs.{Prelude.{ℕ, ◌≡◌, Option, List, ◌++◌, Result, IfOk, OnErr}, Io.KnownBytes.Appends}
 use Rattle.rb_outside.specs.Bytes.{AppendsPart}
 
 -- a first part of the text that was due was appended, and the rest is still due

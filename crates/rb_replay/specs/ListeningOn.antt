@@ -1,13 +1,10 @@
 -- A log that is listened to, as that goes on.
-use Rattle.std.specs.Prelude.{ℕ, ◌+◌, ◌-◌, ◌^◌, ◌≡◌, ◌≤◌, List, ◌++◌, Option, Result, IfOk}
-use Rattle.std.specs.List.{flat_map}
+use Rattle.std.specs.{Prelude.{ℕ, ◌+◌, ◌-◌, ◌^◌, ◌≡◌, ◌≤◌, List, ◌++◌, Option, Result, IfOk}, List.flat_map}
 use Rattle.rb_base.specs.declared.node.NodeName.{NodeName}
 use Rattle.rb_rules.specs.Core.{CoreEvent}
 use Rattle.rb_outside.specs.Writing.{Writes}
 use Rattle.rb_report.specs.Report.{end_text}
-use Rattle.rb_listen.specs.Listeners.{Hearer, IsListening}
-use Rattle.rb_listen.specs.Listening.{Heeding, Listening, had_by, told_of}
-use Rattle.rb_listen.specs.declared.heed.Heed.{Heed}
+use Rattle.rb_listen.specs.{Listeners.{Hearer, IsListening}, Listening.{Heeding, Listening, had_by, told_of}, declared.heed.Heed.Heed}
 use Rattle.rb_replay.specs.Overhearing.{begun_in, begun_with, heed_lines}
 
 -- the text of what is still to be told, if `begun` frames have begun

@@ -1,18 +1,11 @@
 -- What a listener tells of a log: the log of a BIU is given to it from some tick on.
-use Rattle.std.specs.Prelude.{ℕ, zero, suc, ◌+◌, ◌-◌, Bool, true, false, Option, Some, None, List, [], ◌∷◌, ◌++◌}
-use Rattle.std.specs.List.{flat_map}
-use Rattle.rb_base.specs.Sizes.{Sizes}
-use Rattle.rb_base.specs.declared.node.NodeName.{NodeName}
-use Rattle.rb_base.specs.declared.node.NodeName.TheVariants as node
-use Rattle.rb_rules.specs.declared.plan.Plan.{Plan}
-use Rattle.rb_rules.specs.declared.record.Epoch.{Epoch}
-use Rattle.rb_rules.specs.Core.{CoreEvent}
-use Rattle.rb_rules.specs.Core.CoreEvent.{Tick, Arrive}
+use Rattle.std.specs.{Prelude.{ℕ, zero, suc, ◌+◌, ◌-◌, Bool, true, false, Option, Some, None, List, [], ◌∷◌, ◌++◌}, List.flat_map}
+use Rattle.rb_base.specs.{Sizes.Sizes, declared.node.NodeName.NodeName}
+use Rattle.rb_rules.specs.{declared.plan.Plan.Plan, declared.record.Epoch.Epoch, Core.CoreEvent, Core.CoreEvent.{Tick, Arrive}}
 use Rattle.rb_report.specs.Report.{end_text}
 use Rattle.rb_laws_logs.specs.Replays.{delivery_lines, epoch_lines}
-use Rattle.rb_listen.specs.Listening.{first_search, told_of}
-use Rattle.rb_listen.specs.Listening.Listening.{Searching}
-use Rattle.rb_listen.specs.declared.heed.Heed.{Heed}
+use Rattle.rb_listen.specs.{Listening.{first_search, told_of}, Listening.Listening.Searching, declared.heed.Heed.Heed}
+use Rattle.rb_base.specs.declared.node.NodeName.TheVariants as node
 
 -- the events from a tick on, by its number among the ticks of the log. What arrives before that
 -- tick is dropped too

@@ -1,8 +1,6 @@
 -- A replay as it goes on.
-use Rattle.std.specs.Prelude.{ℕ, ◌+◌, ◌≡◌, ◌≤◌, List, ◌++◌, Option, Result, IfOk}
-use Rattle.std.specs.List.{flat_map}
-use Rattle.rb_base.specs.Nodes.{Side}
-use Rattle.rb_base.specs.declared.node.NodeName.{NodeName}
+use Rattle.std.specs.{Prelude.{ℕ, ◌+◌, ◌≡◌, ◌≤◌, List, ◌++◌, Option, Result, IfOk}, List.flat_map}
+use Rattle.rb_base.specs.{Nodes.Side, declared.node.NodeName.NodeName}
 use Rattle.rb_rules.specs.Core.{Act, Core, CoreEvent, acts_of}
 use Rattle.rb_node.specs.Cores.{IsCore, Running}
 use Rattle.rb_report.specs.Report.{end_text}

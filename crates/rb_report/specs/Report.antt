@@ -1,15 +1,7 @@
 -- The lines of a report, as bytes.
-use Rattle.std.specs.Prelude.{ℕ, ℤ, ◌≡◌, ◌≢◌, ◌-◌, ◌/◌, ◌%◌, ◌≤◌, Bool, true, false, List, [], ◌∷◌, ◌++◌, length, slice_index_or, Option, Some, None, is_some, codes, if◌then◌else◌}
-use Rattle.std.specs.Char.{digit_char}
-use Rattle.std.specs.Fmt.{decimal, signed_decimal}
-use Rattle.std.specs.List.{flat_map}
-use Rattle.rb_base.specs.declared.node.NodeName.{NodeName}
-use Rattle.rb_base.specs.declared.node.NodeName.TheVariants.{Biu, Rmu}
-use Rattle.rb_base.specs.declared.values.Heard.{Heard}
-use Rattle.rb_base.specs.declared.values.Heard.TheVariants.{Word, Fault}
-use Rattle.rb_base.specs.declared.values.Place.{Place}
-use Rattle.rb_rules.specs.declared.cause.Cause.{Cause}
-use Rattle.rb_rules.specs.declared.cause.Cause.TheVariants.{FewGoodBiu, FewGoodRmu, TwoSided}
+use Rattle.std.specs.{Prelude.{ℕ, ℤ, ◌≡◌, ◌≢◌, ◌-◌, ◌/◌, ◌%◌, ◌≤◌, Bool, true, false, List, [], ◌∷◌, ◌++◌, length, slice_index_or, Option, Some, None, is_some, codes, if◌then◌else◌}, Char.digit_char, Fmt.{decimal, signed_decimal}, List.flat_map}
+use Rattle.rb_base.specs.{declared.node.NodeName.NodeName, declared.node.NodeName.TheVariants.{Biu, Rmu}, declared.values.Heard.Heard, declared.values.Heard.TheVariants.{Word, Fault}, declared.values.Place.Place}
+use Rattle.rb_rules.specs.{declared.cause.Cause.Cause, declared.cause.Cause.TheVariants.{FewGoodBiu, FewGoodRmu, TwoSided}}
 
 -- one field more, after a space
 abbrev pub with_field : List ℕ → List ℕ → List ℕ

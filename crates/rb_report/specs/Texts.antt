@@ -1,11 +1,6 @@
 -- The report of a run: the text of its records.
-use Rattle.std.specs.Prelude.{ℕ, List, [], ◌∷◌, ◌++◌, Some}
-use Rattle.std.specs.List.{flat_map}
-use Rattle.rb_rules.specs.declared.record.NodeLine.{NodeLine}
-use Rattle.rb_rules.specs.declared.record.PortLine.{PortLine}
-use Rattle.rb_rules.specs.declared.record.SlotLine.{SlotLine}
-use Rattle.rb_rules.specs.Book.{Record}
-use Rattle.rb_rules.specs.Book.Record.{Frame, Slot, Ended, Breach}
+use Rattle.std.specs.{Prelude.{ℕ, List, [], ◌∷◌, ◌++◌, Some}, List.flat_map}
+use Rattle.rb_rules.specs.{declared.record.NodeLine.NodeLine, declared.record.PortLine.PortLine, declared.record.SlotLine.SlotLine, Book.Record, Book.Record.{Frame, Slot, Ended, Breach}}
 use Rattle.rb_report.specs.Report.{epoch_text, convicted_text, port_text, delivery_text, end_text, breach_text}
 
 -- the block of a frame: the first tick of each node, then whom each holds convicted, then the ports

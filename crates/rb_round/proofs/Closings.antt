@@ -1,14 +1,8 @@
 -- The close of a stage, and mismatch accusations.
 use Rattle.std.proofs.Common.{◌≡◌, ℕ, ◌<◌, Bool, Option, None, List, [], replicate, refl, sym, ◌∙◌, ap}
-use Rattle.rb_base.specs.declared.values.Heard.TheVariants.{Fault}
+use Rattle.rb_base.specs.{declared.values.Heard.TheVariants.Fault, declared.values.Heard.Heard}
 use Rattle.rb_rules.proofs.ExactStages.{same_each_node}
-use Rattle.rb_base.specs.declared.values.Heard.{Heard}
-use Rattle.rb_rules.specs.Majority.{majority_of}
-use Rattle.rb_rules.specs.ExactStage.{closing_of, each_node, present}
-use Rattle.rb_rules.specs.declared.closing.Closing.{Closing}
-use Rattle.rb_rules.specs.declared.sense.Sense.{Sense}
-use Rattle.rb_rules.specs.Sense.{value_in}
-use Rattle.rb_rules.specs.Standing.{Standing, taken_of}
+use Rattle.rb_rules.specs.{Majority.majority_of, ExactStage.{closing_of, each_node, present}, declared.closing.Closing.Closing, declared.sense.Sense.Sense, Sense.value_in, Standing.{Standing, taken_of}}
 
 -- the close is what was taken from all sources, and the vote over it
 pub closing_is : (s : Standing) (expected : ℕ → Bool) (sense : ℕ → Sense) (taken : List (Option Heard)) (values : List Heard) (voted : Heard)

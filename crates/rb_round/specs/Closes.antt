@@ -1,10 +1,7 @@
 -- What the close of a stage gives, whatever list of arrivals the inbox stands for.
 use Rattle.std.specs.Prelude.{ℕ, ◌≡◌, List}
 use Rattle.rb_base.specs.Nodes.{has}
-use Rattle.rb_rules.specs.declared.closing.Closing.{Closing}
-use Rattle.rb_rules.specs.declared.sense.Expect.{Expect}
-use Rattle.rb_rules.specs.ExactStage.{closing_of}
-use Rattle.rb_rules.specs.Standing.{Standing}
+use Rattle.rb_rules.specs.{declared.closing.Closing.Closing, declared.sense.Expect.Expect, ExactStage.closing_of, Standing.Standing}
 use Rattle.rb_eligible.specs.Inboxes.{HoldsArrivals, KeptArrivals, Received, sense_in}
 
 -- the closing of what came

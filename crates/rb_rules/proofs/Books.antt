@@ -1,21 +1,8 @@
 -- Records are only added to a book, and none after its last. So a run that stops there has all
 -- records.
-use Rattle.std.proofs.Common.{◌≡◌, ℕ, zero, suc, ◌+◌, ◌-◌, ◌≤◌, ◌==◌, Bool, true, false, List, [], ◌∷◌, ◌++◌, length, append_assoc, refl, sym, ◌∙◌, ap, arith, Option, Some, None, nat_lt, if◌then◌else◌}
-use Rattle.std.proofs.Math.Nat.{add-sub_of_le}
-use Rattle.std.proofs.lemmas.List.{append-nil}
-use Rattle.std.proofs.lemmas.Option.{slice_get_past}
-use Rattle.rb_base.specs.Sizes.{Sizes}
-use Rattle.rb_base.specs.declared.values.Place.{Place}
-use Rattle.rb_rules.specs.declared.cause.Cause.{Cause}
-use Rattle.rb_rules.specs.declared.plan.Window.{Window}
-use Rattle.rb_rules.specs.Book.{Each, Record, Row, Begun, Book, judged_of, after_verdict, with_stage, frame_records, with_frame, with_end}
-use Rattle.rb_rules.specs.Book.Record.{Ended}
-use Rattle.rb_rules.specs.Book.Milestone.{Stage, End}
-use Rattle.rb_rules.specs.Goodness.{Scenario}
-use Rattle.rb_rules.specs.Judging.{JudgedStage, verdict_of}
-use Rattle.rb_rules.specs.Ports.{HandIn}
-use Rattle.rb_rules.specs.Rounds.{Moment, Result, results_of, book_after, after_window, begin_frame, next_frame, first_moment, step, moment, until_end, steps_of, windows_in, records_of}
-use Rattle.rb_rules.specs.WorldStep.{IsPrefix, World, record_since}
+use Rattle.std.proofs.{Common.{◌≡◌, ℕ, zero, suc, ◌+◌, ◌-◌, ◌≤◌, ◌==◌, Bool, true, false, List, [], ◌∷◌, ◌++◌, length, append_assoc, refl, sym, ◌∙◌, ap, arith, Option, Some, None, nat_lt, if◌then◌else◌}, Math.Nat.add-sub_of_le, lemmas.List.append-nil, lemmas.Option.slice_get_past}
+use Rattle.rb_base.specs.{Sizes.Sizes, declared.values.Place.Place}
+use Rattle.rb_rules.specs.{declared.cause.Cause.Cause, declared.plan.Window.Window, Book.{Each, Record, Row, Begun, Book, judged_of, after_verdict, with_stage, frame_records, with_frame, with_end}, Book.Record.Ended, Book.Milestone.{Stage, End}, Goodness.Scenario, Judging.{JudgedStage, verdict_of}, Ports.HandIn, Rounds.{Moment, Result, results_of, book_after, after_window, begin_frame, next_frame, first_moment, step, moment, until_end, steps_of, windows_in, records_of}, WorldStep.{IsPrefix, World, record_since}}
 
 pub prefix-refl : (xs : List Record) → IsPrefix xs xs
 prefix-refl xs = ([], sym (append-nil xs))

@@ -1,10 +1,7 @@
 -- For the laws of agreement: who is convicted, and who is not.
-use Rattle.std.proofs.Common.{◌≡◌, ℕ, ◌<◌, ◌≤◌, true, false, ◌&&◌, nat_lt, ◌∙◌, ap, arith}
-use Rattle.std.proofs.lemmas.Bool.Decides.{nat_tests}
-use Rattle.rb_base.specs.Nodes.{has}
-use Rattle.rb_base.proofs.Sets.{has-set_of}
-use Rattle.rb_base.specs.declared.values.Heard.{Heard}
-use Rattle.rb_base.proofs.Plain.{and-false}
+use Rattle.std.proofs.{Common.{◌≡◌, ℕ, ◌<◌, ◌≤◌, true, false, ◌&&◌, nat_lt, ◌∙◌, ap, arith}, lemmas.Bool.Decides.nat_tests}
+use Rattle.rb_base.specs.{Nodes.has, declared.values.Heard.Heard}
+use Rattle.rb_base.proofs.{Sets.has-set_of, Plain.and-false}
 use Rattle.rb_rules.specs.Conviction.{naming, sparing, convicted_by}
 
 -- a node below 16 is convicted by the test that the definition names

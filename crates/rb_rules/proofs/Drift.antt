@@ -1,6 +1,5 @@
 -- How the time of a clock grows.
-use Rattle.std.proofs.Common.{◌≡◌, ℕ, zero, suc, ◌+◌, ◌-◌, ◌*◌, ◌<◌, ◌≤◌, Bool, true, false, List, [], ◌∷◌, refl, arith, inl, inr, nat_le, ◌&&◌, ◌==◌, if◌then◌else◌}
-use Rattle.std.proofs.lemmas.Bool.{cases_lt, and_parts, leb-true, eqb-true, le-leb}
+use Rattle.std.proofs.{Common.{◌≡◌, ℕ, zero, suc, ◌+◌, ◌-◌, ◌*◌, ◌<◌, ◌≤◌, Bool, true, false, List, [], ◌∷◌, refl, arith, inl, inr, nat_le, ◌&&◌, ◌==◌, if◌then◌else◌}, lemmas.Bool.{cases_lt, and_parts, leb-true, eqb-true, le-leb}}
 use Rattle.rb_rules.specs.Clock.{Timeline, length_after, time_of, tick_length, IsStamp, IsClock, are_rising, are_within, rise_above}
 use Rattle.rb_rules.proofs.Stamps.{Moves, stamp_le}
 

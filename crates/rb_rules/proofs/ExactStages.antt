@@ -1,18 +1,8 @@
 -- Idle slots, and closes that differ only in how it is said who is expected.
 use Rattle.std.proofs.Common.{◌≡◌, ℕ, zero, suc, ◌+◌, ◌<◌, arith, Bool, true, false, ◌&&◌, ◌||◌, if◌then◌else◌, Option, None, List, [], ◌∷◌, map, refl, ap}
 use Rattle.std.specs.List.{range_with_len}
-use Rattle.rb_base.specs.Counting.{numbers}
-use Rattle.rb_base.specs.Nodes.{Side, has, set_of}
-use Rattle.rb_base.specs.declared.values.Heard.TheVariants.{Fault}
-use Rattle.rb_rules.specs.declared.role.Role.{Role}
-use Rattle.rb_rules.specs.declared.sense.Sense.{Sense}
-use Rattle.rb_rules.specs.Majority.{majority_of}
-use Rattle.rb_rules.specs.NodeState.{NodeState}
-use Rattle.rb_rules.specs.ExactStage.{present, each_node, closing_of, says_of}
-use Rattle.rb_rules.specs.Sense.{value_in}
-use Rattle.rb_rules.specs.Slots.{listens, expects}
-use Rattle.rb_rules.specs.Slots.Sender.{Nobody}
-use Rattle.rb_rules.specs.Standing.{Standing, is_eligible, taken_of, does_wrong, has_evidence, with_evidence}
+use Rattle.rb_base.specs.{Counting.numbers, Nodes.{Side, has, set_of}, declared.values.Heard.TheVariants.Fault}
+use Rattle.rb_rules.specs.{declared.role.Role.Role, declared.sense.Sense.Sense, Majority.majority_of, NodeState.NodeState, ExactStage.{present, each_node, closing_of, says_of}, Sense.value_in, Slots.{listens, expects}, Slots.Sender.Nobody, Standing.{Standing, is_eligible, taken_of, does_wrong, has_evidence, with_evidence}}
 use Rattle.rb_base.proofs.Sets.{has-set_of, same_set_of}
 use Rattle.rb_rules.proofs.Standings.{unexpected_not_taken}
 

@@ -1,15 +1,8 @@
 -- What the number of the first inequality that fails says of the seven.
-use Rattle.std.proofs.Common.{◌≡◌, ◌↔◌, ℕ, suc, ◌-◌, ◌<◌, ◌≤◌, Bool, true, false, Option, Some, None, List, length, get_or, refl, ap, arith, inl, inr, nat_lt}
-use Rattle.std.specs.Prelude.{ℤ, pos, ◌≤ℤ◌, ◌<ℤ◌, int_lt, position, option_map}
-use Rattle.std.specs.List.{position_or_len}
-use Rattle.std.proofs.lemmas.Bool.{cases_lt, lt-ltb, le-ltb}
-use Rattle.std.proofs.lemmas.Int.{ints}
-use Rattle.std.proofs.lemmas.List.Sums.{position_or_len_is, fails_before_first}
-use Rattle.std.proofs.lemmas.List.Quantifiers.{position-Some}
-use Rattle.std.proofs.lemmas.Option.{slice_get-get_or}
+use Rattle.std.proofs.{Common.{◌≡◌, ◌↔◌, ℕ, suc, ◌-◌, ◌<◌, ◌≤◌, Bool, true, false, Option, Some, None, List, length, get_or, refl, ap, arith, inl, inr, nat_lt}, lemmas.Bool.{cases_lt, lt-ltb, le-ltb}, lemmas.Int.ints, lemmas.List.Sums.{position_or_len_is, fails_before_first}, lemmas.List.Quantifiers.position-Some, lemmas.Option.slice_get-get_or}
+use Rattle.std.specs.{Prelude.{ℤ, pos, ◌≤ℤ◌, ◌<ℤ◌, int_lt, position, option_map}, List.position_or_len}
 use Rattle.rb_base.specs.Sizes.{Sizes}
-use Rattle.rb_rules.specs.declared.plan.Plan.{Plan}
-use Rattle.rb_rules.specs.Plan.{Sides, inequalities_of, sides_of, first_failing, IsFeasible}
+use Rattle.rb_rules.specs.{declared.plan.Plan.Plan, Plan.{Sides, inequalities_of, sides_of, first_failing, IsFeasible}}
 
 -- ---- the first item that passes
 

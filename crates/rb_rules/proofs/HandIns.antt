@@ -1,11 +1,7 @@
 -- A hand-in changes no moment before its frame, and no record of its frame's start.
 use Rattle.std.proofs.Common.{◌≡◌, ℕ, zero, suc, ◌+◌, ◌<◌, ◌≤◌, ◌==◌, nat_lt, Bool, true, false, List, [], ◌∷◌, ◌++◌, refl, ◌∙◌, ap, arith, if◌then◌else◌}
 use Rattle.rb_base.proofs.Plain.{more-differs}
-use Rattle.rb_rules.specs.Book.{Each, Book, with_end}
-use Rattle.rb_rules.specs.Goodness.{Scenario}
-use Rattle.rb_rules.specs.NodeState.{NodeState}
-use Rattle.rb_rules.specs.Ports.{PortState, HandIn, with_state, hand_over}
-use Rattle.rb_rules.specs.Rounds.{Moment, after_window, begin_frame, next_frame, step, moment, windows_in}
+use Rattle.rb_rules.specs.{Book.{Each, Book, with_end}, Goodness.Scenario, NodeState.NodeState, Ports.{PortState, HandIn, with_state, hand_over}, Rounds.{Moment, after_window, begin_frame, next_frame, step, moment, windows_in}}
 use Rattle.rb_rules.proofs.Books.{stepped}
 
 handed-more : (frame : ℕ) (hands : List HandIn) (h : HandIn) (ports : List PortState) → (h.frame == frame) ≡ false

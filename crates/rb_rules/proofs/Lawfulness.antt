@@ -1,15 +1,8 @@
 -- When an entry's offset lies in each of its windows.
-use Rattle.std.proofs.Common.{◌≡◌, ◌⊎◌, ℕ, zero, suc, ◌+◌, ◌*◌, ◌-◌, ◌<◌, ◌≤◌, ◌&&◌, ◌==◌, nat_le, nat_lt, Bool, true, false, cond, refl, ap, ◌∙◌, subst, inl, inr, arith}
+use Rattle.std.proofs.{Common.{◌≡◌, ◌⊎◌, ℕ, zero, suc, ◌+◌, ◌*◌, ◌-◌, ◌<◌, ◌≤◌, ◌&&◌, ◌==◌, nat_le, nat_lt, Bool, true, false, cond, refl, ap, ◌∙◌, subst, inl, inr, arith}, Math.IntN.negsuc-*ℤ-pos, lemmas.Bool.{and_parts, cases_lt, cond_both, leb-true, ltb-false, ltb-true}, lemmas.Int.ints}
 use Rattle.std.specs.Prelude.{pos, negsuc, neg_ℤ, ◌-ℤ◌, ◌*ℤ◌, ◌≤ℤ◌}
-use Rattle.std.proofs.Math.IntN.{negsuc-*ℤ-pos}
-use Rattle.std.proofs.lemmas.Bool.{and_parts, cases_lt, cond_both, leb-true, ltb-false, ltb-true}
-use Rattle.std.proofs.lemmas.Int.{ints}
-use Rattle.rb_base.specs.Sizes.{Sizes, sync_slot_of}
-use Rattle.rb_base.specs.declared.values.Place.{Place}
-use Rattle.rb_rules.specs.declared.plan.Plan.{Plan}
-use Rattle.rb_rules.specs.Lawful.{IsRangeIn, ticks_at, ticks_in_sync}
-use Rattle.rb_rules.specs.Links.{covers, is_in_range}
-use Rattle.rb_rules.specs.Plan.{IsFeasible, IsPlan, Sides, drift_in, longest_of, shortest_of, skew_of}
+use Rattle.rb_base.specs.{Sizes.{Sizes, sync_slot_of}, declared.values.Place.Place}
+use Rattle.rb_rules.specs.{declared.plan.Plan.Plan, Lawful.{IsRangeIn, ticks_at, ticks_in_sync}, Links.{covers, is_in_range}, Plan.{IsFeasible, IsPlan, Sides, drift_in, longest_of, shortest_of, skew_of}}
 
 -- a number of a range lies between its ends
 within_bounds : (range : ℕ × ℕ) (n : ℕ) → is_in_range range n ≡ true → (range.0 ≤ n) × (n ≤ range.1)

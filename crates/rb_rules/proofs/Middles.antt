@@ -1,12 +1,6 @@
 -- The middle by place and by counts is one, and what is known of it.
-use Rattle.std.proofs.Common.{◌≡◌, ◌≢◌, ℕ, ◌+◌, ◌-◌, ◌/◌, ◌<◌, ◌≤◌, Bool, true, false, cond, not, List, [], ◌∷◌, length, map, nat_lt, nat_le, get_or, refl, sym, ◌∙◌, ap, subst, arith, Some, None, inl, inr}
-use Rattle.std.specs.Prelude.{All, IsPermutation}
-use Rattle.std.specs.List.{AllZip}
-use Rattle.std.proofs.lemmas.Bool.{cases_lt, le-leb, leb-true, lt-leb, lt-ltb, ltb-true}
-use Rattle.std.proofs.lemmas.List.{length-map}
-use Rattle.std.proofs.lemmas.List.Elements.{All-head, All-tail, All-from_get_or, length_all_zip}
-use Rattle.std.proofs.lemmas.List.Sorted.{sum_by-IsPermutation, length_permutation}
-use Rattle.std.proofs.lemmas.Option.{slice_get-get_or}
+use Rattle.std.proofs.{Common.{◌≡◌, ◌≢◌, ℕ, ◌+◌, ◌-◌, ◌/◌, ◌<◌, ◌≤◌, Bool, true, false, cond, not, List, [], ◌∷◌, length, map, nat_lt, nat_le, get_or, refl, sym, ◌∙◌, ap, subst, arith, Some, None, inl, inr}, lemmas.Bool.{cases_lt, le-leb, leb-true, lt-leb, lt-ltb, ltb-true}, lemmas.List.length-map, lemmas.List.Elements.{All-head, All-tail, All-from_get_or, length_all_zip}, lemmas.List.Sorted.{sum_by-IsPermutation, length_permutation}, lemmas.Option.slice_get-get_or}
+use Rattle.std.specs.{Prelude.{All, IsPermutation}, List.AllZip}
 use Rattle.rb_base.specs.Counting.{count_if}
 use Rattle.rb_rules.specs.Middle.{ascending, middle_of, below, up_to, IsMiddle}
 use Rattle.rb_base.proofs.Counts.{once, count_if-map, count_if-le, count_if-not, count_if-count_by}

@@ -1,13 +1,9 @@
 -- The counters of a standing keep the frame of the newest evidence against each node that is
 -- accused directly.
-use Rattle.std.proofs.Common.{◌≡◌, ℕ, ◌+◌, ◌-◌, ◌<◌, ◌≤◌, min, Bool, true, false, not, ◌&&◌, ◌||◌, nat_le, slice_index, if◌then◌else◌, refl, sym, ◌∙◌, ap, arith, zero-add}
-use Rattle.std.proofs.lemmas.Bool.Decides.{nat_tests}
-use Rattle.std.proofs.lemmas.List.FromFn.{get_or-map-range_with_len}
+use Rattle.std.proofs.{Common.{◌≡◌, ℕ, ◌+◌, ◌-◌, ◌<◌, ◌≤◌, min, Bool, true, false, not, ◌&&◌, ◌||◌, nat_le, slice_index, if◌then◌else◌, refl, sym, ◌∙◌, ap, arith, zero-add}, lemmas.Bool.Decides.nat_tests, lemmas.List.FromFn.get_or-map-range_with_len}
 use Rattle.rb_base.specs.Nodes.{has}
-use Rattle.rb_base.proofs.Plain.{or-false, or-true}
-use Rattle.rb_base.proofs.Sets.{has-set_of, has_none}
-use Rattle.rb_rules.specs.Probation.{has_lapsed, newest_with, StandsForNewest, HasNewest, LapsesByFrames}
-use Rattle.rb_rules.specs.Standing.{Standing, calm_after, first_standing, lapses, next_calm, standing_at_end, with_evidence}
+use Rattle.rb_base.proofs.{Plain.{or-false, or-true}, Sets.{has-set_of, has_none}}
+use Rattle.rb_rules.specs.{Probation.{has_lapsed, newest_with, StandsForNewest, HasNewest, LapsesByFrames}, Standing.{Standing, calm_after, first_standing, lapses, next_calm, standing_at_end, with_evidence}}
 
 -- at first nobody is accused
 pub nobody_is_accused : (count : ℕ) (newest : ℕ → ℕ) → HasNewest (first_standing count) 0 newest

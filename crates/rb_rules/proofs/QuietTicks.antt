@@ -1,19 +1,8 @@
 -- Quiet ticks are only counted, and arrivals do not change which ticks are quiet.
-use Rattle.std.proofs.Common.{◌≡◌, ℕ, zero, suc, ◌+◌, ◌-◌, ◌^◌, ◌<◌, ◌≤◌, ◌==◌, ◌||◌, ◌&&◌, not, nat_lt, Bool, true, false, List, [], ◌∷◌, ◌++◌, refl, sym, ◌∙◌, ap, subst, arith, Option, Some, None, is_some}
-use Rattle.std.proofs.lemmas.Bool.{or_parts}
-use Rattle.std.proofs.lemmas.Bool.Decides.{nat_tests}
-use Rattle.rb_base.specs.Nodes.{Side, other}
-use Rattle.rb_base.specs.Sizes.{Sizes}
+use Rattle.std.proofs.{Common.{◌≡◌, ℕ, zero, suc, ◌+◌, ◌-◌, ◌^◌, ◌<◌, ◌≤◌, ◌==◌, ◌||◌, ◌&&◌, not, nat_lt, Bool, true, false, List, [], ◌∷◌, ◌++◌, refl, sym, ◌∙◌, ap, subst, arith, Option, Some, None, is_some}, lemmas.Bool.or_parts, lemmas.Bool.Decides.nat_tests}
+use Rattle.rb_base.specs.{Nodes.{Side, other}, Sizes.Sizes}
 use Rattle.rb_base.proofs.Plain.{none-from}
-use Rattle.rb_rules.specs.declared.plan.Plan.{Plan}
-use Rattle.rb_rules.specs.Conviction.{turn}
-use Rattle.rb_rules.specs.Core.{Core, Act, is_spent, arrive, is_tick, state_at, said_at, is_last, epoch_at, state_kept, act_on, act_at, window_here, of_source, tick, is_busy, busy_among, next_tick, ticks}
-use Rattle.rb_rules.specs.declared.record.Epoch.{Epoch}
-use Rattle.rb_rules.specs.ExactStage.{Outcome}
-use Rattle.rb_rules.specs.Hearing.{close_window, epoch_of}
-use Rattle.rb_rules.specs.NodeState.{NodeState}
-use Rattle.rb_rules.specs.Slots.{count_of}
-use Rattle.rb_rules.specs.SyncStage.{new_epoch_of}
+use Rattle.rb_rules.specs.{declared.plan.Plan.Plan, Conviction.turn, Core.{Core, Act, is_spent, arrive, is_tick, state_at, said_at, is_last, epoch_at, state_kept, act_on, act_at, window_here, of_source, tick, is_busy, busy_among, next_tick, ticks}, declared.record.Epoch.Epoch, ExactStage.Outcome, Hearing.{close_window, epoch_of}, NodeState.NodeState, Slots.count_of, SyncStage.new_epoch_of}
 
 -- what it means that tick k is quiet for a node in this state
 pub record IsQuiet (sizes : Sizes) (plan : Plan) (me : Side) (index : ℕ) (st : NodeState) (k : ℕ) : Type 0 where

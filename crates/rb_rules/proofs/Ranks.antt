@@ -1,7 +1,5 @@
 -- Which stamp stands at a place of the ascending list, by counts.
-use Rattle.std.proofs.Common.{◌≡◌, ℕ, zero, suc, ◌+◌, ◌<◌, ◌≤◌, Bool, true, false, cond, List, [], ◌∷◌, length, nat_lt, nat_le, get_or, refl, ◌∙◌, ap, arith, if◌then◌else◌}
-use Rattle.std.proofs.lemmas.Bool.{le-leb, leb-true, leb-false, lt-ltb, ltb-true, le-ltb}
-use Rattle.std.proofs.lemmas.Bool.Decides.{nat_tests}
+use Rattle.std.proofs.{Common.{◌≡◌, ℕ, zero, suc, ◌+◌, ◌<◌, ◌≤◌, Bool, true, false, cond, List, [], ◌∷◌, length, nat_lt, nat_le, get_or, refl, ◌∙◌, ap, arith, if◌then◌else◌}, lemmas.Bool.{le-leb, leb-true, leb-false, lt-ltb, ltb-true, le-ltb}, lemmas.Bool.Decides.nat_tests}
 use Rattle.rb_base.specs.Counting.{count_if}
 use Rattle.rb_rules.specs.Middle.{put, ascending, below, up_to}
 use Rattle.rb_base.proofs.Counts.{once, count_if-cons, count_if-le}

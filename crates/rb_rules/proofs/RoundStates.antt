@@ -1,32 +1,9 @@
 -- For the laws of runs: what the rounds keep of each node: its frame, its epoch, whom it trusts,
 -- and which middles it knows.
-use Rattle.std.proofs.Common.{◌≡◌, ℕ, zero, suc, ◌+◌, ◌-◌, ◌*◌, ◌/◌, ◌<◌, ◌≤◌, ◌==◌, ◌&&◌, nat_lt, nat_le, Bool, true, false, List, map, refl, subst, inl, inr, ◌%◌, sym, ◌∙◌, ap, arith, Option, Some, None, slice_get, option_map, is_some, if◌then◌else◌}
-use Rattle.std.proofs.lemmas.Bool.{cases_lt}
-use Rattle.std.proofs.lemmas.Bool.Decides.{nat_tests}
-use Rattle.rb_base.specs.Nodes.{Side}
-use Rattle.rb_base.specs.Nodes.Side.{Biu, Rmu}
-use Rattle.rb_base.specs.Sizes.{Sizes, sync_slot_of}
-use Rattle.rb_base.specs.declared.values.Heard.{Heard}
+use Rattle.std.proofs.{Common.{◌≡◌, ℕ, zero, suc, ◌+◌, ◌-◌, ◌*◌, ◌/◌, ◌<◌, ◌≤◌, ◌==◌, ◌&&◌, nat_lt, nat_le, Bool, true, false, List, map, refl, subst, inl, inr, ◌%◌, sym, ◌∙◌, ap, arith, Option, Some, None, slice_get, option_map, is_some, if◌then◌else◌}, lemmas.Bool.cases_lt, lemmas.Bool.Decides.nat_tests}
+use Rattle.rb_base.specs.{Nodes.Side, Nodes.Side.{Biu, Rmu}, Sizes.{Sizes, sync_slot_of}, declared.values.Heard.Heard}
 use Rattle.rb_base.proofs.Plain.{eq_self, less-differs}
-use Rattle.rb_rules.specs.declared.closing.Closing.{Closing}
-use Rattle.rb_rules.specs.declared.plan.Plan.{Plan}
-use Rattle.rb_rules.specs.declared.plan.Window.{Window}
-use Rattle.rb_rules.specs.declared.role.Role.TheVariants.{Sync}
-use Rattle.rb_rules.specs.declared.sense.Sense.{Sense}
-use Rattle.rb_rules.specs.Book.{Each, of_kind, map_each}
-use Rattle.rb_rules.specs.ExactStage.{Outcome, keep_sent, says, compare_with, close_exact, outcome_of}
-use Rattle.rb_rules.specs.Goodness.{Scenario, is_good, clock_of}
-use Rattle.rb_rules.specs.Hearing.{Coming, Sending, window_numbered, arrival_of, tail_at}
-use Rattle.rb_rules.specs.NodeState.{NodeState}
-use Rattle.rb_rules.specs.NodeSteps.{expect_of, close, turn_if_known}
-use Rattle.rb_rules.specs.Ports.{HandIn}
-use Rattle.rb_rules.specs.Rounds.{Moment, Result, window_in, word_for_window, sent_in, heard_at, close_on, go_through, results_of, after_window, begin_frame, next_frame, windows_in}
-use Rattle.rb_rules.specs.Sense.{sense_of}
-use Rattle.rb_rules.specs.Slots.{listens}
-use Rattle.rb_rules.specs.Standing.{Standing}
-use Rattle.rb_rules.specs.SyncStage.{close_sync, sync_outcome_of}
-use Rattle.rb_rules.specs.Plan.{tail_start_of}
-use Rattle.rb_rules.specs.Windows.{window_of, exact_window}
+use Rattle.rb_rules.specs.{declared.closing.Closing.Closing, declared.plan.Plan.Plan, declared.plan.Window.Window, declared.role.Role.TheVariants.Sync, declared.sense.Sense.Sense, Book.{Each, of_kind, map_each}, ExactStage.{Outcome, keep_sent, says, compare_with, close_exact, outcome_of}, Goodness.{Scenario, is_good, clock_of}, Hearing.{Coming, Sending, window_numbered, arrival_of, tail_at}, NodeState.NodeState, NodeSteps.{expect_of, close, turn_if_known}, Ports.HandIn, Rounds.{Moment, Result, window_in, word_for_window, sent_in, heard_at, close_on, go_through, results_of, after_window, begin_frame, next_frame, windows_in}, Sense.sense_of, Slots.listens, Standing.Standing, SyncStage.{close_sync, sync_outcome_of}, Plan.tail_start_of, Windows.{window_of, exact_window}}
 use Rattle.rb_rules.proofs.WindowNumbers.{get-each, exact-numbered, exact-slot, sync-numbered}
 
 -- after a window a node is in the state in which it has gone through it

@@ -1,22 +1,12 @@
 -- For the laws of agreement: what a good node sends is taken for what it is.
 use Rattle.std.specs.Prelude.{⊤}
 use Rattle.std.proofs.Common.{◌≡◌, ℕ, ◌%◌, ◌^◌, ◌<◌, ◌≤◌, ◌==◌, true, false, List, [], ◌∷◌, Some, if◌then◌else◌, refl, ◌∙◌, ap, arith}
-use Rattle.rb_base.specs.Sizes.{Sizes, sync_slot_of}
-use Rattle.rb_base.specs.declared.values.Heard.{Heard}
-use Rattle.rb_base.specs.declared.values.Heard.TheVariants as heard
+use Rattle.rb_base.specs.{Sizes.{Sizes, sync_slot_of}, declared.values.Heard.Heard}
 use Rattle.rb_base.proofs.Plain.{all_four, eq_self}
-use Rattle.rb_rules.specs.declared.message.Message.{Message}
-use Rattle.rb_rules.specs.declared.message.Tag.TheVariants as tag
-use Rattle.rb_rules.specs.declared.message.Version.{Version}
-use Rattle.rb_rules.specs.declared.sense.Expect.{Expect}
-use Rattle.rb_rules.specs.declared.sense.Sense.TheVariants.{One, Bad}
-use Rattle.rb_rules.specs.ExactStage.{message_of}
-use Rattle.rb_rules.specs.NodeState.{NodeState}
-use Rattle.rb_rules.specs.NodeSteps.{expect_of}
-use Rattle.rb_rules.specs.Sense.{tag_suits, suits, sense_of, sense_of_one, value_in}
-use Rattle.rb_rules.specs.SyncStage.{call_of}
-use Rattle.rb_rules.specs.Spelling.{IsMessage, Spells, spelling_of, message_in}
+use Rattle.rb_rules.specs.{declared.message.Message.Message, declared.message.Version.Version, declared.sense.Expect.Expect, declared.sense.Sense.TheVariants.{One, Bad}, ExactStage.message_of, NodeState.NodeState, NodeSteps.expect_of, Sense.{tag_suits, suits, sense_of, sense_of_one, value_in}, SyncStage.call_of, Spelling.{IsMessage, Spells, spelling_of, message_in}}
 use Rattle.rb_rules.proofs.Spellings.{spelled_is_read}
+use Rattle.rb_base.specs.declared.values.Heard.TheVariants as heard
+use Rattle.rb_rules.specs.declared.message.Tag.TheVariants as tag
 
 -- a sole arrival that spells a message meant for the window is that message
 pub spelled_is_one : (e : Expect) (stamp : ℕ) (bytes : List ℕ) (m : Message) → Spells e.version bytes m → suits e m ≡ true

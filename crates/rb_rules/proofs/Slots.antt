@@ -1,22 +1,8 @@
 -- Kinds, slots and what nodes say in them: what follows at once from the rules.
-use Rattle.std.proofs.Common.{◌≡◌, ℕ, ◌+◌, ◌<◌, ◌≤◌, ◌⊎◌, ◌==◌, ◌&&◌, ◌++◌, ◌∷◌, [], if◌then◌else◌, Bool, true, false, List, None, is_some, refl, ap, ◌∙◌, inl, inr, arith}
-use Rattle.std.proofs.lemmas.Bool.{cases_Bool, eqb-true, false≢true, le-ltb, lt-ltb}
-use Rattle.rb_base.specs.Nodes.{Side, other}
-use Rattle.rb_base.specs.Nodes.Side.{Biu, Rmu}
-use Rattle.rb_base.specs.Sizes.{IsShape, Sizes, sync_slot_of}
-use Rattle.rb_base.specs.declared.node.NodeName.{NodeName}
+use Rattle.std.proofs.{Common.{◌≡◌, ℕ, ◌+◌, ◌<◌, ◌≤◌, ◌⊎◌, ◌==◌, ◌&&◌, ◌++◌, ◌∷◌, [], if◌then◌else◌, Bool, true, false, List, None, is_some, refl, ap, ◌∙◌, inl, inr, arith}, lemmas.Bool.{cases_Bool, eqb-true, false≢true, le-ltb, lt-ltb}}
+use Rattle.rb_base.specs.{Nodes.{Side, other}, Nodes.Side.{Biu, Rmu}, Sizes.{IsShape, Sizes, sync_slot_of}, declared.node.NodeName.NodeName}
+use Rattle.rb_rules.specs.{declared.role.Role.TheVariants.{Schedule, Sync}, declared.sense.Sense.Sense, Core.of_source, ExactStage.{Outcome, close_exact, keep_sent, says}, Goodness.clock_place, Links.same_node, NodeState.NodeState, NodeSteps.close, Sense.Arrival, Slots.{count_of, first_diagnosis_of, role_of, same_side}, SyncStage.close_sync}
 use Rattle.rb_base.specs.declared.node.NodeName.TheVariants as name
-use Rattle.rb_rules.specs.declared.role.Role.TheVariants.{Schedule, Sync}
-use Rattle.rb_rules.specs.declared.sense.Sense.{Sense}
-use Rattle.rb_rules.specs.Core.{of_source}
-use Rattle.rb_rules.specs.ExactStage.{Outcome, close_exact, keep_sent, says}
-use Rattle.rb_rules.specs.Goodness.{clock_place}
-use Rattle.rb_rules.specs.Links.{same_node}
-use Rattle.rb_rules.specs.NodeState.{NodeState}
-use Rattle.rb_rules.specs.NodeSteps.{close}
-use Rattle.rb_rules.specs.Sense.{Arrival}
-use Rattle.rb_rules.specs.Slots.{count_of, first_diagnosis_of, role_of, same_side}
-use Rattle.rb_rules.specs.SyncStage.{close_sync}
 
 -- ---- kinds and names
 

@@ -1,15 +1,7 @@
 -- What is spelled is read, what is read is spelled so, and both in one way.
-use Rattle.std.proofs.Common.{◌≡◌, ℕ, zero, suc, ◌+◌, ◌≤◌, ◌<◌, ◌^◌, Bool, true, false, ◌==◌, ◌&&◌, nat_le, if◌then◌else◌, refl, sym, ◌∙◌, ap, subst, arith, Option, Some, None, List, [], ◌∷◌, ◌++◌, length, drop, drop-cons, slice_index}
-use Rattle.std.proofs.lemmas.Bool.{and_parts, leb-true, eqb-true, eq-eqb, le-leb}
-use Rattle.std.proofs.lemmas.List.{drop_all}
-use Rattle.std.proofs.lemmas.Nat.{from_be_bytes-to_be_bytes_2, from_be_bytes-to_be_bytes_4, be_bytes_2, be_bytes_4}
+use Rattle.std.proofs.{Common.{◌≡◌, ℕ, zero, suc, ◌+◌, ◌≤◌, ◌<◌, ◌^◌, Bool, true, false, ◌==◌, ◌&&◌, nat_le, if◌then◌else◌, refl, sym, ◌∙◌, ap, subst, arith, Option, Some, None, List, [], ◌∷◌, ◌++◌, length, drop, drop-cons, slice_index}, lemmas.Bool.{and_parts, leb-true, eqb-true, eq-eqb, le-leb}, lemmas.List.drop_all, lemmas.Nat.{from_be_bytes-to_be_bytes_2, from_be_bytes-to_be_bytes_4, be_bytes_2, be_bytes_4}}
 use Rattle.std.specs.Int.{from_be_bytes, w16, w32}
-use Rattle.rb_rules.specs.declared.message.Tag.{Tag}
-use Rattle.rb_rules.specs.declared.message.Tag.TheVariants.{Word, Fault, Sync}
-use Rattle.rb_rules.specs.declared.message.Message.{Message}
-use Rattle.rb_rules.specs.declared.message.Version.{Version}
-use Rattle.rb_rules.specs.declared.message.Version.TheVariants.{One, Two}
-use Rattle.rb_rules.specs.Spelling.{IsMessage, HasValue, IsZeroUnlessWord, Spells, AreBytes, spelling_of, message_in, message_with, tag_in, may_have, has_form, check_of, body_of, fields_of, tag_byte}
+use Rattle.rb_rules.specs.{declared.message.Tag.Tag, declared.message.Tag.TheVariants.{Word, Fault, Sync}, declared.message.Message.Message, declared.message.Version.Version, declared.message.Version.TheVariants.{One, Two}, Spelling.{IsMessage, HasValue, IsZeroUnlessWord, Spells, AreBytes, spelling_of, message_in, message_with, tag_in, may_have, has_form, check_of, body_of, fields_of, tag_byte}}
 
 abbrev made : Tag → ℕ → ℕ → ℕ → ℕ → Message
 made tag frame slot stage value = record { tag = tag; frame = frame; slot = slot; stage = stage; value = value }

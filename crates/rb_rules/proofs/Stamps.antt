@@ -1,7 +1,5 @@
 -- A stamp is the least tick that is not before the time, and later times have later stamps.
-use Rattle.std.proofs.Common.{◌≡◌, ℕ, zero, suc, ◌+◌, ◌<◌, ◌≤◌, Bool, true, false, refl, ap, arith, inl, inr, nat_le}
-use Rattle.std.proofs.lemmas.Bool.{cases_lt}
-use Rattle.std.proofs.lemmas.Bool.Decides.{nat_tests}
+use Rattle.std.proofs.{Common.{◌≡◌, ℕ, zero, suc, ◌+◌, ◌<◌, ◌≤◌, Bool, true, false, refl, ap, arith, inl, inr, nat_le}, lemmas.Bool.cases_lt, lemmas.Bool.Decides.nat_tests}
 use Rattle.rb_rules.specs.Clock.{Timeline, time_of, tick_length, first_among, stamp_of, IsStamp}
 
 -- each tick of the clock takes some time

@@ -1,13 +1,9 @@
 -- Who is accused, and who is not.
-use Rattle.std.proofs.Common.{◌≡◌, ℕ, ◌<◌, ◌^◌, Bool, true, false, not, ◌&&◌, ◌||◌, nat_le, Option, Some, None, is_some, refl, sym, ◌∙◌, ap}
-use Rattle.std.proofs.lemmas.Bool.{and_right, or_right}
-use Rattle.rb_base.specs.Nodes.{has}
-use Rattle.rb_base.proofs.Sets.{has-set_of, is_set_of}
-use Rattle.rb_base.specs.declared.values.Heard.{Heard}
-use Rattle.rb_base.proofs.Plain.{or-false}
-use Rattle.rb_rules.specs.declared.sense.Sense.{Sense}
+use Rattle.std.proofs.{Common.{◌≡◌, ℕ, ◌<◌, ◌^◌, Bool, true, false, not, ◌&&◌, ◌||◌, nat_le, Option, Some, None, is_some, refl, sym, ◌∙◌, ap}, lemmas.Bool.{and_right, or_right}}
+use Rattle.rb_base.specs.{Nodes.has, declared.values.Heard.Heard}
+use Rattle.rb_base.proofs.{Sets.{has-set_of, is_set_of}, Plain.or-false}
+use Rattle.rb_rules.specs.{declared.sense.Sense.Sense, Standing.{Standing, is_eligible, taken_of, does_wrong, has_evidence, with_evidence, is_unlike, with_mismatch, lapses, standing_at_end, calm_after}}
 use Rattle.rb_rules.proofs.Majorities.{same_heard_self}
-use Rattle.rb_rules.specs.Standing.{Standing, is_eligible, taken_of, does_wrong, has_evidence, with_evidence, is_unlike, with_mismatch, lapses, standing_at_end, calm_after}
 
 -- if something unlike a value was taken, something was taken
 pub unlike_is_taken : (value : Heard) (taken : Option Heard) → is_unlike value taken ≡ true → is_some taken ≡ true

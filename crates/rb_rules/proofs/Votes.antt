@@ -1,17 +1,10 @@
 -- For the laws of agreement: the vote of a close, by counts of the sources.
-use Rattle.std.proofs.Common.{◌≡◌, ℕ, ◌+◌, ◌<◌, ◌≤◌, Bool, true, false, cond, not, ◌&&◌, ◌||◌, List, [], ◌∷◌, length, map, Option, Some, None, is_some, refl, ◌∙◌, ap, arith, zero-add}
+use Rattle.std.proofs.{Common.{◌≡◌, ℕ, ◌+◌, ◌<◌, ◌≤◌, Bool, true, false, cond, not, ◌&&◌, ◌||◌, List, [], ◌∷◌, length, map, Option, Some, None, is_some, refl, ◌∙◌, ap, arith, zero-add}, lemmas.List.FromFn.get_or-map-range_with_len}
 use Rattle.std.specs.List.{cons_option}
-use Rattle.std.proofs.lemmas.List.FromFn.{get_or-map-range_with_len}
-use Rattle.rb_base.specs.Counting.{count_if, numbers}
+use Rattle.rb_base.specs.{Counting.{count_if, numbers}, declared.values.Heard.Heard}
 use Rattle.rb_base.proofs.Counts.{count_if-le, count_if-le_two}
-use Rattle.rb_base.specs.declared.values.Heard.{Heard}
-use Rattle.rb_rules.specs.declared.sense.Sense.{Sense}
-use Rattle.rb_rules.specs.Majority.{same_heard, times, IsMajority, majority_of}
-use Rattle.rb_rules.specs.ExactStage.{present, at_source, closing_of}
-use Rattle.rb_rules.specs.Sense.{value_in}
-use Rattle.rb_rules.specs.Standing.{Standing, taken_of}
-use Rattle.rb_rules.proofs.Majorities.{same_heard_self, majority_is}
-use Rattle.rb_rules.proofs.ExactStages.{same_each_node}
+use Rattle.rb_rules.specs.{declared.sense.Sense.Sense, Majority.{same_heard, times, IsMajority, majority_of}, ExactStage.{present, at_source, closing_of}, Sense.value_in, Standing.{Standing, taken_of}}
+use Rattle.rb_rules.proofs.{Majorities.{same_heard_self, majority_is}, ExactStages.same_each_node}
 
 -- the list of a close has at a source what is taken from that source
 pub taken_at : (s : Standing) (expected : ℕ → Bool) (sense : ℕ → Sense) (j : ℕ) → j < 16

@@ -1,21 +1,9 @@
 -- The windows of a frame by their numbers, and what is read of one node if something is made of
 -- all.
-use Rattle.std.proofs.Common.{◌≡◌, ℕ, zero, suc, ◌+◌, ◌*◌, ◌/◌, ◌<◌, List, [], ◌∷◌, length, map, refl, sym, ◌∙◌, ap, arith, Some, slice_get, unwrap_or, option_map}
-use Rattle.std.proofs.Math.Nat.{div-lt_iff_lt-mul}
-use Rattle.std.proofs.lemmas.List.FromFn.{get_or-range_with_len, length-range_with_len, length-map-range_with_len}
-use Rattle.std.proofs.lemmas.Option.{slice_get-get_or, slice_get-map}
-use Rattle.rb_base.specs.Counting.{numbers}
-use Rattle.rb_base.specs.Nodes.{Side}
-use Rattle.rb_base.specs.Nodes.Side.{Biu, Rmu}
-use Rattle.rb_base.specs.Sizes.{Sizes, sync_slot_of}
+use Rattle.std.proofs.{Common.{◌≡◌, ℕ, zero, suc, ◌+◌, ◌*◌, ◌/◌, ◌<◌, List, [], ◌∷◌, length, map, refl, sym, ◌∙◌, ap, arith, Some, slice_get, unwrap_or, option_map}, Math.Nat.div-lt_iff_lt-mul, lemmas.List.FromFn.{get_or-range_with_len, length-range_with_len, length-map-range_with_len}, lemmas.Option.{slice_get-get_or, slice_get-map}}
+use Rattle.rb_base.specs.{Counting.numbers, Nodes.Side, Nodes.Side.{Biu, Rmu}, Sizes.{Sizes, sync_slot_of}}
 use Rattle.rb_base.proofs.Plain.{slice_get-back, slice_get-front}
-use Rattle.rb_rules.specs.declared.plan.Plan.{Plan}
-use Rattle.rb_rules.specs.declared.plan.Window.{Window}
-use Rattle.rb_rules.specs.Book.{Each, of_kind, each_of, map_from, map_each}
-use Rattle.rb_rules.specs.Hearing.{tail_at, window_numbered}
-use Rattle.rb_rules.specs.NodeState.{NodeState}
-use Rattle.rb_rules.specs.Slots.{count_of}
-use Rattle.rb_rules.specs.Windows.{exact_window, sync_windows, windows_of_frame}
+use Rattle.rb_rules.specs.{declared.plan.Plan.Plan, declared.plan.Window.Window, Book.{Each, of_kind, each_of, map_from, map_each}, Hearing.{tail_at, window_numbered}, NodeState.NodeState, Slots.count_of, Windows.{exact_window, sync_windows, windows_of_frame}}
 
 -- Lists.
 

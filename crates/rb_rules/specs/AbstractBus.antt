@@ -1,20 +1,8 @@
 -- The bus as one machine. It has one value for each slot, one schedule and one set of trusted nodes
 -- of each kind; it has no votes, no stamps, no links and no accusations.
 use Rattle.std.specs.Prelude.{⊤, ℕ, suc, ◌≡◌, ◌+◌, ◌*◌, ◌<◌, ◌≤◌, nat_lt, ◌==◌, true, false, if◌then◌else◌, List, [], ◌∷◌, ◌++◌, get_or}
-use Rattle.rb_base.specs.Nodes.{Side, other, has, set_of}
-use Rattle.rb_base.specs.Nodes.Side.{Biu, Rmu}
-use Rattle.rb_base.specs.Sizes.{Sizes, sync_slot_of}
-use Rattle.rb_base.specs.declared.values.Heard.{Heard}
-use Rattle.rb_base.specs.declared.values.Heard.TheVariants.{Word, Fault}
-use Rattle.rb_rules.specs.declared.role.Role.{Role}
-use Rattle.rb_rules.specs.declared.role.Role.TheVariants.{Schedule, Data, DiagBiu, DiagRmu, Sync}
-use Rattle.rb_rules.specs.Conviction.{is_valid, names, convicted_by}
-use Rattle.rb_rules.specs.Goodness.{Scenario, is_good}
-use Rattle.rb_rules.specs.Owners.{owners_of}
-use Rattle.rb_rules.specs.Plan.{shortest_of, tail_start_of}
-use Rattle.rb_rules.specs.Slots.{Sender, count_of, first_diagnosis_of, role_of, sender_in, sender_kind}
-use Rattle.rb_rules.specs.Slots.Sender.{Nobody, Node, EachTrusted}
-use Rattle.rb_rules.specs.Standing.{without}
+use Rattle.rb_base.specs.{Nodes.{Side, other, has, set_of}, Nodes.Side.{Biu, Rmu}, Sizes.{Sizes, sync_slot_of}, declared.values.Heard.Heard, declared.values.Heard.TheVariants.{Word, Fault}}
+use Rattle.rb_rules.specs.{declared.role.Role.Role, declared.role.Role.TheVariants.{Schedule, Data, DiagBiu, DiagRmu, Sync}, Conviction.{is_valid, names, convicted_by}, Goodness.{Scenario, is_good}, Owners.owners_of, Plan.{shortest_of, tail_start_of}, Slots.{Sender, count_of, first_diagnosis_of, role_of, sender_in, sender_kind}, Slots.Sender.{Nobody, Node, EachTrusted}, Standing.without}
 
 pub record AbstractBus : Type 0 where
   pub low : ℕ  -- the time before which no good node began the frame

@@ -1,8 +1,6 @@
 -- What faulty nodes do.
-use Rattle.std.specs.Prelude.{ℕ, zero, suc, ◌&&◌, nat_le, nat_lt, Bool, true, List}
-use Rattle.std.specs.List.{list_all}
-use Rattle.rb_base.specs.Nodes.{Side}
-use Rattle.rb_base.specs.declared.values.Place.{Place}
+use Rattle.std.specs.{Prelude.{ℕ, zero, suc, ◌&&◌, nat_le, nat_lt, Bool, true, List}, List.list_all}
+use Rattle.rb_base.specs.{Nodes.Side, declared.values.Place.Place}
 use Rattle.rb_rules.specs.Clock.{Timeline, time_of}
 
 -- a window of a node: its place, and its first and last tick

@@ -1,13 +1,7 @@
 -- Whom a frame's voted vectors convict, and how the next frame begins.
 use Rattle.std.specs.Prelude.{ℕ, ◌+◌, ◌^◌, nat_lt, ◌&&◌, not, Bool, false, get_or}
-use Rattle.rb_base.specs.Counting.{count_if, numbers}
-use Rattle.rb_base.specs.Nodes.{Side, other, has, set_of}
-use Rattle.rb_base.specs.Sizes.{Sizes}
-use Rattle.rb_base.specs.declared.values.Heard.{Heard}
-use Rattle.rb_base.specs.declared.values.Heard.TheVariants.{Word, Fault}
-use Rattle.rb_rules.specs.NodeState.{NodeState, fresh_state, trusted_of}
-use Rattle.rb_rules.specs.Slots.{count_of, first_diagnosis_of}
-use Rattle.rb_rules.specs.Standing.{standing_at_end, without}
+use Rattle.rb_base.specs.{Counting.{count_if, numbers}, Nodes.{Side, other, has, set_of}, Sizes.Sizes, declared.values.Heard.Heard, declared.values.Heard.TheVariants.{Word, Fault}}
+use Rattle.rb_rules.specs.{NodeState.{NodeState, fresh_state, trusted_of}, Slots.{count_of, first_diagnosis_of}, Standing.{standing_at_end, without}}
 
 -- a voted vector is valid if it is a mask of the nodes that there are, `others` of them
 abbrev pub is_valid : ℕ → Heard → Bool

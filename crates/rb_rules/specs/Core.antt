@@ -1,22 +1,7 @@
 -- One node core. It takes the ticks of its clock and arrivals, one at a time.
-use Rattle.std.specs.Prelude.{ℕ, zero, suc, ◌+◌, ◌-◌, ◌^◌, max, nat_lt, nat_le, ◌==◌, ◌&&◌, ◌||◌, not, Bool, true, false, Option, Some, None, is_some, unwrap_or, List, [], ◌∷◌, ◌++◌, filter, map}
-use Rattle.std.specs.Option.{option_or}
-use Rattle.rb_base.specs.Nodes.{Side, other}
-use Rattle.rb_base.specs.Nodes.Side.{Biu}
-use Rattle.rb_base.specs.Sizes.{Sizes}
-use Rattle.rb_rules.specs.declared.closing.Closed.{Closed}
-use Rattle.rb_rules.specs.declared.message.Message.{Message}
-use Rattle.rb_rules.specs.declared.plan.Plan.{Plan}
-use Rattle.rb_rules.specs.declared.plan.Window.{Window}
-use Rattle.rb_rules.specs.declared.record.Epoch.{Epoch}
-use Rattle.rb_rules.specs.ExactStage.{keep_sent}
-use Rattle.rb_rules.specs.Hearing.{Sending, sending, tail_at, close_window, epoch_of}
-use Rattle.rb_rules.specs.NodeState.{NodeState, first_state}
-use Rattle.rb_rules.specs.NodeSteps.{turn_if_known}
-use Rattle.rb_rules.specs.Sense.{Arrival}
-use Rattle.rb_rules.specs.Slots.{count_of, first_diagnosis_of}
-use Rattle.rb_rules.specs.SyncStage.{new_epoch_of}
-use Rattle.rb_rules.specs.Windows.{window_at}
+use Rattle.std.specs.{Prelude.{ℕ, zero, suc, ◌+◌, ◌-◌, ◌^◌, max, nat_lt, nat_le, ◌==◌, ◌&&◌, ◌||◌, not, Bool, true, false, Option, Some, None, is_some, unwrap_or, List, [], ◌∷◌, ◌++◌, filter, map}, Option.option_or}
+use Rattle.rb_base.specs.{Nodes.{Side, other}, Nodes.Side.Biu, Sizes.Sizes}
+use Rattle.rb_rules.specs.{declared.closing.Closed.Closed, declared.message.Message.Message, declared.plan.Plan.Plan, declared.plan.Window.Window, declared.record.Epoch.Epoch, ExactStage.keep_sent, Hearing.{Sending, sending, tail_at, close_window, epoch_of}, NodeState.{NodeState, first_state}, NodeSteps.turn_if_known, Sense.Arrival, Slots.{count_of, first_diagnosis_of}, SyncStage.new_epoch_of, Windows.window_at}
 
 pub record Core : Type 0 where
   pub state : NodeState

@@ -1,20 +1,8 @@
 -- The behavior that the entries of a document list.
 use Rattle.std.specs.Prelude.{ℕ, ◌+◌, ◌-◌, ◌%◌, ◌≡◌, ◌≤◌, ◌&&◌, nat_le, min, Bool, All, List, filter, length, map}
-use Rattle.rb_base.specs.Nodes.{Side, other}
-use Rattle.rb_base.specs.declared.values.Place.{Place}
-use Rattle.rb_rules.specs.declared.message.Message.{Message}
-use Rattle.rb_rules.specs.declared.message.Tag.{Tag}
+use Rattle.rb_base.specs.{Nodes.{Side, other}, declared.values.Place.Place}
+use Rattle.rb_rules.specs.{declared.message.Message.Message, declared.message.Tag.Tag, declared.message.Version.Version, declared.say.Content.Content, declared.say.Content.TheVariants.{Word, Fault, Sync, Raw}, declared.say.Say.Say, Behavior.{Behavior, Said, Span}, Clock.{Timeline, time_of}, Goodness.{Scenario, clock_of}, Lawful.IsSayOf, Links.{name_of, same_node, stands_for, covers}, Spelling.spelling_of}
 use Rattle.rb_rules.specs.declared.message.Tag.TheVariants as tag
-use Rattle.rb_rules.specs.declared.message.Version.{Version}
-use Rattle.rb_rules.specs.declared.say.Content.{Content}
-use Rattle.rb_rules.specs.declared.say.Content.TheVariants.{Word, Fault, Sync, Raw}
-use Rattle.rb_rules.specs.declared.say.Say.{Say}
-use Rattle.rb_rules.specs.Behavior.{Behavior, Said, Span}
-use Rattle.rb_rules.specs.Clock.{Timeline, time_of}
-use Rattle.rb_rules.specs.Goodness.{Scenario, clock_of}
-use Rattle.rb_rules.specs.Lawful.{IsSayOf}
-use Rattle.rb_rules.specs.Links.{name_of, same_node, stands_for, covers}
-use Rattle.rb_rules.specs.Spelling.{spelling_of}
 
 -- a message with the header of a place. A message said in the tail has the sync slot's stage 3 in
 -- its header

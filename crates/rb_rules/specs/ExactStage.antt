@@ -1,30 +1,10 @@
 -- The stages below the sync slot: what a node says in a stage, and what it makes of the arrivals
 -- when it closes the stage.
-use Rattle.std.specs.Prelude.{ℕ, ◌+◌, ◌%◌, ◌==◌, ◌&&◌, not, Bool, false, if◌then◌else◌, Option, Some, None, unwrap_or, is_some, List, map, get_or, slice_set, take}
-use Rattle.std.specs.List.{filter_map}
-use Rattle.rb_base.specs.Counting.{numbers}
-use Rattle.rb_base.specs.Nodes.{Side, other}
-use Rattle.rb_base.specs.Nodes.Side.{Biu}
-use Rattle.rb_base.specs.Sizes.{Sizes}
-use Rattle.rb_base.specs.declared.values.Delivery.{Delivery}
-use Rattle.rb_base.specs.declared.values.Heard.{Heard}
+use Rattle.std.specs.{Prelude.{ℕ, ◌+◌, ◌%◌, ◌==◌, ◌&&◌, not, Bool, false, if◌then◌else◌, Option, Some, None, unwrap_or, is_some, List, map, get_or, slice_set, take}, List.filter_map}
+use Rattle.rb_base.specs.{Counting.numbers, Nodes.{Side, other}, Nodes.Side.Biu, Sizes.Sizes, declared.values.Delivery.Delivery, declared.values.Heard.Heard, declared.values.See.See, declared.values.See.TheVariants.{Nothing, Value}}
+use Rattle.rb_rules.specs.{declared.closing.Closed.Closed, declared.closing.Closing.Closing, declared.message.Message.Message, declared.role.Role.Role, declared.role.Role.TheVariants.{Schedule, Data, DiagBiu, DiagRmu, Sync}, declared.sense.Sense.Sense, Majority.majority_of, NodeState.{NodeState, trusted_of, sender_at}, Owners.owners_of, Sense.value_in, Slots.{Sender, same_side, sender_kind, listens, expects, role_of}, Slots.Sender.{Nobody, Node, EachTrusted}, Standing.{Standing, taken_of, has_evidence, with_evidence, is_unlike, with_mismatch, vector_of}}
 use Rattle.rb_base.specs.declared.values.Heard.TheVariants as heard
-use Rattle.rb_base.specs.declared.values.See.{See}
-use Rattle.rb_base.specs.declared.values.See.TheVariants.{Nothing, Value}
-use Rattle.rb_rules.specs.declared.closing.Closed.{Closed}
-use Rattle.rb_rules.specs.declared.closing.Closing.{Closing}
-use Rattle.rb_rules.specs.declared.message.Message.{Message}
 use Rattle.rb_rules.specs.declared.message.Tag.TheVariants as tag
-use Rattle.rb_rules.specs.declared.role.Role.{Role}
-use Rattle.rb_rules.specs.declared.role.Role.TheVariants.{Schedule, Data, DiagBiu, DiagRmu, Sync}
-use Rattle.rb_rules.specs.declared.sense.Sense.{Sense}
-use Rattle.rb_rules.specs.Majority.{majority_of}
-use Rattle.rb_rules.specs.NodeState.{NodeState, trusted_of, sender_at}
-use Rattle.rb_rules.specs.Owners.{owners_of}
-use Rattle.rb_rules.specs.Sense.{value_in}
-use Rattle.rb_rules.specs.Slots.{Sender, same_side, sender_kind, listens, expects, role_of}
-use Rattle.rb_rules.specs.Slots.Sender.{Nobody, Node, EachTrusted}
-use Rattle.rb_rules.specs.Standing.{Standing, taken_of, has_evidence, with_evidence, is_unlike, with_mismatch, vector_of}
 
 -- What a node says.
 

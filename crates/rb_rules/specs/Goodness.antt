@@ -1,14 +1,7 @@
 -- A scenario, and which nodes are good in which slot.
 use Rattle.std.specs.Prelude.{ℕ, ◌+◌, nat_lt, ◌==◌, ◌&&◌, ◌||◌, Bool, true, Option, Some, None, List, [], get_or}
-use Rattle.rb_base.specs.Nodes.{Side, set_of}
-use Rattle.rb_base.specs.Nodes.Side.{Biu, Rmu}
-use Rattle.rb_base.specs.Sizes.{Sizes}
-use Rattle.rb_rules.specs.declared.plan.Plan.{Plan}
-use Rattle.rb_rules.specs.declared.say.Say.{Say}
-use Rattle.rb_rules.specs.Behavior.{Behavior}
-use Rattle.rb_rules.specs.Clock.{Timeline}
-use Rattle.rb_rules.specs.Links.{DelayRules}
-use Rattle.rb_rules.specs.Slots.{count_of}
+use Rattle.rb_base.specs.{Nodes.{Side, set_of}, Nodes.Side.{Biu, Rmu}, Sizes.Sizes}
+use Rattle.rb_rules.specs.{declared.plan.Plan.Plan, declared.say.Say.Say, Behavior.Behavior, Clock.Timeline, Links.DelayRules, Slots.count_of}
 
 -- a bus and what happens to it. An onset is the frame and the slot from which on a node is not
 -- good, if it ever is not

@@ -1,21 +1,8 @@
 -- What the bus promises to those who use it, of the rounds of a scenario up to the first breach of
 -- the fault premise.
 use Rattle.std.specs.Prelude.{ℕ, ◌≡◌, ◌+◌, ◌*◌, ◌<◌, ◌≤◌, true, false, Option, Some, None, List, [], ◌∷◌, ◌++◌, filter, map}
-use Rattle.rb_base.specs.Counting.{numbers}
-use Rattle.rb_base.specs.Nodes.{Side, has}
-use Rattle.rb_base.specs.Nodes.Side.{Biu}
-use Rattle.rb_base.specs.Sizes.{sync_slot_of}
-use Rattle.rb_base.specs.declared.values.Heard.{Heard}
-use Rattle.rb_base.specs.declared.values.Heard.TheVariants.{Word}
-use Rattle.rb_rules.specs.declared.plan.Plan.{Plan}
-use Rattle.rb_rules.specs.declared.record.SlotLine.{SlotLine}
-use Rattle.rb_rules.specs.Book.Record.{Slot}
-use Rattle.rb_rules.specs.Goodness.{Scenario, is_good}
-use Rattle.rb_rules.specs.Moments.{before_slot, after_slot, IsComplete, IsSettled, IsGoodBefore, time_in_frame, offered_in}
-use Rattle.rb_rules.specs.NodeState.{NodeState}
-use Rattle.rb_rules.specs.NodeSteps.{convicted_of, owner_at}
-use Rattle.rb_rules.specs.Plan.{drift_in}
-use Rattle.rb_rules.specs.Ports.{HandIn}
+use Rattle.rb_base.specs.{Counting.numbers, Nodes.{Side, has}, Nodes.Side.Biu, Sizes.sync_slot_of, declared.values.Heard.Heard, declared.values.Heard.TheVariants.Word}
+use Rattle.rb_rules.specs.{declared.plan.Plan.Plan, declared.record.SlotLine.SlotLine, Book.Record.Slot, Goodness.{Scenario, is_good}, Moments.{before_slot, after_slot, IsComplete, IsSettled, IsGoodBefore, time_in_frame, offered_in}, NodeState.NodeState, NodeSteps.{convicted_of, owner_at}, Plan.drift_in, Ports.HandIn}
 
 -- Skew.
 

@@ -1,32 +1,8 @@
 -- What a node sends in a window, and what it hears in it.
 use Rattle.std.specs.Prelude.{ℕ, ◌+◌, ◌-◌, ◌&&◌, nat_lt, Bool, true, false, Option, Some, None, option_and_then, option_map, option_to_list, unwrap_or, List, [], ◌∷◌, filter, map, get_or, slice_get}
-use Rattle.rb_base.specs.Nodes.{Side, other}
-use Rattle.rb_base.specs.Sizes.{Sizes}
-use Rattle.rb_base.specs.declared.values.See.{See}
-use Rattle.rb_base.specs.declared.values.See.TheVariants.{Nothing, Value, Time}
-use Rattle.rb_rules.specs.declared.closing.Closed.{Closed}
-use Rattle.rb_rules.specs.declared.message.Message.{Message}
-use Rattle.rb_rules.specs.declared.plan.Plan.{Plan}
-use Rattle.rb_rules.specs.declared.plan.Window.{Window}
-use Rattle.rb_rules.specs.declared.record.Epoch.{Epoch}
-use Rattle.rb_rules.specs.declared.record.PortLine.{PortLine}
-use Rattle.rb_rules.specs.declared.role.Role.{Role}
-use Rattle.rb_rules.specs.declared.role.Role.TheVariants.{Schedule, Data, DiagBiu, DiagRmu, Sync}
+use Rattle.rb_base.specs.{Nodes.{Side, other}, Sizes.Sizes, declared.values.See.See, declared.values.See.TheVariants.{Nothing, Value, Time}}
+use Rattle.rb_rules.specs.{declared.closing.Closed.Closed, declared.message.Message.Message, declared.plan.Plan.Plan, declared.plan.Window.Window, declared.record.Epoch.Epoch, declared.record.PortLine.PortLine, declared.role.Role.Role, declared.role.Role.TheVariants.{Schedule, Data, DiagBiu, DiagRmu, Sync}, Behavior.{Said, are_bytes, is_within}, Book.{Begun, Row}, Clock.{Timeline, time_of, stamp_of}, ExactStage.{Outcome, each_node, at_source}, Goodness.{Scenario, is_good, clock_of}, Links.{name_of, delay_of}, NodeState.{NodeState, trusted_of}, NodeSteps.{expect_of, message_said, close, convicted_of}, Ports.{PortState, fresh_port, offered_at, losses_of}, Sense.{Arrival, sense_of}, Slots.count_of, Spelling.spelling_of, SyncStage.{send_tick_of, new_epoch_of}, Windows.{windows_of_frame, tail_of}}
 pub use Rattle.rb_rules.specs.Behavior.{Span}
-use Rattle.rb_rules.specs.Behavior.{Said, are_bytes, is_within}
-use Rattle.rb_rules.specs.Book.{Begun, Row}
-use Rattle.rb_rules.specs.Clock.{Timeline, time_of, stamp_of}
-use Rattle.rb_rules.specs.ExactStage.{Outcome, each_node, at_source}
-use Rattle.rb_rules.specs.Goodness.{Scenario, is_good, clock_of}
-use Rattle.rb_rules.specs.Links.{name_of, delay_of}
-use Rattle.rb_rules.specs.NodeState.{NodeState, trusted_of}
-use Rattle.rb_rules.specs.NodeSteps.{expect_of, message_said, close, convicted_of}
-use Rattle.rb_rules.specs.Ports.{PortState, fresh_port, offered_at, losses_of}
-use Rattle.rb_rules.specs.Sense.{Arrival, sense_of}
-use Rattle.rb_rules.specs.Slots.{count_of}
-use Rattle.rb_rules.specs.Spelling.{spelling_of}
-use Rattle.rb_rules.specs.SyncStage.{send_tick_of, new_epoch_of}
-use Rattle.rb_rules.specs.Windows.{windows_of_frame, tail_of}
 
 -- Windows.
 

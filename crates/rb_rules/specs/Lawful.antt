@@ -1,24 +1,9 @@
 -- What is lawful: the premise of every law of the bus. It says nothing about what faulty nodes do.
 use Rattle.std.specs.Prelude.{⊤, ℕ, ◌≡◌, ◌⊎◌, ◌+◌, ◌-◌, ◌^◌, ◌<◌, ◌≤◌, ◌==◌, nat_lt, if◌then◌else◌, Bool, true, false, All, List, [], ◌∷◌, length, Option, Some, None}
-use Rattle.rb_base.specs.Nodes.{Side, other}
-use Rattle.rb_base.specs.Nodes.Side.{Biu, Rmu}
-use Rattle.rb_base.specs.Sizes.{IsShape, Sizes, sync_slot_of}
-use Rattle.rb_base.specs.declared.node.NodeName.{NodeName}
+use Rattle.rb_base.specs.{Nodes.{Side, other}, Nodes.Side.{Biu, Rmu}, Sizes.{IsShape, Sizes, sync_slot_of}, declared.node.NodeName.NodeName, declared.values.Place.Place}
+use Rattle.rb_rules.specs.{declared.link.Pattern.Pattern, declared.link.Pattern.TheVariants.{One, AllBiu, AllRmu}, declared.link.Rule.Rule, declared.message.Version.Version, declared.plan.Plan.Plan, declared.say.Content.Content, declared.say.Content.TheVariants.{Word, Fault, Sync, Raw}, declared.say.Say.Say, Clock.{IsClock, Timeline}, Goodness.{Scenario, is_good}, Links.covers, Plan.{IsFeasible, IsPlan, longest_of, shortest_of}}
 use Rattle.rb_base.specs.declared.node.NodeName.TheVariants as node
-use Rattle.rb_base.specs.declared.values.Place.{Place}
-use Rattle.rb_rules.specs.declared.link.Pattern.{Pattern}
-use Rattle.rb_rules.specs.declared.link.Pattern.TheVariants.{One, AllBiu, AllRmu}
-use Rattle.rb_rules.specs.declared.link.Rule.{Rule}
-use Rattle.rb_rules.specs.declared.message.Version.{Version}
 use Rattle.rb_rules.specs.declared.message.Version.TheVariants as version
-use Rattle.rb_rules.specs.declared.plan.Plan.{Plan}
-use Rattle.rb_rules.specs.declared.say.Content.{Content}
-use Rattle.rb_rules.specs.declared.say.Content.TheVariants.{Word, Fault, Sync, Raw}
-use Rattle.rb_rules.specs.declared.say.Say.{Say}
-use Rattle.rb_rules.specs.Clock.{IsClock, Timeline}
-use Rattle.rb_rules.specs.Goodness.{Scenario, is_good}
-use Rattle.rb_rules.specs.Links.{covers}
-use Rattle.rb_rules.specs.Plan.{IsFeasible, IsPlan, longest_of, shortest_of}
 
 -- Nodes.
 

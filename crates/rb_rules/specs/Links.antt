@@ -1,13 +1,8 @@
 -- Links: how long a message is on its way.
 use Rattle.std.specs.Prelude.{ℕ, ◌==◌, ◌&&◌, nat_le, Bool, true, false, if◌then◌else◌, List, [], ◌∷◌}
-use Rattle.rb_base.specs.Nodes.{Side}
-use Rattle.rb_base.specs.Nodes.Side.{Biu, Rmu}
-use Rattle.rb_base.specs.declared.node.NodeName.{NodeName}
+use Rattle.rb_base.specs.{Nodes.Side, Nodes.Side.{Biu, Rmu}, declared.node.NodeName.NodeName, declared.values.Place.Place}
+use Rattle.rb_rules.specs.{declared.link.Pattern.Pattern, declared.link.Pattern.TheVariants.{One, AllBiu, AllRmu}, declared.link.Rule.Rule}
 use Rattle.rb_base.specs.declared.node.NodeName.TheVariants as node
-use Rattle.rb_base.specs.declared.values.Place.{Place}
-use Rattle.rb_rules.specs.declared.link.Pattern.{Pattern}
-use Rattle.rb_rules.specs.declared.link.Pattern.TheVariants.{One, AllBiu, AllRmu}
-use Rattle.rb_rules.specs.declared.link.Rule.{Rule}
 
 -- node i of a kind
 abbrev pub name_of : Side → ℕ → NodeName

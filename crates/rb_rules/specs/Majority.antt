@@ -1,8 +1,6 @@
 -- The majority of a list of values, where Fault counts as a value.
 use Rattle.std.specs.Prelude.{ℕ, ◌*◌, ◌<◌, Bool, true, false, ◌==◌, List, [], ◌∷◌, length, nat_lt, if◌then◌else◌}
-use Rattle.rb_base.specs.declared.values.Heard.{Heard}
-use Rattle.rb_base.specs.declared.values.Heard.TheVariants.{Word, Fault}
-use Rattle.rb_base.specs.Counting.{count_if}
+use Rattle.rb_base.specs.{declared.values.Heard.Heard, declared.values.Heard.TheVariants.{Word, Fault}, Counting.count_if}
 
 -- the two values are equal
 abbrev pub same_heard : Heard → Heard → Bool

@@ -1,14 +1,7 @@
 -- The moments of a run by their place, what is complete by then, and which nodes are good there.
 use Rattle.std.specs.Prelude.{⊤, ℕ, zero, suc, ◌≡◌, ◌+◌, ◌-◌, ◌*◌, ◌⊎◌, true, false, Some, List, slice_get}
-use Rattle.rb_base.specs.Nodes.{Side}
-use Rattle.rb_base.specs.Sizes.{sync_slot_of}
-use Rattle.rb_rules.specs.Book.{of_kind}
-use Rattle.rb_rules.specs.Clock.{time_of}
-use Rattle.rb_rules.specs.Goodness.{Scenario, is_good, clock_of}
-use Rattle.rb_rules.specs.Hearing.{port_at}
-use Rattle.rb_rules.specs.NodeState.{NodeState}
-use Rattle.rb_rules.specs.Ports.{HandIn, offered_at}
-use Rattle.rb_rules.specs.Rounds.{Moment, moment, windows_in}
+use Rattle.rb_base.specs.{Nodes.Side, Sizes.sync_slot_of}
+use Rattle.rb_rules.specs.{Book.of_kind, Clock.time_of, Goodness.{Scenario, is_good, clock_of}, Hearing.port_at, NodeState.NodeState, Ports.{HandIn, offered_at}, Rounds.{Moment, moment, windows_in}}
 
 -- The moments.
 

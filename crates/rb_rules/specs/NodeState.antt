@@ -1,12 +1,7 @@
 -- The state of one node between windows.
 use Rattle.std.specs.Prelude.{ℕ, nat_lt, Option, None, List, [], replicate}
-use Rattle.rb_base.specs.Nodes.{Side, other, set_of}
-use Rattle.rb_base.specs.Nodes.Side.{Biu, Rmu}
-use Rattle.rb_base.specs.Sizes.{Sizes, sync_slot_of}
-use Rattle.rb_base.specs.declared.values.Heard.{Heard}
-use Rattle.rb_base.specs.declared.values.Heard.TheVariants.{Fault}
-use Rattle.rb_rules.specs.Slots.{Sender, count_of, role_of, sender_in}
-use Rattle.rb_rules.specs.Standing.{Standing, first_standing}
+use Rattle.rb_base.specs.{Nodes.{Side, other, set_of}, Nodes.Side.{Biu, Rmu}, Sizes.{Sizes, sync_slot_of}, declared.values.Heard.Heard, declared.values.Heard.TheVariants.Fault}
+use Rattle.rb_rules.specs.{Slots.{Sender, count_of, role_of, sender_in}, Standing.{Standing, first_standing}}
 
 pub record NodeState : Type 0 where
   pub frame : ℕ

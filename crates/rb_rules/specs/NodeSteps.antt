@@ -1,19 +1,7 @@
 -- What one node does in a window of any slot, and what it reports about itself.
 use Rattle.std.specs.Prelude.{ℕ, ◌+◌, ◌%◌, ◌==◌, ◌&&◌, not, nat_lt, true, false, if◌then◌else◌, Option, Some, None, option_map, slice_get}
-use Rattle.rb_base.specs.Nodes.{Side, has, set_of}
-use Rattle.rb_base.specs.Sizes.{Sizes, sync_slot_of}
-use Rattle.rb_rules.specs.declared.message.Message.{Message}
-use Rattle.rb_rules.specs.declared.message.Version.{Version}
-use Rattle.rb_rules.specs.declared.plan.Plan.{Plan}
-use Rattle.rb_rules.specs.declared.role.Role.{Role}
-use Rattle.rb_rules.specs.declared.role.Role.TheVariants.{Schedule, Data, DiagBiu, DiagRmu, Sync}
-use Rattle.rb_rules.specs.declared.sense.Expect.{Expect}
-use Rattle.rb_rules.specs.declared.sense.Sense.{Sense}
-use Rattle.rb_rules.specs.Conviction.{turn}
-use Rattle.rb_rules.specs.ExactStage.{Outcome, says, message_of, close_exact}
-use Rattle.rb_rules.specs.NodeState.{NodeState, trusted_of}
-use Rattle.rb_rules.specs.Slots.{count_of, role_of}
-use Rattle.rb_rules.specs.SyncStage.{calls, close_sync, new_epoch_of}
+use Rattle.rb_base.specs.{Nodes.{Side, has, set_of}, Sizes.{Sizes, sync_slot_of}}
+use Rattle.rb_rules.specs.{declared.message.Message.Message, declared.message.Version.Version, declared.plan.Plan.Plan, declared.role.Role.Role, declared.role.Role.TheVariants.{Schedule, Data, DiagBiu, DiagRmu, Sync}, declared.sense.Expect.Expect, declared.sense.Sense.Sense, Conviction.turn, ExactStage.{Outcome, says, message_of, close_exact}, NodeState.{NodeState, trusted_of}, Slots.{count_of, role_of}, SyncStage.{calls, close_sync, new_epoch_of}}
 
 -- the frame, the slot, the stage and the form that a message needs if it is meant for a window of
 -- the node's frame

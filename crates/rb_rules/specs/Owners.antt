@@ -1,11 +1,6 @@
 -- Which BIU owns which data slot.
-use Rattle.std.specs.Prelude.{ℕ, nat_lt, ◌&&◌, List, filter, take, get_or}
-use Rattle.std.specs.List.{flat_map}
-use Rattle.rb_base.specs.Counting.{numbers}
-use Rattle.rb_base.specs.Nodes.{has}
-use Rattle.rb_base.specs.Sizes.{Sizes}
-use Rattle.rb_base.specs.declared.values.Heard.{Heard}
-use Rattle.rb_base.specs.declared.values.Heard.TheVariants.{Word, Fault}
+use Rattle.std.specs.{Prelude.{ℕ, nat_lt, ◌&&◌, List, filter, take, get_or}, List.flat_map}
+use Rattle.rb_base.specs.{Counting.numbers, Nodes.has, Sizes.Sizes, declared.values.Heard.Heard, declared.values.Heard.TheVariants.{Word, Fault}}
 
 -- how many slots a voted request asks for
 abbrev pub request_in : Heard → ℕ

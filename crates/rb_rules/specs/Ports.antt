@@ -1,8 +1,6 @@
 -- What is behind a BIU: its application, and the port that hands words over.
 use Rattle.std.specs.Prelude.{ℕ, zero, suc, ◌+◌, ◌*◌, ◌^◌, ◌%◌, ◌==◌, Bool, true, false, if◌then◌else◌, Option, Some, None, List, [], ◌∷◌, take}
-use Rattle.rb_base.specs.Counting.{count_if}
-use Rattle.rb_base.specs.declared.values.Heard.{Heard}
-use Rattle.rb_base.specs.declared.values.Heard.TheVariants.{Word, Fault}
+use Rattle.rb_base.specs.{Counting.count_if, declared.values.Heard.Heard, declared.values.Heard.TheVariants.{Word, Fault}}
 
 -- the word that an application offers for a slot, modulo 2 ^ 32: `table` (0) and `counter` (1)
 -- offer their state, `follow` (2) its state plus the number of the slot

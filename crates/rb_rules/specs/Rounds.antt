@@ -1,20 +1,7 @@
 -- The rounds of a scenario: all good nodes go through the windows in lockstep.
 use Rattle.std.specs.Prelude.{◌≡◌, ◌≤◌, IfSome, All, ℕ, zero, suc, ◌+◌, ◌*◌, nat_lt, nat_le, ◌==◌, ◌&&◌, true, false, Option, Some, None, List, [], map, get_or, slice_get}
-use Rattle.rb_base.specs.Counting.{numbers}
-use Rattle.rb_base.specs.Nodes.{Side, other}
-use Rattle.rb_base.specs.Sizes.{Sizes, sync_slot_of}
-use Rattle.rb_rules.specs.declared.plan.Window.{Window}
-use Rattle.rb_rules.specs.declared.record.SlotLine.{SlotLine}
-use Rattle.rb_rules.specs.Book.{Each, of_kind, in_order, each_of, map_from, map_each, Record, Begun, Row, Book, line_in, fresh_book, with_stage, with_frame, with_end}
-use Rattle.rb_rules.specs.Clock.{stamp_of}
-use Rattle.rb_rules.specs.ExactStage.{keep_sent, present}
-use Rattle.rb_rules.specs.Goodness.{Scenario, is_good, clock_of}
-use Rattle.rb_rules.specs.Hearing.{Sending, Coming, Span, window_numbered, span_of, sending, port_at, word_for, heard_from, arrival_of, close_window, row_of, epoch_of, begun_of}
-use Rattle.rb_rules.specs.NodeState.{NodeState, first_state}
-use Rattle.rb_rules.specs.NodeSteps.{turn_if_known}
-use Rattle.rb_rules.specs.Ports.{PortState, HandIn, delivered_to, hand_over}
-use Rattle.rb_rules.specs.Slots.{role_of}
-use Rattle.rb_rules.specs.Windows.{windows_of_frame}
+use Rattle.rb_base.specs.{Counting.numbers, Nodes.{Side, other}, Sizes.{Sizes, sync_slot_of}}
+use Rattle.rb_rules.specs.{declared.plan.Window.Window, declared.record.SlotLine.SlotLine, Book.{Each, of_kind, in_order, each_of, map_from, map_each, Record, Begun, Row, Book, line_in, fresh_book, with_stage, with_frame, with_end}, Clock.stamp_of, ExactStage.{keep_sent, present}, Goodness.{Scenario, is_good, clock_of}, Hearing.{Sending, Coming, Span, window_numbered, span_of, sending, port_at, word_for, heard_from, arrival_of, close_window, row_of, epoch_of, begun_of}, NodeState.{NodeState, first_state}, NodeSteps.turn_if_known, Ports.{PortState, HandIn, delivered_to, hand_over}, Slots.role_of, Windows.windows_of_frame}
 
 -- a moment of a run: all nodes before a window, the ports, and the book
 pub record Moment : Type 0 where

@@ -1,11 +1,6 @@
 -- How messages are spelled. All numbers have the most significant byte first.
-use Rattle.std.specs.Prelude.{⊤, ℕ, ◌≡◌, ◌≤◌, ◌<◌, ◌^◌, Bool, true, ◌==◌, nat_le, ◌&&◌, if◌then◌else◌, Option, Some, None, List, [], ◌∷◌, ◌++◌, fold, length, take, slice_index, slice_range, bit_xor}
-use Rattle.std.specs.Int.{to_be_bytes, from_be_bytes, w16, w32}
-use Rattle.rb_rules.specs.declared.message.Tag.{Tag}
-use Rattle.rb_rules.specs.declared.message.Tag.TheVariants.{Word, Fault, Sync}
-use Rattle.rb_rules.specs.declared.message.Message.{Message}
-use Rattle.rb_rules.specs.declared.message.Version.{Version}
-use Rattle.rb_rules.specs.declared.message.Version.TheVariants.{One, Two}
+use Rattle.std.specs.{Prelude.{⊤, ℕ, ◌≡◌, ◌≤◌, ◌<◌, ◌^◌, Bool, true, ◌==◌, nat_le, ◌&&◌, if◌then◌else◌, Option, Some, None, List, [], ◌∷◌, ◌++◌, fold, length, take, slice_index, slice_range, bit_xor}, Int.{to_be_bytes, from_be_bytes, w16, w32}}
+use Rattle.rb_rules.specs.{declared.message.Tag.Tag, declared.message.Tag.TheVariants.{Word, Fault, Sync}, declared.message.Message.Message, declared.message.Version.Version, declared.message.Version.TheVariants.{One, Two}}
 
 -- the byte of a tag
 abbrev pub tag_byte : Tag → ℕ

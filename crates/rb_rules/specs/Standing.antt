@@ -1,12 +1,8 @@
 -- What a node holds of the nodes of the other kind: whom it trusts, whom it accuses, and from whom
 -- it accepts messages.
 use Rattle.std.specs.Prelude.{ℕ, ◌+◌, min, nat_lt, nat_le, ◌&&◌, ◌||◌, not, Bool, if◌then◌else◌, Option, None, Some, false, List, map, replicate, slice_index}
-use Rattle.rb_base.specs.Counting.{numbers}
-use Rattle.rb_base.specs.Nodes.{has, set_of}
-use Rattle.rb_base.specs.declared.values.Heard.{Heard}
-use Rattle.rb_rules.specs.declared.sense.Sense.{Sense}
-use Rattle.rb_rules.specs.Majority.{same_heard}
-use Rattle.rb_rules.specs.Sense.{is_one, is_silent}
+use Rattle.rb_base.specs.{Counting.numbers, Nodes.{has, set_of}, declared.values.Heard.Heard}
+use Rattle.rb_rules.specs.{declared.sense.Sense.Sense, Majority.same_heard, Sense.{is_one, is_silent}}
 
 pub record Standing : Type 0 where
   pub trusted : ℕ  -- the nodes that are not convicted

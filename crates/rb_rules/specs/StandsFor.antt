@@ -1,23 +1,8 @@
 -- When the rounds of a scenario stand for a run of the abstract bus: all good nodes hold what that
 -- bus holds.
 use Rattle.std.specs.Prelude.{ℕ, ◌≡◌, ◌+◌, ◌*◌, ◌<◌, ◌≤◌, max, Bool, true, false, if◌then◌else◌, Some, List, [], get_or}
-use Rattle.rb_base.specs.Nodes.{Side, other, has}
-use Rattle.rb_base.specs.Nodes.Side.{Biu, Rmu}
-use Rattle.rb_base.specs.Sizes.{Sizes, sync_slot_of}
-use Rattle.rb_base.specs.declared.values.Heard.{Heard}
-use Rattle.rb_base.specs.declared.values.Heard.TheVariants.{Fault}
-use Rattle.rb_rules.specs.declared.plan.Plan.{Plan}
-use Rattle.rb_rules.specs.declared.record.SlotLine.{SlotLine}
-use Rattle.rb_rules.specs.AbstractBus.{AbstractBus, IsRun, trusted_on, sender_on}
-use Rattle.rb_rules.specs.Goodness.{Scenario, is_good}
-use Rattle.rb_rules.specs.Headline.{lines_of}
-use Rattle.rb_rules.specs.Moments.{before_stage, IsComplete, IsReached, IsGoodBefore, IsGoodAfter, time_in_frame, offered_in}
-use Rattle.rb_rules.specs.NodeState.{NodeState, trusted_of}
-use Rattle.rb_rules.specs.Plan.{tail_start_of, shortest_of, longest_of}
-use Rattle.rb_rules.specs.Ports.{HandIn}
-use Rattle.rb_rules.specs.Slots.{Sender, has_third_stage, role_of, same_side}
-use Rattle.rb_rules.specs.Slots.Sender.{Nobody, Node, EachTrusted}
-use Rattle.rb_rules.specs.SyncStage.{new_epoch_of}
+use Rattle.rb_base.specs.{Nodes.{Side, other, has}, Nodes.Side.{Biu, Rmu}, Sizes.{Sizes, sync_slot_of}, declared.values.Heard.Heard, declared.values.Heard.TheVariants.Fault}
+use Rattle.rb_rules.specs.{declared.plan.Plan.Plan, declared.record.SlotLine.SlotLine, AbstractBus.{AbstractBus, IsRun, trusted_on, sender_on}, Goodness.{Scenario, is_good}, Headline.lines_of, Moments.{before_stage, IsComplete, IsReached, IsGoodBefore, IsGoodAfter, time_in_frame, offered_in}, NodeState.{NodeState, trusted_of}, Plan.{tail_start_of, shortest_of, longest_of}, Ports.HandIn, Slots.{Sender, has_third_stage, role_of, same_side}, Slots.Sender.{Nobody, Node, EachTrusted}, SyncStage.new_epoch_of}
 
 -- The number of steps after which the abstract bus is before this slot of this frame.
 

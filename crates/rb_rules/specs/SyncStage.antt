@@ -2,26 +2,9 @@
 -- the middle of the BIUs' calls, and the BIUs call once more a fixed time after the middle of the
 -- RMUs' calls.
 use Rattle.std.specs.Prelude.{ℕ, ◌+◌, ◌%◌, ◌==◌, ◌&&◌, Bool, if◌then◌else◌, Option, Some, None, option_map, unwrap_or, map}
-use Rattle.rb_base.specs.Nodes.{Side, other}
-use Rattle.rb_base.specs.Nodes.Side.{Biu, Rmu}
-use Rattle.rb_base.specs.Sizes.{Sizes, sync_slot_of}
-use Rattle.rb_base.specs.declared.values.See.{See}
-use Rattle.rb_base.specs.declared.values.See.TheVariants.{Nothing, Time}
-use Rattle.rb_rules.specs.declared.closing.SyncClosing.{SyncClosing}
-use Rattle.rb_rules.specs.declared.message.Message.{Message}
+use Rattle.rb_base.specs.{Nodes.{Side, other}, Nodes.Side.{Biu, Rmu}, Sizes.{Sizes, sync_slot_of}, declared.values.See.See, declared.values.See.TheVariants.{Nothing, Time}}
+use Rattle.rb_rules.specs.{declared.closing.SyncClosing.SyncClosing, declared.message.Message.Message, declared.plan.Plan.Plan, declared.role.Role.TheVariants.Sync, declared.sense.Sense.Sense, ExactStage.{Outcome, each_node, present}, Middle.middle_of, NodeState.NodeState, Plan.f0_of, Sense.stamp_in, Slots.{listens, expects}, Slots.Sender.EachTrusted, Standing.{Standing, taken_of, has_evidence, with_evidence}, Windows.send_offset_of}
 use Rattle.rb_rules.specs.declared.message.Tag.TheVariants as tag
-use Rattle.rb_rules.specs.declared.plan.Plan.{Plan}
-use Rattle.rb_rules.specs.declared.role.Role.TheVariants.{Sync}
-use Rattle.rb_rules.specs.declared.sense.Sense.{Sense}
-use Rattle.rb_rules.specs.ExactStage.{Outcome, each_node, present}
-use Rattle.rb_rules.specs.Middle.{middle_of}
-use Rattle.rb_rules.specs.NodeState.{NodeState}
-use Rattle.rb_rules.specs.Plan.{f0_of}
-use Rattle.rb_rules.specs.Sense.{stamp_in}
-use Rattle.rb_rules.specs.Slots.{listens, expects}
-use Rattle.rb_rules.specs.Slots.Sender.{EachTrusted}
-use Rattle.rb_rules.specs.Standing.{Standing, taken_of, has_evidence, with_evidence}
-use Rattle.rb_rules.specs.Windows.{send_offset_of}
 
 -- a call to resynchronize
 abbrev pub call_of : Sizes → NodeState → ℕ → Message

@@ -1,10 +1,7 @@
 -- The windows of a frame. Offsets count ticks from the frame's first.
-use Rattle.std.specs.Prelude.{ℕ, ◌+◌, ◌-◌, ◌*◌, ◌/◌, ◌%◌, Bool, ◌&&◌, nat_le, Option, find, List, [], ◌∷◌, ◌++◌, map}
-use Rattle.std.specs.List.{range_with_len}
+use Rattle.std.specs.{Prelude.{ℕ, ◌+◌, ◌-◌, ◌*◌, ◌/◌, ◌%◌, Bool, ◌&&◌, nat_le, Option, find, List, [], ◌∷◌, ◌++◌, map}, List.range_with_len}
 use Rattle.rb_base.specs.Sizes.{Sizes, sync_slot_of}
-use Rattle.rb_rules.specs.declared.plan.Plan.{Plan}
-use Rattle.rb_rules.specs.declared.plan.Window.{Window}
-use Rattle.rb_rules.specs.Plan.{f0_of, tail_start_of}
+use Rattle.rb_rules.specs.{declared.plan.Plan.Plan, declared.plan.Window.Window, Plan.{f0_of, tail_start_of}}
 
 -- the window of `ticks` ticks from the offset `first` on
 abbrev pub window_of : ℕ → ℕ → ℕ → ℕ → Window

@@ -1,31 +1,9 @@
 -- A step of the world: all node cores of a run with what is pending at each, one event after
 -- another in the order of time.
-use Rattle.std.specs.Prelude.{◌≡◌, ℕ, zero, suc, ◌-◌, min, ◌==◌, ◌&&◌, ◌||◌, not, Bool, true, false, Option, Some, None, is_some, option_and_then, option_map, option_to_list, List, [], ◌∷◌, ◌++◌, filter, flat_map, fold, length, map, remove, slice_get, slice_set}
-use Rattle.std.specs.List.{enumerate_from, list_all}
-use Rattle.rb_base.specs.Counting.{numbers}
-use Rattle.rb_base.specs.Nodes.{Side, other}
-use Rattle.rb_base.specs.Nodes.Side.{Biu, Rmu}
-use Rattle.rb_base.specs.Sizes.{Sizes}
-use Rattle.rb_base.specs.declared.event.Event.{Event}
+use Rattle.std.specs.{Prelude.{◌≡◌, ℕ, zero, suc, ◌-◌, min, ◌==◌, ◌&&◌, ◌||◌, not, Bool, true, false, Option, Some, None, is_some, option_and_then, option_map, option_to_list, List, [], ◌∷◌, ◌++◌, filter, flat_map, fold, length, map, remove, slice_get, slice_set}, List.{enumerate_from, list_all}}
+use Rattle.rb_base.specs.{Counting.numbers, Nodes.{Side, other}, Nodes.Side.{Biu, Rmu}, Sizes.Sizes, declared.event.Event.Event, declared.values.Delivery.Delivery, declared.values.Place.Place}
+use Rattle.rb_rules.specs.{declared.closing.Closed.Closed, declared.message.Message.Message, declared.plan.Plan.Plan, declared.record.Epoch.Epoch, Book.{Each, of_kind, in_order, each_of, map_each, Record, Begun, Row, Milestone, Book, fresh_book, with_stage, with_frame, with_end}, Book.Milestone.{Begin, Stage, End}, Clock.{time_of, stamp_of}, Core.{Core, Act, first_core, arrive, state_at, window_here, tick, wants, next_tick, pass_to}, ExactStage.present, Goodness.{Scenario, is_good, good_at, clock_of}, Hearing.{Span, Sending, Coming, span_of, port_at, word_for, coming_of, said_by, row_of, begun_of}, Links.name_of, NodeState.NodeState, Ports.{PortState, HandIn, delivered_to, with_state}, Rounds.records_of, Slots.{same_side, count_of, role_of}}
 use Rattle.rb_base.specs.declared.event.EventKind.TheVariants as kind
-use Rattle.rb_base.specs.declared.values.Delivery.{Delivery}
-use Rattle.rb_base.specs.declared.values.Place.{Place}
-use Rattle.rb_rules.specs.declared.closing.Closed.{Closed}
-use Rattle.rb_rules.specs.declared.message.Message.{Message}
-use Rattle.rb_rules.specs.declared.plan.Plan.{Plan}
-use Rattle.rb_rules.specs.declared.record.Epoch.{Epoch}
-use Rattle.rb_rules.specs.Book.{Each, of_kind, in_order, each_of, map_each, Record, Begun, Row, Milestone, Book, fresh_book, with_stage, with_frame, with_end}
-use Rattle.rb_rules.specs.Book.Milestone.{Begin, Stage, End}
-use Rattle.rb_rules.specs.Clock.{time_of, stamp_of}
-use Rattle.rb_rules.specs.Core.{Core, Act, first_core, arrive, state_at, window_here, tick, wants, next_tick, pass_to}
-use Rattle.rb_rules.specs.ExactStage.{present}
-use Rattle.rb_rules.specs.Goodness.{Scenario, is_good, good_at, clock_of}
-use Rattle.rb_rules.specs.Hearing.{Span, Sending, Coming, span_of, port_at, word_for, coming_of, said_by, row_of, begun_of}
-use Rattle.rb_rules.specs.Links.{name_of}
-use Rattle.rb_rules.specs.NodeState.{NodeState}
-use Rattle.rb_rules.specs.Ports.{PortState, HandIn, delivered_to, with_state}
-use Rattle.rb_rules.specs.Rounds.{records_of}
-use Rattle.rb_rules.specs.Slots.{same_side, count_of, role_of}
 
 -- a tick and its time
 pub record Timed : Type 0 where

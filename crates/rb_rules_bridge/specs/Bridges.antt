@@ -1,13 +1,9 @@
 -- A bridge of two buses: which BIUs belong together, and which slot of each bus is carried over to
 -- the other.
-use Rattle.std.specs.Prelude.{ℕ, ◌≡◌, ◌+◌, ◌<◌, ◌≤◌, ◌==◌, All, List, eqb, get_or, length, map}
-use Rattle.std.specs.List.{IsDistinct, list_any}
+use Rattle.std.specs.{Prelude.{ℕ, ◌≡◌, ◌+◌, ◌<◌, ◌≤◌, ◌==◌, All, List, eqb, get_or, length, map}, List.{IsDistinct, list_any}}
 use Rattle.rb_base.specs.Nodes.{set_of}
-use Rattle.rb_rules.specs.Goodness.{Scenario}
-use Rattle.rb_rules.specs.Lawful.{IsLawful}
-use Rattle.rb_rules_bridge.specs.declared.bank.Bank.{Bank}
-use Rattle.rb_rules_bridge.specs.declared.bank.Bank.TheVariants.{Left, Right}
-use Rattle.rb_rules_bridge.specs.declared.bank.Pair.{Pair}
+use Rattle.rb_rules.specs.{Goodness.Scenario, Lawful.IsLawful}
+use Rattle.rb_rules_bridge.specs.{declared.bank.Bank.Bank, declared.bank.Bank.TheVariants.{Left, Right}, declared.bank.Pair.Pair}
 
 -- the other bank
 abbrev pub across : Bank → Bank

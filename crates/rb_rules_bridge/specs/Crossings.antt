@@ -2,19 +2,10 @@
 -- are handed in on the other bus as its next frame begins. Frames are paired by number; the time of
 -- one bus means nothing on the other.
 use Rattle.std.specs.Prelude.{ℕ, zero, suc, ◌+◌, ◌==◌, if◌then◌else◌, Option, Some, None, List, [], ◌∷◌, ◌++◌, filter, map}
-use Rattle.rb_base.specs.Nodes.Side.{Biu}
-use Rattle.rb_base.specs.declared.values.Delivery.{Delivery}
-use Rattle.rb_base.specs.declared.values.Heard.{Heard}
-use Rattle.rb_rules.specs.Book.{Record}
-use Rattle.rb_rules.specs.Goodness.{is_good}
-use Rattle.rb_rules.specs.Ports.{HandIn, word_in, word_or_0}
-use Rattle.rb_rules.specs.Rounds.{records_of}
-use Rattle.rb_group.specs.Portions.{port_deliveries, value_at}
-use Rattle.rb_group.specs.declared.voters.Which.TheVariants.{Most}
-use Rattle.rb_rules_bridge.specs.declared.bank.Bank.{Bank}
-use Rattle.rb_rules_bridge.specs.declared.bank.Bank.TheVariants.{Left, Right}
-use Rattle.rb_rules_bridge.specs.declared.bank.Pair.{Pair}
-use Rattle.rb_rules_bridge.specs.Bridges.{Bridge, across, biu_on, bus_on, carried_slot, members_on}
+use Rattle.rb_base.specs.{Nodes.Side.Biu, declared.values.Delivery.Delivery, declared.values.Heard.Heard}
+use Rattle.rb_rules.specs.{Book.Record, Goodness.is_good, Ports.{HandIn, word_in, word_or_0}, Rounds.records_of}
+use Rattle.rb_group.specs.{Portions.{port_deliveries, value_at}, declared.voters.Which.TheVariants.Most}
+use Rattle.rb_rules_bridge.specs.{declared.bank.Bank.Bank, declared.bank.Bank.TheVariants.{Left, Right}, declared.bank.Pair.Pair, Bridges.{Bridge, across, biu_on, bus_on, carried_slot, members_on}}
 
 -- A word.
 

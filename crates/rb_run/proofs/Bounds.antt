@@ -1,12 +1,6 @@
 -- How many records a run has.
-use Rattle.std.proofs.Common.{ℕ, zero, suc, ◌+◌, ◌^◌, ◌<◌, ◌≤◌, ◌==◌, inl, inr, nat_lt, Bool, true, false, Option, Some, None, List, [], ◌∷◌, length, refl, ap, ◌∙◌, arith, length-append}
-use Rattle.std.proofs.lemmas.Nat.{mul-le}
-use Rattle.rb_rules.specs.declared.plan.Window.{Window}
-use Rattle.rb_rules.specs.Book.{Book, Each, Record, Row, fresh_book}
-use Rattle.rb_rules.specs.Goodness.{Scenario}
-use Rattle.rb_rules.specs.Lawful.{IsLawful}
-use Rattle.rb_rules.specs.Ports.{HandIn}
-use Rattle.rb_rules.specs.Rounds.{Moment, Result, after_window, begin_frame, book_after, first_moment, moment, next_frame, records_of, results_of, step, steps_of, windows_in}
+use Rattle.std.proofs.{Common.{ℕ, zero, suc, ◌+◌, ◌^◌, ◌<◌, ◌≤◌, ◌==◌, inl, inr, nat_lt, Bool, true, false, Option, Some, None, List, [], ◌∷◌, length, refl, ap, ◌∙◌, arith, length-append}, lemmas.Nat.mul-le}
+use Rattle.rb_rules.specs.{declared.plan.Window.Window, Book.{Book, Each, Record, Row, fresh_book}, Goodness.Scenario, Lawful.IsLawful, Ports.HandIn, Rounds.{Moment, Result, after_window, begin_frame, book_after, first_moment, moment, next_frame, records_of, results_of, step, steps_of, windows_in}}
 use Rattle.rb_rules.proofs.Books.{records-are, stepped}
 use Rattle.rb_laws_events.proofs.WorldBooks.{AtMostOneMore, end-more, frame-more, stage-more}
 

@@ -1,16 +1,10 @@
 -- A run of which some turns have been given and counted.
 use Rattle.std.proofs.Common.{◌≡◌, ℕ, ◌+◌, Bool, false, Option, Some, None, List, [], ◌∷◌, ◌++◌, length, refl, sym, ap, ◌∙◌, subst, length-append}
 use Rattle.rb_rules.specs.Goodness.{Scenario}
-use Rattle.rb_world_book.specs.Records.{record_of}
-use Rattle.rb_world_book.specs.declared.turn.Turn.{Turn}
-use Rattle.rb_run.specs.declared.ending.Ending.{Ending}
-use Rattle.rb_run.specs.declared.totals.Totals.{Totals}
-use Rattle.rb_run.specs.Runs.{HasGivenNothing, TalliesAll, end_at}
-use Rattle.rb_run.specs.Tallies.{counted, totals_of}
-use Rattle.rb_run.proofs.Numbers.{totals-more}
-use Rattle.rb_run.proofs.UnderWay.{IsUnderWay, are-all, are-given, begins, finished, goes-on}
-use Rattle.rb_world.specs.Nexts.{is_last}
-use Rattle.rb_world.specs.Worlds.{KeptWorld}
+use Rattle.rb_world_book.specs.{Records.record_of, declared.turn.Turn.Turn}
+use Rattle.rb_run.specs.{declared.ending.Ending.Ending, declared.totals.Totals.Totals, Runs.{HasGivenNothing, TalliesAll, end_at}, Tallies.{counted, totals_of}}
+use Rattle.rb_run.proofs.{Numbers.totals-more, UnderWay.{IsUnderWay, are-all, are-given, begins, finished, goes-on}}
+use Rattle.rb_world.specs.{Nexts.is_last, Worlds.KeptWorld}
 
 -- `passed` turns were given, these are their numbers, and the run goes on
 pub record IsCounted (sc : Scenario) (is_plain : Bool) (told since : Option (List Turn)) (k : KeptWorld) (totals : Totals) (passed : ℕ) : Type 0 where

@@ -1,22 +1,10 @@
 -- A drive on its way through a run.
-use Rattle.std.proofs.Common.{◌≡◌, ◌+◌, ◌<◌, ◌≤◌, Bool, true, false, Option, Some, None, List, [], ◌∷◌, ◌++◌, length, map, refl, sym, ap, ◌∙◌, subst, append_assoc, arith, length-append}
-use Rattle.std.proofs.lemmas.List.{append-nil}
-use Rattle.rb_rules.specs.Book.{Record}
-use Rattle.rb_rules.specs.Goodness.{Scenario}
-use Rattle.rb_rules.specs.Rounds.{records_of}
-use Rattle.rb_rules.specs.WorldStep.{World}
-use Rattle.rb_world_book.specs.Records.{record_of}
-use Rattle.rb_world_book.specs.declared.turn.Turn.{Turn}
-use Rattle.rb_run.specs.declared.ending.Ending.{Ending}
-use Rattle.rb_run.specs.Histories.{GoesThrough, HasDriven, HasDrivenSome, MemDrivesKeepTheRun, gives_kept}
-use Rattle.rb_run.specs.Runs.{HasGivenNothing, end_at}
-use Rattle.rb_run.specs.Turns.{turn_of}
+use Rattle.std.proofs.{Common.{◌≡◌, ◌+◌, ◌<◌, ◌≤◌, Bool, true, false, Option, Some, None, List, [], ◌∷◌, ◌++◌, length, map, refl, sym, ap, ◌∙◌, subst, append_assoc, arith, length-append}, lemmas.List.append-nil}
+use Rattle.rb_rules.specs.{Book.Record, Goodness.Scenario, Rounds.records_of, WorldStep.World}
+use Rattle.rb_world_book.specs.{Records.record_of, declared.turn.Turn.Turn}
+use Rattle.rb_run.specs.{declared.ending.Ending.Ending, Histories.{GoesThrough, HasDriven, HasDrivenSome, MemDrivesKeepTheRun, gives_kept}, Runs.{HasGivenNothing, end_at}, Turns.turn_of}
 use Rattle.rb_run.proofs.UnderWay.{IsUnderWay, begins, ends-last, first-given, goes, goes-on, same-record, turn-is, whole-given}
-use Rattle.rb_world.specs.declared.ties.Ties.TheVariants.{First}
-use Rattle.rb_world.specs.Driving.{GivesBy, GoesAlike, Keeps, KeptTurns, Tells, given_for}
-use Rattle.rb_world.specs.Nexts.{GoesToNext, is_last}
-use Rattle.rb_world.specs.Numbering.{GoesInRounds, IsNextRecord}
-use Rattle.rb_world.specs.Worlds.{KeptWorld, Stands}
+use Rattle.rb_world.specs.{declared.ties.Ties.TheVariants.First, Driving.{GivesBy, GoesAlike, Keeps, KeptTurns, Tells, given_for}, Nexts.{GoesToNext, is_last}, Numbering.{GoesInRounds, IsNextRecord}, Worlds.{KeptWorld, Stands}}
 use Rattle.rb_world.proofs.Numbered.{alike-in-rounds, next-in-rounds}
 
 -- one more call goes through one more record

@@ -1,18 +1,10 @@
 -- The numbers with one turn more.
-use Rattle.std.proofs.Common.{◌≡◌, ℕ, ◌+◌, max, List, [], ◌∷◌, ◌++◌, Option, Some, None, length, refl, ap, ◌∙◌, arith, length-append}
-use Rattle.std.proofs.lemmas.Grind.{flat_map-append}
-use Rattle.std.proofs.lemmas.List.{append-nil}
-use Rattle.std.proofs.lemmas.List.Elements.{filter_map-append}
-use Rattle.std.specs.List.{flat_map, last_or}
-use Rattle.std.specs.Option.{option_to_list}
+use Rattle.std.proofs.{Common.{◌≡◌, ℕ, ◌+◌, max, List, [], ◌∷◌, ◌++◌, Option, Some, None, length, refl, ap, ◌∙◌, arith, length-append}, lemmas.Grind.flat_map-append, lemmas.List.append-nil, lemmas.List.Elements.filter_map-append}
+use Rattle.std.specs.{List.{flat_map, last_or}, Option.option_to_list}
 use Rattle.rb_base.proofs.Plain.{last_or-append}
-use Rattle.rb_rules.specs.Book.{Record}
-use Rattle.rb_rules.specs.Book.Record.{Frame, Slot, Ended, Breach}
-use Rattle.rb_world_book.specs.Records.{record_of}
-use Rattle.rb_world_book.specs.declared.turn.Turn.{Turn}
-use Rattle.rb_run.specs.declared.totals.Totals.{Totals}
-use Rattle.rb_run.specs.Tallies.{Block, block_in, blocks_of, convicted_in, counted, differences_in, frames_in, greatest, lines_in, tally_of, totals_of}
-use Rattle.rb_run.specs.Turns.{records_in}
+use Rattle.rb_rules.specs.{Book.Record, Book.Record.{Frame, Slot, Ended, Breach}}
+use Rattle.rb_world_book.specs.{Records.record_of, declared.turn.Turn.Turn}
+use Rattle.rb_run.specs.{declared.totals.Totals.Totals, Tallies.{Block, block_in, blocks_of, convicted_in, counted, differences_in, frames_in, greatest, lines_in, tally_of, totals_of}, Turns.records_in}
 use Rattle.rb_run.proofs.Texts.{records-more}
 
 pub greatest-append : (xs ys : List ℕ) → greatest (xs ++ ys) ≡ max (greatest xs) (greatest ys)

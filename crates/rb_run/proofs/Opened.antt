@@ -1,7 +1,6 @@
 -- A run that has just been opened.
 use Rattle.std.proofs.Common.{refl}
-use Rattle.rb_rules.specs.Goodness.{Scenario}
-use Rattle.rb_rules.specs.WorldStep.{first_world}
+use Rattle.rb_rules.specs.{Goodness.Scenario, WorldStep.first_world}
 use Rattle.rb_run.specs.Runs.{HasGivenNothing}
 use Rattle.rb_world.specs.Worlds.{KeptWorld, Stands}
 

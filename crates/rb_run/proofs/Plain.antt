@@ -1,19 +1,12 @@
 -- The turns of a plain drive are the records of the rounds: so are the report and the numbers of a
 -- run.
-use Rattle.std.proofs.Common.{◌≡◌, ℕ, true, Option, List, [], ◌∷◌, ◌++◌, length, map, refl, sym, ap, ◌∙◌, subst, append_assoc, arith, length-append}
-use Rattle.std.proofs.lemmas.List.{append-nil, length-map}
-use Rattle.rb_rules.specs.Book.{Record}
-use Rattle.rb_rules.specs.Book.Record.{Frame, Slot, Ended, Breach}
-use Rattle.rb_rules.specs.Goodness.{Scenario}
-use Rattle.rb_rules.specs.Rounds.{records_of}
+use Rattle.std.proofs.{Common.{◌≡◌, ℕ, true, Option, List, [], ◌∷◌, ◌++◌, length, map, refl, sym, ap, ◌∙◌, subst, append_assoc, arith, length-append}, lemmas.List.{append-nil, length-map}}
+use Rattle.rb_rules.specs.{Book.Record, Book.Record.{Frame, Slot, Ended, Breach}, Goodness.Scenario, Rounds.records_of}
 use Rattle.rb_world_book.specs.declared.turn.Turn.{Turn}
 use Rattle.rb_outside.specs.Bytes.{AppendsPart}
 use Rattle.rb_outside.proofs.Known.{part_widens}
-use Rattle.rb_report.specs.Report.{breach_text, end_text}
-use Rattle.rb_report.specs.Texts.{block_text, deliveries_text, report_of, text_after}
-use Rattle.rb_run.specs.Reports.{newest_after}
-use Rattle.rb_run.specs.Tallies.{tally_of, totals_of}
-use Rattle.rb_run.specs.Turns.{AreAll, AreGiven, records_in, text_of, turn_of}
+use Rattle.rb_report.specs.{Report.{breach_text, end_text}, Texts.{block_text, deliveries_text, report_of, text_after}}
+use Rattle.rb_run.specs.{Reports.newest_after, Tallies.{tally_of, totals_of}, Turns.{AreAll, AreGiven, records_in, text_of, turn_of}}
 
 -- the records of the turns of some records are these records
 pub records-back : (rs : List Record) → records_in (map turn_of rs) ≡ rs

@@ -2,18 +2,12 @@
 use Rattle.std.proofs.Common.{◌≡◌, ℕ, ◌+◌, Bool, false, Option, Some, None, List, [], ◌∷◌, ◌++◌, length, refl, sym, ap, ◌∙◌, subst, length-append}
 use Rattle.std.specs.Io.KnownBytes.{Appends}
 use Rattle.rb_rules.specs.Goodness.{Scenario}
-use Rattle.rb_world_book.specs.Records.{record_of}
-use Rattle.rb_world_book.specs.declared.turn.Turn.{Turn}
+use Rattle.rb_world_book.specs.{Records.record_of, declared.turn.Turn.Turn}
 use Rattle.rb_outside.specs.Bytes.{AppendsPart}
 use Rattle.rb_outside.proofs.Known.{appends_join, appends_none, part_join}
-use Rattle.rb_run.specs.declared.ending.Ending.{Ending}
-use Rattle.rb_run.specs.Reports.{newest_after, newest_with, turn_text}
-use Rattle.rb_run.specs.Runs.{HasGivenNothing, WritesAll, WritesPart, end_at}
-use Rattle.rb_run.specs.Turns.{records_in, text_of}
-use Rattle.rb_run.proofs.Texts.{newest-more, text-more}
-use Rattle.rb_run.proofs.UnderWay.{IsUnderWay, are-all, are-given, begins, finished, goes-on}
-use Rattle.rb_world.specs.Nexts.{is_last}
-use Rattle.rb_world.specs.Worlds.{KeptWorld}
+use Rattle.rb_run.specs.{declared.ending.Ending.Ending, Reports.{newest_after, newest_with, turn_text}, Runs.{HasGivenNothing, WritesAll, WritesPart, end_at}, Turns.{records_in, text_of}}
+use Rattle.rb_run.proofs.{Texts.{newest-more, text-more}, UnderWay.{IsUnderWay, are-all, are-given, begins, finished, goes-on}}
+use Rattle.rb_world.specs.{Nexts.is_last, Worlds.KeptWorld}
 
 -- `passed` turns were given and written, the newest block being that of frame `newest`, and the run
 -- goes on

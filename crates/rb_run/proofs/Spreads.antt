@@ -1,6 +1,5 @@
 -- The greatest difference of two numbers is that of the greatest and the least.
-use Rattle.std.proofs.Common.{◌≡◌, ℕ, ◌+◌, ◌-◌, ◌<◌, ◌≤◌, min, max, Some, List, [], ◌∷◌, ◌++◌, length, get_or, map, take, refl, sym, ap, ◌∙◌, subst, arith, slice_get}
-use Rattle.std.proofs.lemmas.List.{take_all, take_more}
+use Rattle.std.proofs.{Common.{◌≡◌, ℕ, ◌+◌, ◌-◌, ◌<◌, ◌≤◌, min, max, Some, List, [], ◌∷◌, ◌++◌, length, get_or, map, take, refl, sym, ap, ◌∙◌, subst, arith, slice_get}, lemmas.List.{take_all, take_more}}
 use Rattle.std.specs.List.{flat_map}
 use Rattle.rb_base.specs.declared.node.NodeName.TheVariants.{Biu}
 use Rattle.rb_rules.specs.declared.record.NodeLine.{NodeLine}

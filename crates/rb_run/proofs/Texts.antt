@@ -1,20 +1,12 @@
 -- The text of one turn more.
-use Rattle.std.proofs.Common.{◌≡◌, ℕ, List, [], ◌∷◌, ◌++◌, Option, Some, None, refl, sym, ap, ◌∙◌, append_assoc, Result, Ok, Err, OnErr}
-use Rattle.std.proofs.lemmas.List.{append-nil}
-use Rattle.std.proofs.lemmas.List.Elements.{filter_map-append}
-use Rattle.std.specs.List.{cons_option}
-use Rattle.std.specs.Option.{option_to_list}
-use Rattle.std.specs.Io.KnownBytes.{Appends}
-use Rattle.rb_rules.specs.Book.{Record}
-use Rattle.rb_rules.specs.Book.Record.{Frame, Slot, Ended, Breach}
-use Rattle.rb_world_book.specs.Records.{record_of}
-use Rattle.rb_world_book.specs.declared.turn.Turn.{Turn}
+use Rattle.std.proofs.{Common.{◌≡◌, ℕ, List, [], ◌∷◌, ◌++◌, Option, Some, None, refl, sym, ap, ◌∙◌, append_assoc, Result, Ok, Err, OnErr}, lemmas.List.append-nil, lemmas.List.Elements.filter_map-append}
+use Rattle.std.specs.{List.cons_option, Option.option_to_list, Io.KnownBytes.Appends}
+use Rattle.rb_rules.specs.{Book.Record, Book.Record.{Frame, Slot, Ended, Breach}}
+use Rattle.rb_world_book.specs.{Records.record_of, declared.turn.Turn.Turn}
 use Rattle.rb_outside.specs.Bytes.{AppendsPart}
 use Rattle.rb_outside.proofs.Known.{part_join}
-use Rattle.rb_report.specs.Report.{breach_text, end_text}
-use Rattle.rb_report.specs.Texts.{block_text, deliveries_text, text_after}
-use Rattle.rb_run.specs.Reports.{newest_after, newest_with, turn_text}
-use Rattle.rb_run.specs.Turns.{records_in, text_of}
+use Rattle.rb_report.specs.{Report.{breach_text, end_text}, Texts.{block_text, deliveries_text, text_after}}
+use Rattle.rb_run.specs.{Reports.{newest_after, newest_with, turn_text}, Turns.{records_in, text_of}}
 
 one-item : {X : Type 0} (o : Option X) → cons_option o [] ≡ option_to_list o
 one-item None = refl

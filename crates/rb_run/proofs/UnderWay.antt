@@ -1,29 +1,15 @@
 -- A run of which some turns have been given.
-use Rattle.std.proofs.Common.{◌≡◌, ℕ, ◌^◌, ◌<◌, Bool, true, false, Option, Some, None, List, [], ◌∷◌, ◌++◌, length, map, refl, sym, ap, ◌∙◌, subst, append_assoc, arith, slice_get, length-append}
-use Rattle.std.proofs.lemmas.List.{append-nil, length-map, map-append}
+use Rattle.std.proofs.{Common.{◌≡◌, ℕ, ◌^◌, ◌<◌, Bool, true, false, Option, Some, None, List, [], ◌∷◌, ◌++◌, length, map, refl, sym, ap, ◌∙◌, subst, append_assoc, arith, slice_get, length-append}, lemmas.List.{append-nil, length-map, map-append}}
 use Rattle.std.specs.List.{last_or}
 use Rattle.rb_base.proofs.Plain.{last_or-append}
-use Rattle.rb_rules.specs.Book.{Record}
-use Rattle.rb_rules.specs.Goodness.{Scenario}
-use Rattle.rb_rules.specs.Lawful.{IsLawful}
-use Rattle.rb_rules.specs.Ports.{HandIn}
-use Rattle.rb_rules.specs.Rounds.{records_of}
-use Rattle.rb_rules.specs.WorldStep.{IsPrefix, World}
-use Rattle.rb_world_book.specs.Records.{record_of}
-use Rattle.rb_world_book.specs.declared.turn.Turn.{Turn}
-use Rattle.rb_world_book.specs.declared.turn.Turn.TheVariants as shown
+use Rattle.rb_rules.specs.{Book.Record, Goodness.Scenario, Lawful.IsLawful, Ports.HandIn, Rounds.records_of, WorldStep.{IsPrefix, World}}
+use Rattle.rb_world_book.specs.{Records.record_of, declared.turn.Turn.Turn}
 use Rattle.rb_laws_events.proofs.EventsHold.{events-hold}
-use Rattle.rb_run.specs.declared.ending.Ending.{Ending}
-use Rattle.rb_run.specs.Runs.{EndsWith, HasGivenNothing, end_at}
-use Rattle.rb_run.specs.Turns.{AreAll, AreGiven, TellsAll, turn_of}
+use Rattle.rb_run.specs.{declared.ending.Ending.Ending, Runs.{EndsWith, HasGivenNothing, end_at}, Turns.{AreAll, AreGiven, TellsAll, turn_of}}
 use Rattle.rb_run.proofs.Bounds.{few-records}
-use Rattle.rb_world.specs.declared.ties.Ties.TheVariants.{First}
-use Rattle.rb_world.specs.Driving.{GoesAlike, Tells, bare}
-use Rattle.rb_world.specs.Nexts.{GoesToNext, is_last}
-use Rattle.rb_world.specs.Numbering.{GoesInRounds, IsNextRecord}
-use Rattle.rb_world.specs.Worlds.{KeptWorld, Stands}
-use Rattle.rb_world.proofs.LastTurn.{reached-ended, reached-gave}
-use Rattle.rb_world.proofs.Numbered.{alike-in-rounds, alike-last, next-in-rounds}
+use Rattle.rb_world.specs.{declared.ties.Ties.TheVariants.First, Driving.{GoesAlike, Tells, bare}, Nexts.{GoesToNext, is_last}, Numbering.{GoesInRounds, IsNextRecord}, Worlds.{KeptWorld, Stands}}
+use Rattle.rb_world.proofs.{LastTurn.{reached-ended, reached-gave}, Numbered.{alike-in-rounds, alike-last, next-in-rounds}}
+use Rattle.rb_world_book.specs.declared.turn.Turn.TheVariants as shown
 
 -- `turns` were given, and `over` says whether the run has ended
 pub record IsUnderWay (sc : Scenario) (is_plain : Bool) (told since : Option (List Turn)) (k : KeptWorld) (turns : List Turn) (over : Bool) : Type 0 where

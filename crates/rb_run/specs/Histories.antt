@@ -1,9 +1,6 @@
 -- The history of a drive: what it gave for each record of a run, and what it was between two calls.
 use Rattle.std.specs.Prelude.{◌≡◌, ◌+◌, ◌≤◌, List, [], ◌∷◌, ◌++◌, length, map}
-use Rattle.rb_rules.specs.Book.{Record}
-use Rattle.rb_rules.specs.Goodness.{Scenario}
-use Rattle.rb_rules.specs.Rounds.{records_of}
-use Rattle.rb_rules.specs.WorldStep.{IsPrefix}
+use Rattle.rb_rules.specs.{Book.Record, Goodness.Scenario, Rounds.records_of, WorldStep.IsPrefix}
 use Rattle.rb_world_book.specs.declared.turn.Turn.{Turn}
 use Rattle.rb_world.specs.Driving.{Keeps, KeptTurns, given_for}
 use Rattle.rb_run.specs.Turns.{turn_of}

@@ -1,12 +1,7 @@
 -- The report of a run, turn by turn.
-use Rattle.std.specs.Prelude.{ℕ, Option, Some, None, List, [], ◌∷◌}
-use Rattle.std.specs.List.{flat_map}
-use Rattle.rb_rules.specs.declared.record.NodeLine.{NodeLine}
-use Rattle.rb_rules.specs.declared.record.PortLine.{PortLine}
-use Rattle.rb_rules.specs.Book.{Record}
-use Rattle.rb_rules.specs.Book.Record.{Frame, Slot, Ended, Breach}
-use Rattle.rb_report.specs.Report.{breach_text, convicted_text, end_text, epoch_text, port_text}
-use Rattle.rb_report.specs.Texts.{block_text, deliveries_text}
+use Rattle.std.specs.{Prelude.{ℕ, Option, Some, None, List, [], ◌∷◌}, List.flat_map}
+use Rattle.rb_rules.specs.{declared.record.NodeLine.NodeLine, declared.record.PortLine.PortLine, Book.Record, Book.Record.{Frame, Slot, Ended, Breach}}
+use Rattle.rb_report.specs.{Report.{breach_text, convicted_text, end_text, epoch_text, port_text}, Texts.{block_text, deliveries_text}}
 
 -- the parts of a frame's block, each a line a node or a port
 abbrev pub epochs_text : ℕ → List NodeLine → List ℕ

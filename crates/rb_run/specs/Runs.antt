@@ -1,19 +1,11 @@
 -- What comes of a run that is taken to its end.
-use Rattle.std.specs.Prelude.{ℕ, ◌≡◌, Bool, Option, Some, None, List, []}
-use Rattle.std.specs.List.{last_or}
-use Rattle.std.specs.Io.KnownBytes.{Appends}
-use Rattle.rb_rules.specs.Book.{Record}
-use Rattle.rb_rules.specs.Goodness.{Scenario}
-use Rattle.rb_rules.specs.Rounds.{records_of}
-use Rattle.rb_rules.specs.WorldStep.{World}
+use Rattle.std.specs.{Prelude.{ℕ, ◌≡◌, Bool, Option, Some, None, List, []}, List.last_or, Io.KnownBytes.Appends}
+use Rattle.rb_rules.specs.{Book.Record, Goodness.Scenario, Rounds.records_of, WorldStep.World}
 use Rattle.rb_world_book.specs.declared.turn.Turn.{Turn}
 use Rattle.rb_outside.specs.Bytes.{AppendsPart}
-use Rattle.rb_run.specs.declared.ending.Ending.{Ending}
-use Rattle.rb_run.specs.declared.ending.Ending.TheVariants as ending
-use Rattle.rb_run.specs.declared.totals.Totals.{Totals}
-use Rattle.rb_run.specs.Tallies.{totals_of}
-use Rattle.rb_run.specs.Turns.{AreAll, AreGiven, text_of}
+use Rattle.rb_run.specs.{declared.ending.Ending.Ending, declared.totals.Totals.Totals, Tallies.totals_of, Turns.{AreAll, AreGiven, text_of}}
 use Rattle.rb_world.specs.Worlds.{KeptWorld, Stands}
+use Rattle.rb_run.specs.declared.ending.Ending.TheVariants as ending
 
 -- no record of the run has been given yet, and no state was handed in. So it is with a world that
 -- has just been opened

@@ -1,14 +1,9 @@
 -- The four numbers of a run.
-use Rattle.std.specs.Prelude.{ℕ, ◌+◌, ◌-◌, max, Option, Some, None, List, [], ◌∷◌, filter_map, length, map}
-use Rattle.std.specs.List.{flat_map, last_or}
+use Rattle.std.specs.{Prelude.{ℕ, ◌+◌, ◌-◌, max, Option, Some, None, List, [], ◌∷◌, filter_map, length, map}, List.{flat_map, last_or}}
 use Rattle.rb_base.specs.Nodes.{size}
-use Rattle.rb_rules.specs.declared.record.NodeLine.{NodeLine}
-use Rattle.rb_rules.specs.declared.record.SlotLine.{SlotLine}
-use Rattle.rb_rules.specs.Book.{Record}
-use Rattle.rb_rules.specs.Book.Record.{Frame, Slot, Ended, Breach}
+use Rattle.rb_rules.specs.{declared.record.NodeLine.NodeLine, declared.record.SlotLine.SlotLine, Book.Record, Book.Record.{Frame, Slot, Ended, Breach}}
 use Rattle.rb_world_book.specs.declared.turn.Turn.{Turn}
-use Rattle.rb_run.specs.declared.totals.Totals.{Totals}
-use Rattle.rb_run.specs.Turns.{records_in}
+use Rattle.rb_run.specs.{declared.totals.Totals.Totals, Turns.records_in}
 
 -- the first part of a frame's block: a line for each node
 pub record Block : Type 0 where

@@ -1,14 +1,10 @@
 -- The turns that a drive gives in a run, and what they say.
 use Rattle.std.specs.Prelude.{⊤, ℕ, ◌≡◌, Bool, true, Option, Some, None, List, [], ◌++◌, filter_map, length, map}
-use Rattle.rb_rules.specs.Book.{Record}
-use Rattle.rb_rules.specs.Goodness.{Scenario}
-use Rattle.rb_rules.specs.Rounds.{records_of}
-use Rattle.rb_rules.specs.WorldStep.{IsPrefix}
-use Rattle.rb_world_book.specs.Records.{record_of}
-use Rattle.rb_world_book.specs.declared.turn.Turn.{Turn}
-use Rattle.rb_world_book.specs.declared.turn.Turn.TheVariants as turn
+use Rattle.rb_rules.specs.{Book.Record, Goodness.Scenario, Rounds.records_of, WorldStep.IsPrefix}
+use Rattle.rb_world_book.specs.{Records.record_of, declared.turn.Turn.Turn}
 use Rattle.rb_report.specs.Texts.{report_of}
 use Rattle.rb_world.specs.Driving.{bare}
+use Rattle.rb_world_book.specs.declared.turn.Turn.TheVariants as turn
 
 -- the turn that is a given record
 abbrev pub turn_of : Record → Turn

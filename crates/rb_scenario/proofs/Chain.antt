@@ -1,12 +1,8 @@
 -- The first rule that is broken, from which of them are kept.
 use Rattle.std.proofs.Common.{◌≡◌, ℕ, Bool, true, false, length, Option, Some, None, inl, inr, refl}
-use Rattle.rb_rules.specs.Goodness.{Scenario}
-use Rattle.rb_rules.specs.Plan.{first_failing}
-use Rattle.rb_scenario_entries.specs.declared.refusal.Refusal.{Refusal}
-use Rattle.rb_scenario_entries.specs.declared.refusal.Refusal.TheVariants.{PlanFails, ClockBounds, DelayBounds, StartApart, SayOfGood, TooMany}
-use Rattle.rb_scenario.specs.Acceptance.{IsBrokenBy, broken_by, or_else, plan_rule}
-use Rattle.rb_scenario_entries.specs.Outcome.{IsRefusalBy}
-use Rattle.rb_scenario.specs.Rules.{are_delays, are_few, are_sayers_faulty, keep_time, start_together}
+use Rattle.rb_rules.specs.{Goodness.Scenario, Plan.first_failing}
+use Rattle.rb_scenario_entries.specs.{declared.refusal.Refusal.Refusal, declared.refusal.Refusal.TheVariants.{PlanFails, ClockBounds, DelayBounds, StartApart, SayOfGood, TooMany}, Outcome.IsRefusalBy}
+use Rattle.rb_scenario.specs.{Acceptance.{IsBrokenBy, broken_by, or_else, plan_rule}, Rules.{are_delays, are_few, are_sayers_faulty, keep_time, start_together}}
 
 chain : Option ℕ → Bool → Bool → Bool → Bool → Bool → Option Refusal
 chain o a b c d e =

@@ -1,11 +1,8 @@
 -- An accepted input says one scenario, and breaks no rule.
 use Rattle.std.proofs.Common.{◌≡◌, ℕ, List, Some, None, ap, sym, ◌∙◌}
 use Rattle.toml.specs.Data.{Members}
-use Rattle.rb_scenario.specs.Acceptance.{IsAccepted, IsBroken, IsDocument, IsRefused, first_broken, as_scenario}
-use Rattle.rb_scenario.specs.Reading.{scenario_of}
-use Rattle.rb_scenario_entries.specs.declared.refusal.Refusal.{Refusal}
-use Rattle.rb_scenario_entries.specs.declared.refusal.Refusal.TheVariants.{NotToml}
-use Rattle.rb_scenario.specs.declared.scenario.Scenario.{Scenario}
+use Rattle.rb_scenario.specs.{Acceptance.{IsAccepted, IsBroken, IsDocument, IsRefused, first_broken, as_scenario}, Reading.scenario_of, declared.scenario.Scenario.Scenario}
+use Rattle.rb_scenario_entries.specs.{declared.refusal.Refusal.Refusal, declared.refusal.Refusal.TheVariants.NotToml}
 
 -- bytes are the text of one document at most
 pub same_document : (bytes : List ℕ) (s t : Members) → IsDocument bytes s → IsDocument bytes t → s ≡ t

@@ -1,14 +1,9 @@
 -- The first rule of all that a document breaks.
-use Rattle.std.proofs.Common.{◌≡◌, ◌⊎◌, ℕ, List, Bool, true, false, not, cond, Option, Some, None, Result, Ok, Err, IfErr, inl, inr, refl, ap, ◌∙◌, subst}
-use Rattle.std.proofs.lemmas.Bool.{and_from, and_left, and_right}
+use Rattle.std.proofs.{Common.{◌≡◌, ◌⊎◌, ℕ, List, Bool, true, false, not, cond, Option, Some, None, Result, Ok, Err, IfErr, inl, inr, refl, ap, ◌∙◌, subst}, lemmas.Bool.{and_from, and_left, and_right}}
 use Rattle.toml.specs.Data.{Members}
 use Rattle.rb_scenario_document.specs.Forms.{has_unknown_key, has_wrong_form, lacks_key}
-use Rattle.rb_scenario_entries.specs.declared.bus.Bus.{Bus}
-use Rattle.rb_scenario_entries.specs.declared.refusal.Refusal.{Refusal}
-use Rattle.rb_scenario_entries.specs.declared.refusal.Refusal.TheVariants.{NotToml, MissingKey, UnknownKey, WrongType, OutOfRange, PlanFails, ClockBounds, DelayBounds, StartApart, SayOfGood, TooMany, NoSuchNode, OutOfMemory}
-use Rattle.rb_scenario.specs.Acceptance.{IsDocument, IsRefused, broken_by, first_broken, or_else, plan_rule}
-use Rattle.rb_scenario_entries.specs.Bus.{bus_in, bus_of, has_bus}
-use Rattle.rb_scenario.specs.Reading.{fits_bus, is_in_range, scenario_of}
+use Rattle.rb_scenario_entries.specs.{declared.bus.Bus.Bus, declared.refusal.Refusal.Refusal, declared.refusal.Refusal.TheVariants.{NotToml, MissingKey, UnknownKey, WrongType, OutOfRange, PlanFails, ClockBounds, DelayBounds, StartApart, SayOfGood, TooMany, NoSuchNode, OutOfMemory}, Bus.{bus_in, bus_of, has_bus}}
+use Rattle.rb_scenario.specs.{Acceptance.{IsDocument, IsRefused, broken_by, first_broken, or_else, plan_rule}, Reading.{fits_bus, is_in_range, scenario_of}}
 
 -- if there is a bus, it is the one that the members say
 pub bus_in-some : (t : Members) (bus : Bus) → Some bus ≡ bus_in t → (has_bus t ≡ true) × (bus ≡ bus_of t)

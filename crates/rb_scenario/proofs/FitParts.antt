@@ -1,17 +1,10 @@
 -- The parts of what is tested over a document whose bus is known.
-use Rattle.std.proofs.Common.{◌≡◌, true, codes}
-use Rattle.std.proofs.lemmas.Bool.{and_parts}
+use Rattle.std.proofs.{Common.{◌≡◌, true, codes}, lemmas.Bool.and_parts}
 use Rattle.std.specs.List.{list_all}
 use Rattle.toml.specs.Data.{Members}
-use Rattle.rb_scenario_document.specs.Values.{may_have_number}
-use Rattle.rb_scenario_document.specs.Walk.{entries_at}
-use Rattle.rb_scenario_entries.specs.declared.bus.Bus.{Bus}
-use Rattle.rb_scenario_entries.specs.Clocks.{is_clock}
-use Rattle.rb_scenario_entries.specs.Faults.{is_fault}
-use Rattle.rb_scenario_entries.specs.Links.{is_link}
-use Rattle.rb_scenario_entries.specs.Says.{is_say}
-use Rattle.rb_scenario.specs.Hosts.{has_lists}
-use Rattle.rb_scenario.specs.Reading.{fits_bus}
+use Rattle.rb_scenario_document.specs.{Values.may_have_number, Walk.entries_at}
+use Rattle.rb_scenario_entries.specs.{declared.bus.Bus.Bus, Clocks.is_clock, Faults.is_fault, Links.is_link, Says.is_say}
+use Rattle.rb_scenario.specs.{Hosts.has_lists, Reading.fits_bus}
 
 pub record FitParts (bus : Bus) (t : Members) : Type 0 where
   pub lists : has_lists bus.shape.bius t ≡ true

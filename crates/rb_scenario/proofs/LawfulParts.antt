@@ -1,48 +1,16 @@
 -- Every scenario that is accepted is lawful, and its faulty nodes do what its entries list.
-use Rattle.std.proofs.Common.{◌≡◌, ◌+◌, ◌-◌, ◌^◌, ◌<◌, ◌≤◌, ℕ, List, Bool, true, false, not, nat_le, nat_lt, cond, All, length, get_or, map, codes, Option, Some, None, Result, Ok, Err, IfOk, refl, sym, ap, ◌∙◌, subst, arith, length-append}
-use Rattle.std.proofs.lemmas.Bool.{and_parts, leb-true, not-true}
-use Rattle.std.proofs.lemmas.List.Elements.{All-append, All-map}
-use Rattle.std.proofs.lemmas.List.FromFn.{length-map-range_with_len}
-use Rattle.std.proofs.lemmas.List.Sums.{AllPass-from_list_all}
-use Rattle.std.specs.Prelude.{option_map, unwrap_or}
-use Rattle.std.specs.List.{find, list_all}
-use Rattle.std.specs.Str.{bytes_eq}
+use Rattle.std.proofs.{Common.{◌≡◌, ◌+◌, ◌-◌, ◌^◌, ◌<◌, ◌≤◌, ℕ, List, Bool, true, false, not, nat_le, nat_lt, cond, All, length, get_or, map, codes, Option, Some, None, Result, Ok, Err, IfOk, refl, sym, ap, ◌∙◌, subst, arith, length-append}, lemmas.Bool.{and_parts, leb-true, not-true}, lemmas.List.Elements.{All-append, All-map}, lemmas.List.FromFn.length-map-range_with_len, lemmas.List.Sums.AllPass-from_list_all}
+use Rattle.std.specs.{Prelude.{option_map, unwrap_or}, List.{find, list_all}, Str.bytes_eq}
 use Rattle.toml.specs.Data.{Data, Members, string, integer, float, boolean, datetime, array, table, no_members, get_member}
-use Rattle.rb_base.specs.Counting.{numbers}
-use Rattle.rb_base.specs.Nodes.{Side}
-use Rattle.rb_base.specs.Nodes.Side.{Biu, Rmu}
-use Rattle.rb_base.specs.Sizes.{sync_slot_of}
-use Rattle.rb_base.specs.declared.node.NodeName.{NodeName}
-use Rattle.rb_rules.specs.Clock.{IsClock, Timeline}
-use Rattle.rb_rules.specs.Entries.{IsListed}
-use Rattle.rb_rules.specs.Goodness.{Scenario}
-use Rattle.rb_rules.specs.Links.{name_of}
-use Rattle.rb_rules.specs.Plan.{IsFeasible, longest_of, shortest_of}
-use Rattle.rb_rules.specs.declared.plan.Plan.{Plan}
-use Rattle.rb_rules.specs.Lawful.{HasEach, IsLawful, IsOnsetOf, is_node_good, segments_of_all}
-use Rattle.rb_rules.proofs.Feasibility.{feasible_exactly}
-use Rattle.rb_rules.proofs.Lawfulness.{sends_inside_all}
-use Rattle.rb_scenario_document.specs.Names.{node_at}
-use Rattle.rb_scenario_document.specs.Values.{has_number, item_at, may_have_number, number_at, number_or}
-use Rattle.rb_scenario_document.specs.Walk.{entries_at, has_key, passes}
-use Rattle.rb_scenario_document.proofs.Bounds.{absent_or-bounds, passes-bounds}
-use Rattle.rb_scenario_document.proofs.Walks.{listed-within}
-use Rattle.rb_scenario_entries.specs.declared.bus.Bus.{Bus}
-use Rattle.rb_scenario.specs.Acceptance.{broken_by}
-use Rattle.rb_scenario_entries.specs.Bus.{IsBus}
-use Rattle.rb_scenario_entries.specs.Clocks.{clock_for, clocks_of, is_clock, kind_clocks, timeline_of}
-use Rattle.rb_scenario_entries.specs.Entries.{is_node}
-use Rattle.rb_scenario_entries.specs.Faults.{is_fault, onset_for, onset_of, onsets_of}
-use Rattle.rb_scenario.specs.Hosts.{app_at, app_in, apps_of, has_lists, request_at, requests_of, word_at, words_of}
-use Rattle.rb_scenario_entries.specs.Links.{is_link, rule_of}
-use Rattle.rb_scenario.specs.Reading.{fits_bus, scenario_on}
-use Rattle.rb_scenario.specs.Rules.{is_delay, keep_time, start_together}
-use Rattle.rb_scenario_entries.specs.Clocks.{keeps_time}
-use Rattle.rb_scenario_entries.specs.Says.{is_say, say_of}
-use Rattle.rb_scenario.proofs.Chain.{AllKept, kept_from_none}
-use Rattle.rb_scenario_entries.proofs.LawfulEntries.{LinkLaw, SayLaw, link_law, say_law}
-use Rattle.rb_scenario.proofs.FitParts.{fit_parts}
-use Rattle.rb_scenario_entries.proofs.Finding.{found_passes}
+use Rattle.rb_base.specs.{Counting.numbers, Nodes.Side, Nodes.Side.{Biu, Rmu}, Sizes.sync_slot_of, declared.node.NodeName.NodeName}
+use Rattle.rb_rules.specs.{Clock.{IsClock, Timeline}, Entries.IsListed, Goodness.Scenario, Links.name_of, Plan.{IsFeasible, longest_of, shortest_of}, declared.plan.Plan.Plan, Lawful.{HasEach, IsLawful, IsOnsetOf, is_node_good, segments_of_all}}
+use Rattle.rb_rules.proofs.{Feasibility.feasible_exactly, Lawfulness.sends_inside_all}
+use Rattle.rb_scenario_document.specs.{Names.node_at, Values.{has_number, item_at, may_have_number, number_at, number_or}, Walk.{entries_at, has_key, passes}}
+use Rattle.rb_scenario_document.proofs.{Bounds.{absent_or-bounds, passes-bounds}, Walks.listed-within}
+use Rattle.rb_scenario_entries.specs.{declared.bus.Bus.Bus, Bus.IsBus, Clocks.{clock_for, clocks_of, is_clock, kind_clocks, timeline_of}, Entries.is_node, Faults.{is_fault, onset_for, onset_of, onsets_of}, Links.{is_link, rule_of}, Clocks.keeps_time, Says.{is_say, say_of}}
+use Rattle.rb_scenario.specs.{Acceptance.broken_by, Hosts.{app_at, app_in, apps_of, has_lists, request_at, requests_of, word_at, words_of}, Reading.{fits_bus, scenario_on}, Rules.{is_delay, keep_time, start_together}}
+use Rattle.rb_scenario.proofs.{Chain.{AllKept, kept_from_none}, FitParts.fit_parts}
+use Rattle.rb_scenario_entries.proofs.{LawfulEntries.{LinkLaw, SayLaw, link_law, say_law}, Finding.found_passes}
 
 -- what holds of what each number gives holds of all that is made by number
 all_made : {X : Type 0} (P : X → Type 0) (f : ℕ → X) (n : ℕ) → ((i : ℕ) → P (f i)) → All P (map f (numbers n))

@@ -1,16 +1,10 @@
 -- Which documents are accepted, and why one is refused: by the first rule that is broken anywhere.
 use Rattle.std.specs.Prelude.{ℕ, ◌≡◌, ◌⊎◌, Bool, true, false, not, List, Option, Some, None, length, IsUtf8, ⊤}
-use Rattle.toml.specs.Data.{Members}
-use Rattle.toml.specs.Parse.{parse_document}
-use Rattle.rb_rules.specs.Entries.{listed}
-use Rattle.rb_rules.specs.Goodness.{Scenario, clock_among}
-use Rattle.rb_rules.specs.Plan.{first_failing}
+use Rattle.toml.specs.{Data.Members, Parse.parse_document}
+use Rattle.rb_rules.specs.{Entries.listed, Goodness.{Scenario, clock_among}, Plan.first_failing}
 use Rattle.rb_scenario_document.specs.Forms.{has_unknown_key, has_wrong_form, lacks_key}
-use Rattle.rb_scenario_entries.specs.declared.refusal.Refusal.{Refusal}
-use Rattle.rb_scenario_entries.specs.declared.refusal.Refusal.TheVariants.{NotToml, MissingKey, UnknownKey, WrongType, OutOfRange, PlanFails, ClockBounds, DelayBounds, StartApart, SayOfGood, TooMany, NoSuchNode, OutOfMemory}
-use Rattle.rb_scenario.specs.declared.scenario.Scenario.{Scenario as Accepted}
-use Rattle.rb_scenario.specs.Reading.{is_in_range, scenario_of}
-use Rattle.rb_scenario.specs.Rules.{are_delays, are_few, are_sayers_faulty, keep_time, start_together}
+use Rattle.rb_scenario_entries.specs.{declared.refusal.Refusal.Refusal, declared.refusal.Refusal.TheVariants.{NotToml, MissingKey, UnknownKey, WrongType, OutOfRange, PlanFails, ClockBounds, DelayBounds, StartApart, SayOfGood, TooMany, NoSuchNode, OutOfMemory}}
+use Rattle.rb_scenario.specs.{declared.scenario.Scenario.Scenario as Accepted, Reading.{is_in_range, scenario_of}, Rules.{are_delays, are_few, are_sayers_faulty, keep_time, start_together}}
 
 -- a rule that is kept leaves it to the next ones
 abbrev pub or_else : Bool → Refusal → Option Refusal → Option Refusal

@@ -1,10 +1,8 @@
 -- What the root of a document says of each BIU: its request, its word and its application.
-use Rattle.std.specs.Prelude.{ℕ, Bool, ◌&&◌, nat_lt, List, map, Option, Some, None, is_some, unwrap_or, codes, if◌then◌else◌}
-use Rattle.std.specs.Str.{bytes_eq}
+use Rattle.std.specs.{Prelude.{ℕ, Bool, ◌&&◌, nat_lt, List, map, Option, Some, None, is_some, unwrap_or, codes, if◌then◌else◌}, Str.bytes_eq}
 use Rattle.toml.specs.Data.{Data, string, Members}
 use Rattle.rb_base.specs.Counting.{numbers}
-use Rattle.rb_scenario_document.specs.Values.{is_within, item_at, may_have_list, number_or}
-use Rattle.rb_scenario_document.specs.Walk.{has_key}
+use Rattle.rb_scenario_document.specs.{Values.{is_within, item_at, may_have_list, number_or}, Walk.has_key}
 
 -- the number of an application
 abbrev pub app_named : List ℕ → Option ℕ

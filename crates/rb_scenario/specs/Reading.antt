@@ -1,21 +1,11 @@
 -- Whether all values of a document are in range, and the scenario that it says.
-use Rattle.std.specs.Prelude.{ℕ, ◌+◌, ◌/◌, Bool, ◌&&◌, codes}
-use Rattle.std.specs.List.{list_all}
+use Rattle.std.specs.{Prelude.{ℕ, ◌+◌, ◌/◌, Bool, ◌&&◌, codes}, List.list_all}
 use Rattle.toml.specs.Data.{Members}
 use Rattle.rb_base.specs.Nodes.Side.{Biu, Rmu}
-use Rattle.rb_rules.specs.Entries.{listed}
-use Rattle.rb_rules.specs.Goodness.{Scenario, clock_among}
-use Rattle.rb_rules.specs.Links.{DelayRules}
-use Rattle.rb_rules.specs.declared.plan.Plan.{Plan}
-use Rattle.rb_scenario_document.specs.Values.{may_have_number, number_at}
-use Rattle.rb_scenario_document.specs.Walk.{entries_at}
-use Rattle.rb_scenario_entries.specs.declared.bus.Bus.{Bus}
-use Rattle.rb_scenario_entries.specs.Bus.{bus_of, has_bus}
-use Rattle.rb_scenario_entries.specs.Clocks.{clocks_of, has_clocks}
-use Rattle.rb_scenario_entries.specs.Faults.{has_faults, onsets_of}
+use Rattle.rb_rules.specs.{Entries.listed, Goodness.{Scenario, clock_among}, Links.DelayRules, declared.plan.Plan.Plan}
+use Rattle.rb_scenario_document.specs.{Values.{may_have_number, number_at}, Walk.entries_at}
+use Rattle.rb_scenario_entries.specs.{declared.bus.Bus.Bus, Bus.{bus_of, has_bus}, Clocks.{clocks_of, has_clocks}, Faults.{has_faults, onsets_of}, Links.{is_link, rules_of}, Says.{is_say, says_of}}
 use Rattle.rb_scenario.specs.Hosts.{apps_of, has_lists, requests_of, words_of}
-use Rattle.rb_scenario_entries.specs.Links.{is_link, rules_of}
-use Rattle.rb_scenario_entries.specs.Says.{is_say, says_of}
 
 -- the values of the entries, and those at the root that go by the bus, are in range
 unfoldable pub fits_bus : Bus → Members → Bool

@@ -1,11 +1,6 @@
 -- The rules on what a document says.
-use Rattle.std.specs.Prelude.{ℕ, ◌-◌, Bool, not, ◌&&◌, nat_le, List}
-use Rattle.std.specs.List.{list_all}
-use Rattle.rb_rules.specs.Clock.{Timeline}
-use Rattle.rb_rules.specs.Goodness.{Scenario}
-use Rattle.rb_rules.specs.Lawful.{is_node_good, segments_of_all}
-use Rattle.rb_rules.specs.Links.{DelayRules}
-use Rattle.rb_rules.specs.declared.plan.Plan.{Plan}
+use Rattle.std.specs.{Prelude.{ℕ, ◌-◌, Bool, not, ◌&&◌, nat_le, List}, List.list_all}
+use Rattle.rb_rules.specs.{Clock.Timeline, Goodness.Scenario, Lawful.{is_node_good, segments_of_all}, Links.DelayRules, declared.plan.Plan.Plan}
 use Rattle.rb_scenario_entries.specs.Clocks.{keeps_time}
 
 -- every clock keeps time

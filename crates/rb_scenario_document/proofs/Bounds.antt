@@ -1,19 +1,10 @@
 -- What numbers and pairs that stand within bounds are, and what nodes are named.
-use Rattle.std.proofs.Common.{◌≡◌, ◌≤◌, ◌<◌, ℕ, Bool, List, cond, codes, true, false, pos, negsuc, Option, Some, None, subst}
-use Rattle.std.proofs.lemmas.Bool.{and_parts, false≢true, leb-true}
-use Rattle.std.specs.Prelude.{option_map}
-use Rattle.std.specs.Option.{option_or}
-use Rattle.std.specs.Str.{bytes_eq}
+use Rattle.std.proofs.{Common.{◌≡◌, ◌≤◌, ◌<◌, ℕ, Bool, List, cond, codes, true, false, pos, negsuc, Option, Some, None, subst}, lemmas.Bool.{and_parts, false≢true, leb-true}}
+use Rattle.std.specs.{Prelude.option_map, Option.option_or, Str.bytes_eq}
 use Rattle.toml.specs.Data.{Data, Members, string, integer, float, boolean, datetime, array, table, at, get_member}
-use Rattle.rb_base.specs.Sizes.{Sizes}
-use Rattle.rb_base.specs.declared.node.NodeName.{NodeName}
-use Rattle.rb_base.specs.declared.node.NodeName.TheVariants.{Biu, Rmu}
-use Rattle.rb_rules.specs.declared.link.Pattern.{Pattern}
-use Rattle.rb_rules.specs.declared.link.Pattern.TheVariants.{One, AllBiu, AllRmu}
-use Rattle.rb_rules.specs.Lawful.{IsNodeOf, IsPatternOf}
-use Rattle.rb_scenario_document.specs.Names.{biu_letter, named, node_at, node_named, pattern_at, pattern_named, rmu_letter, text_or_none}
-use Rattle.rb_scenario_document.specs.Values.{is_range, is_within, number_or, pair_of}
-use Rattle.rb_scenario_document.specs.Walk.{absent_or, passes}
+use Rattle.rb_base.specs.{Sizes.Sizes, declared.node.NodeName.NodeName, declared.node.NodeName.TheVariants.{Biu, Rmu}}
+use Rattle.rb_rules.specs.{declared.link.Pattern.Pattern, declared.link.Pattern.TheVariants.{One, AllBiu, AllRmu}, Lawful.{IsNodeOf, IsPatternOf}}
+use Rattle.rb_scenario_document.specs.{Names.{biu_letter, named, node_at, node_named, pattern_at, pattern_named, rmu_letter, text_or_none}, Values.{is_range, is_within, number_or, pair_of}, Walk.{absent_or, passes}}
 use Rattle.rb_scenario_document.proofs.NameLemmas.{named-lt}
 
 -- a number that stands within bounds is within them

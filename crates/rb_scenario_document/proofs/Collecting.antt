@@ -1,12 +1,7 @@
 -- Loops over the entries of an array of tables.
-use Rattle.std.proofs.Common.{◌≡◌, ◌<◌, ◌+◌, ℕ, suc, List, [], ◌∷◌, ◌++◌, length, map, drop, get_or, Bool, true, Option, Some, sym, ap, ◌∙◌, subst, append_assoc, add-one, drop-cons}
-use Rattle.std.proofs.lemmas.Bool.{and_parts}
-use Rattle.std.proofs.lemmas.List.Folds.{list_all-append}
-use Rattle.std.specs.Prelude.{option_to_list}
-use Rattle.std.specs.List.{list_all}
-use Rattle.toml.specs.Data.{Data, Members, as_table}
-use Rattle.toml.specs.View.{items_view, view}
-use Rattle.toml.specs.declared.value.Value.{Value}
+use Rattle.std.proofs.{Common.{◌≡◌, ◌<◌, ◌+◌, ℕ, suc, List, [], ◌∷◌, ◌++◌, length, map, drop, get_or, Bool, true, Option, Some, sym, ap, ◌∙◌, subst, append_assoc, add-one, drop-cons}, lemmas.Bool.and_parts, lemmas.List.Folds.list_all-append}
+use Rattle.std.specs.{Prelude.option_to_list, List.list_all}
+use Rattle.toml.specs.{Data.{Data, Members, as_table}, View.{items_view, view}, declared.value.Value.Value}
 use Rattle.rb_scenario_document.specs.Walk.{tables_in}
 
 map-append : {X Y : Type 0} (f : X → Y) (xs ys : List X) → map f (xs ++ ys) ≡ map f xs ++ map f ys

@@ -1,17 +1,8 @@
 -- Names of nodes: what an index below 16 looks like in decimal, and that each name has one index.
-use Rattle.std.proofs.Common.{◌≡◌, ℕ, ◌+◌, ◌-◌, ◌/◌, ◌%◌, ◌<◌, ◌≤◌, ◌≢◌, ◌⊎◌, inl, inr, zero, suc, List, [], ◌∷◌, length, get_or, take, drop, decimal, IfSome, IfNone, refl, sym, ap, subst, ◌∙◌, arith, Option, Some, None, Bool, true, false, cond}
-use Rattle.std.proofs.lemmas.Bool.{cases_lt, false_from_ne_true}
-use Rattle.std.proofs.lemmas.Fmt.{decimal_digit, decimal_step, decimal_injective}
-use Rattle.std.proofs.lemmas.List.{take_rest}
-use Rattle.std.proofs.lemmas.Slice.Eq.{bytes_eq-Decides}
-use Rattle.std.specs.List.{find, range_with_len}
-use Rattle.std.specs.Str.{bytes_eq}
-use Rattle.std.specs.Prelude.{option_map}
-use Rattle.std.specs.Option.{option_or}
+use Rattle.std.proofs.{Common.{◌≡◌, ℕ, ◌+◌, ◌-◌, ◌/◌, ◌%◌, ◌<◌, ◌≤◌, ◌≢◌, ◌⊎◌, inl, inr, zero, suc, List, [], ◌∷◌, length, get_or, take, drop, decimal, IfSome, IfNone, refl, sym, ap, subst, ◌∙◌, arith, Option, Some, None, Bool, true, false, cond}, lemmas.Bool.{cases_lt, false_from_ne_true}, lemmas.Fmt.{decimal_digit, decimal_step, decimal_injective}, lemmas.List.take_rest, lemmas.Slice.Eq.bytes_eq-Decides}
+use Rattle.std.specs.{List.{find, range_with_len}, Str.bytes_eq, Prelude.option_map, Option.option_or}
 use Rattle.toml.specs.Data.{Data, Members, string, integer, float, boolean, datetime, array, table, get_member}
-use Rattle.rb_base.specs.Sizes.{Sizes}
-use Rattle.rb_base.specs.declared.node.NodeName.{NodeName}
-use Rattle.rb_base.specs.declared.node.NodeName.TheVariants.{Biu, Rmu}
+use Rattle.rb_base.specs.{Sizes.Sizes, declared.node.NodeName.NodeName, declared.node.NodeName.TheVariants.{Biu, Rmu}}
 use Rattle.rb_scenario_document.specs.Names.{IsNumbered, biu_letter, indexed, named, node_at, node_named, rmu_letter, text_or_none}
 
 -- a number from 10 on has two digits

@@ -1,16 +1,8 @@
 -- A document's keys and items, in the map and the list and in what they stand for.
-use Rattle.std.proofs.Common.{◌≡◌, ◌≤◌, ℕ, zero, suc, pos, negsuc, nat_le, le-leb, List, [], ◌∷◌, length, true, not, ◌||◌, Option, Some, None, String, Global, string_bytes, refl, ap, arith}
-use Rattle.std.proofs.lemmas.Bool.{and_parts, leb-true}
-use Rattle.std.specs.Prelude.{option_and_then}
-use Rattle.std.specs.List.{list_any}
-use Rattle.std.specs.Map.{keys_of}
-use Rattle.toml.specs.Data.{Data, string, integer, float, boolean, datetime, array, table, Items, no_items, item, get_item, at}
-use Rattle.toml.specs.View.{items_view, members_view}
-use Rattle.toml.specs.declared.value.Value.{Value}
-use Rattle.rb_scenario_document.specs.Fields.{Entry}
-use Rattle.rb_scenario_document.specs.Forms.{has_unknown, is_known}
-use Rattle.rb_scenario_document.specs.Values.{is_list, is_within, number_or}
-use Rattle.rb_scenario_document.specs.Walk.{absent_or, every_item, length_of}
+use Rattle.std.proofs.{Common.{◌≡◌, ◌≤◌, ℕ, zero, suc, pos, negsuc, nat_le, le-leb, List, [], ◌∷◌, length, true, not, ◌||◌, Option, Some, None, String, Global, string_bytes, refl, ap, arith}, lemmas.Bool.{and_parts, leb-true}}
+use Rattle.std.specs.{Prelude.option_and_then, List.list_any, Map.keys_of}
+use Rattle.toml.specs.{Data.{Data, string, integer, float, boolean, datetime, array, table, Items, no_items, item, get_item, at}, View.{items_view, members_view}, declared.value.Value.Value}
+use Rattle.rb_scenario_document.specs.{Fields.Entry, Forms.{has_unknown, is_known}, Values.{is_list, is_within, number_or}, Walk.{absent_or, every_item, length_of}}
 
 pub has_unknown-view : (fields : List Entry) (es : List (String Global × Value))
     → list_any (λ k. not (is_known fields (string_bytes k))) (keys_of es) ≡ has_unknown fields (members_view es)

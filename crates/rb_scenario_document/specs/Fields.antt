@@ -1,7 +1,6 @@
 -- Which keys a table may have, and of which form the values at them are.
 use Rattle.std.specs.Prelude.{ℕ, List, [], ◌∷◌, Bool, true, false, codes}
-use Rattle.rb_scenario_document.specs.declared.fields.Form.{Form}
-use Rattle.rb_scenario_document.specs.declared.fields.Form.TheVariants.{Integer, Text, Flag, Pair, Table, Integers, Texts, Pairs, Tables}
+use Rattle.rb_scenario_document.specs.{declared.fields.Form.Form, declared.fields.Form.TheVariants.{Integer, Text, Flag, Pair, Table, Integers, Texts, Pairs, Tables}}
 
 -- a key, whether it must be there, and the form of the value at it
 pub record Entry : Type 0 where

@@ -1,12 +1,7 @@
 -- The rules on keys and forms: each is looked at over the whole document.
-use Rattle.std.specs.Prelude.{ℕ, List, Bool, true, false, not, ◌&&◌, ◌||◌, ◌==◌, codes}
-use Rattle.std.specs.List.{list_any}
-use Rattle.std.specs.Str.{bytes_eq}
+use Rattle.std.specs.{Prelude.{ℕ, List, Bool, true, false, not, ◌&&◌, ◌||◌, ◌==◌, codes}, List.list_any, Str.bytes_eq}
 use Rattle.toml.specs.Data.{Data, string, integer, boolean, array, table, Members, no_members, member, get_member}
-use Rattle.rb_scenario_document.specs.declared.fields.Form.{Form}
-use Rattle.rb_scenario_document.specs.declared.fields.Form.TheVariants.{Integer, Text, Flag, Pair, Table, Integers, Texts, Pairs, Tables}
-use Rattle.rb_scenario_document.specs.Fields.{Entry, root_fields, plan_fields, clock_fields, link_fields, fault_fields, say_fields}
-use Rattle.rb_scenario_document.specs.Walk.{absent_or, entries_at, every_item, has_key, length_of, on_table, passes}
+use Rattle.rb_scenario_document.specs.{declared.fields.Form.Form, declared.fields.Form.TheVariants.{Integer, Text, Flag, Pair, Table, Integers, Texts, Pairs, Tables}, Fields.{Entry, root_fields, plan_fields, clock_fields, link_fields, fault_fields, say_fields}, Walk.{absent_or, entries_at, every_item, has_key, length_of, on_table, passes}}
 
 abbrev pub is_integer : Data → Bool
 is_integer (integer z) = true

@@ -1,8 +1,7 @@
 -- Numbers, pairs and lists of numbers in a document.
 use Rattle.std.specs.Prelude.{ℕ, pos, List, Bool, false, ◌&&◌, nat_le, Option, Some, None, option_and_then}
 use Rattle.toml.specs.Data.{Data, integer, Members, get_member, at}
-use Rattle.rb_scenario_document.specs.Forms.{has_length, is_array_of}
-use Rattle.rb_scenario_document.specs.Walk.{absent_or, passes}
+use Rattle.rb_scenario_document.specs.{Forms.{has_length, is_array_of}, Walk.{absent_or, passes}}
 
 -- the value is an integer from low to high, both included
 abbrev pub is_within : ℕ → ℕ → Data → Bool

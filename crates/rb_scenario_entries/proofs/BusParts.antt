@@ -1,6 +1,5 @@
 -- The parts of what is tested at the root.
-use Rattle.std.proofs.Common.{◌≡◌, ◌-◌, true, nat_le, codes}
-use Rattle.std.proofs.lemmas.Bool.{and_parts}
+use Rattle.std.proofs.{Common.{◌≡◌, ◌-◌, true, nat_le, codes}, lemmas.Bool.and_parts}
 use Rattle.toml.specs.Data.{Members}
 use Rattle.rb_scenario_document.specs.Values.{has_number, may_have_number}
 use Rattle.rb_scenario_entries.specs.Bus.{has_bus, has_plan, has_sizes, has_units, has_version, has_windows, may_plan, planned}

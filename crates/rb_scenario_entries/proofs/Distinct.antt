@@ -1,26 +1,13 @@
 -- Nodes that are noted one after the other.
-use Rattle.std.proofs.Common.{◌≡◌, ◌<◌, ◌+◌, ℕ, List, [], ◌∷◌, ◌++◌, Bool, true, false, not, ◌&&◌, ◌||◌, eqb, All, Option, Some, None, inl, inr, refl, sym, ap, ◌∙◌, drop, length, get_or, codes}
-use Rattle.std.proofs.Math.Bool.{or-false}
-use Rattle.std.proofs.lemmas.Bool.{cases_eq, eq-eqb, ne_eqb}
-use Rattle.std.proofs.lemmas.List.Elements.{All-cons, All-head, All-nil, All-tail, filter_map-append}
-use Rattle.std.specs.List.{cons_option, filter_map, list_all, list_any}
-use Rattle.std.specs.Prelude.{option_to_list}
-use Rattle.toml.specs.Data.{Data, Members, as_table}
-use Rattle.toml.specs.View.{items_view, view}
-use Rattle.toml.specs.declared.value.Value.{Value}
-use Rattle.rb_base.specs.Nodes.{has, set_of}
-use Rattle.rb_base.specs.Sizes.{IsShape, Sizes}
-use Rattle.rb_base.specs.declared.node.NodeName.{NodeName}
-use Rattle.rb_base.specs.declared.node.NodeName.TheVariants.{Biu, Rmu}
+use Rattle.std.proofs.{Common.{◌≡◌, ◌<◌, ◌+◌, ℕ, List, [], ◌∷◌, ◌++◌, Bool, true, false, not, ◌&&◌, ◌||◌, eqb, All, Option, Some, None, inl, inr, refl, sym, ap, ◌∙◌, drop, length, get_or, codes}, Math.Bool.or-false, lemmas.Bool.{cases_eq, eq-eqb, ne_eqb}, lemmas.List.Elements.{All-cons, All-head, All-nil, All-tail, filter_map-append}}
+use Rattle.std.specs.{List.{cons_option, filter_map, list_all, list_any}, Prelude.option_to_list}
+use Rattle.toml.specs.{Data.{Data, Members, as_table}, View.{items_view, view}, declared.value.Value.Value}
+use Rattle.rb_base.specs.{Nodes.{has, set_of}, Sizes.{IsShape, Sizes}, declared.node.NodeName.NodeName, declared.node.NodeName.TheVariants.{Biu, Rmu}}
 use Rattle.rb_base.proofs.Sets.{has-set_of, has_none}
 use Rattle.rb_rules.specs.Links.{same_node}
-use Rattle.rb_scenario_document.specs.Names.{IsNumbered, node_at}
-use Rattle.rb_scenario_document.specs.Walk.{tables_in}
-use Rattle.rb_scenario_document.proofs.Collecting.{tables_in-drop}
-use Rattle.rb_scenario_document.proofs.NameLemmas.{node_at-IsNumbered}
-use Rattle.rb_scenario_entries.specs.declared.entries.Seen.{Seen}
-use Rattle.rb_scenario_entries.specs.Entries.{are_distinct, nodes_in}
-use Rattle.rb_scenario_entries.specs.Seen.{are_new, was_seen}
+use Rattle.rb_scenario_document.specs.{Names.{IsNumbered, node_at}, Walk.tables_in}
+use Rattle.rb_scenario_document.proofs.{Collecting.tables_in-drop, NameLemmas.node_at-IsNumbered}
+use Rattle.rb_scenario_entries.specs.{declared.entries.Seen.Seen, Entries.{are_distinct, nodes_in}, Seen.{are_new, was_seen}}
 
 eqb-swap : (a b : ℕ) → eqb a b ≡ eqb b a
 eqb-swap a b = elim (cases_eq a b) [

@@ -1,16 +1,11 @@
 -- The parts of what is tested at an entry.
-use Rattle.std.proofs.Common.{◌≡◌, ◌-◌, ◌==◌, nat_le, Bool, true, ◌&&◌, ◌||◌, codes, Option, Some, None}
+use Rattle.std.proofs.{Common.{◌≡◌, ◌-◌, ◌==◌, nat_le, Bool, true, ◌&&◌, ◌||◌, codes, Option, Some, None}, lemmas.Bool.and_parts}
 use Rattle.std.specs.Prelude.{is_some, option_map}
-use Rattle.std.proofs.lemmas.Bool.{and_parts}
 use Rattle.toml.specs.Data.{Data, Members, get_member}
 use Rattle.rb_base.specs.Sizes.{sync_slot_of}
 use Rattle.rb_rules.specs.declared.link.Pattern.TheVariants.{One}
-use Rattle.rb_scenario_document.specs.Names.{node_at, pattern_at}
-use Rattle.rb_scenario_document.specs.Values.{has_number, has_range, is_within, may_have_number, may_have_range, number_at}
-use Rattle.rb_scenario_document.specs.Walk.{absent_or}
-use Rattle.rb_scenario_entries.specs.declared.bus.Bus.{Bus}
-use Rattle.rb_scenario_entries.specs.Links.{are_apart, is_link}
-use Rattle.rb_scenario_entries.specs.Says.{content_in, is_offset, is_say, is_sync_alone, slots_of, stages_of}
+use Rattle.rb_scenario_document.specs.{Names.{node_at, pattern_at}, Values.{has_number, has_range, is_within, may_have_number, may_have_range, number_at}, Walk.absent_or}
+use Rattle.rb_scenario_entries.specs.{declared.bus.Bus.Bus, Links.{are_apart, is_link}, Says.{content_in, is_offset, is_say, is_sync_alone, slots_of, stages_of}}
 
 pub record LinkParts (bus : Bus) (e : Members) : Type 0 where
   pub apart : are_apart (pattern_at bus.shape (codes "from") e) (pattern_at bus.shape (codes "to") e) ≡ true

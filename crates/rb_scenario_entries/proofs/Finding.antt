@@ -1,13 +1,8 @@
 -- Entries that are found, and lists that are made by number.
-use Rattle.std.proofs.Common.{◌≡◌, ◌+◌, ◌<◌, ℕ, zero, suc, List, [], ◌∷◌, ◌++◌, append_assoc, Bool, true, false, cond, Some, map, refl, sym, ap, ◌∙◌, subst, arith, inl, inr}
-use Rattle.std.proofs.lemmas.Bool.{and_parts, and_left, and_right}
-use Rattle.std.proofs.lemmas.Bool.{and_from}
-use Rattle.std.proofs.lemmas.List.Folds.{list_all-append}
-use Rattle.std.proofs.lemmas.List.FromFn.{map-range_with_len_more}
+use Rattle.std.proofs.{Common.{◌≡◌, ◌+◌, ◌<◌, ℕ, zero, suc, List, [], ◌∷◌, ◌++◌, append_assoc, Bool, true, false, cond, Some, map, refl, sym, ap, ◌∙◌, subst, arith, inl, inr}, lemmas.Bool.{and_parts, and_left, and_right}, lemmas.Bool.and_from, lemmas.List.Folds.list_all-append, lemmas.List.FromFn.map-range_with_len_more}
 use Rattle.std.specs.List.{find, list_all, range_with_len}
 use Rattle.rb_base.specs.Counting.{numbers}
-use Rattle.rb_scenario_entries.specs.declared.refusal.Refusal.{Refusal}
-use Rattle.rb_scenario_entries.specs.Outcome.{IsRefusalBy}
+use Rattle.rb_scenario_entries.specs.{declared.refusal.Refusal.Refusal, Outcome.IsRefusalBy}
 
 -- what is found passes a test that all pass
 pub found_passes : {X : Type 0} (p q : X → Bool) (xs : List X) (x : X) → Some x ≡ find p xs → list_all q xs ≡ true → q x ≡ true

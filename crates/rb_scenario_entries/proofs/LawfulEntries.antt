@@ -1,38 +1,17 @@
 -- Every entry in range is lawful.
-use Rattle.std.proofs.Common.{◌≡◌, ◌⊎◌, ◌+◌, ◌-◌, ◌*◌, ◌^◌, ◌%◌, ◌<◌, ◌≤◌, ◌==◌, ◌&&◌, ◌||◌, ℕ, List, [], ◌∷◌, Bool, true, false, not, nat_le, nat_lt, cond, All, length, codes, Option, Some, None, Result, Ok, Err, pos, negsuc, refl, sym, ap, ◌∙◌, subst, inl, inr, arith}
-use Rattle.std.proofs.lemmas.Bool.{and_parts, both_ways, eqb-true, false≢true, leb-true, ltb-true, not-true, or_cases}
-use Rattle.std.proofs.lemmas.List.Elements.{All-cons, All-nil}
+use Rattle.std.proofs.{Common.{◌≡◌, ◌⊎◌, ◌+◌, ◌-◌, ◌*◌, ◌^◌, ◌%◌, ◌<◌, ◌≤◌, ◌==◌, ◌&&◌, ◌||◌, ℕ, List, [], ◌∷◌, Bool, true, false, not, nat_le, nat_lt, cond, All, length, codes, Option, Some, None, Result, Ok, Err, pos, negsuc, refl, sym, ap, ◌∙◌, subst, inl, inr, arith}, lemmas.Bool.{and_parts, both_ways, eqb-true, false≢true, leb-true, ltb-true, not-true, or_cases}, lemmas.List.Elements.{All-cons, All-nil}}
 use Rattle.std.specs.Prelude.{is_some, option_map, unwrap_or}
-use Rattle.hex.specs.Hex.{decode_of, decode_pairs, digit_or_error, hex_digit_value, pair_value, value_at, ◌>>=◌}
-use Rattle.hex.specs.declared.error.FromHexError.{FromHexError}
-use Rattle.hex.specs.declared.error.FromHexError.TheVariants.{OddLength}
+use Rattle.hex.specs.{Hex.{decode_of, decode_pairs, digit_or_error, hex_digit_value, pair_value, value_at, ◌>>=◌}, declared.error.FromHexError.FromHexError, declared.error.FromHexError.TheVariants.OddLength}
 use Rattle.toml.specs.Data.{Data, Members, string, integer, float, boolean, datetime, array, table, get_member}
-use Rattle.rb_base.specs.Nodes.{Side, other}
-use Rattle.rb_base.specs.Nodes.Side.{Biu, Rmu}
-use Rattle.rb_base.specs.Sizes.{Sizes, sync_slot_of}
-use Rattle.rb_base.specs.declared.node.NodeName.{NodeName}
-use Rattle.rb_base.specs.declared.node.NodeName.TheVariants as node
-use Rattle.rb_base.specs.declared.values.Place.{Place}
+use Rattle.rb_base.specs.{Nodes.{Side, other}, Nodes.Side.{Biu, Rmu}, Sizes.{Sizes, sync_slot_of}, declared.node.NodeName.NodeName, declared.values.Place.Place}
 use Rattle.rb_base.proofs.Plain.{either_by}
-use Rattle.rb_rules.specs.declared.link.Pattern.{Pattern}
-use Rattle.rb_rules.specs.declared.link.Pattern.TheVariants.{One, AllBiu, AllRmu}
-use Rattle.rb_rules.specs.declared.link.Rule.{Rule}
-use Rattle.rb_rules.specs.declared.plan.Plan.{Plan}
-use Rattle.rb_rules.specs.declared.say.Content.{Content}
-use Rattle.rb_rules.specs.declared.say.Content.TheVariants.{Word, Fault, Sync, Raw}
-use Rattle.rb_rules.specs.declared.say.Say.{Say}
-use Rattle.rb_rules.specs.Lawful.{IsContent, IsNodeOf, IsPatternOf, IsRangeIn, IsRaw, IsSyncAlone, kind_named, kind_of, ticks_at, ticks_in_sync}
-use Rattle.rb_rules.specs.Links.{covers, is_in_range}
-use Rattle.rb_rules.specs.Plan.{IsPlan, shortest_of}
+use Rattle.rb_rules.specs.{declared.link.Pattern.Pattern, declared.link.Pattern.TheVariants.{One, AllBiu, AllRmu}, declared.link.Rule.Rule, declared.plan.Plan.Plan, declared.say.Content.Content, declared.say.Content.TheVariants.{Word, Fault, Sync, Raw}, declared.say.Say.Say, Lawful.{IsContent, IsNodeOf, IsPatternOf, IsRangeIn, IsRaw, IsSyncAlone, kind_named, kind_of, ticks_at, ticks_in_sync}, Links.{covers, is_in_range}, Plan.{IsPlan, shortest_of}}
 use Rattle.rb_rules.proofs.Lawfulness.{SendsInside, at_each_stage, lies_in_each, sent_in_each}
-use Rattle.rb_scenario_document.specs.Names.{is_of_bius, node_at, pattern_at}
-use Rattle.rb_scenario_document.specs.Values.{is_range, is_within, number_at, number_or, range_or}
-use Rattle.rb_scenario_document.specs.Walk.{absent_or, passes}
+use Rattle.rb_scenario_document.specs.{Names.{is_of_bius, node_at, pattern_at}, Values.{is_range, is_within, number_at, number_or, range_or}, Walk.{absent_or, passes}}
 use Rattle.rb_scenario_document.proofs.Bounds.{absent_or-bounds, node_at-IsNodeOf, number_there, pair-bounds, pattern_at-IsPatternOf}
-use Rattle.rb_scenario_entries.specs.declared.bus.Bus.{Bus}
-use Rattle.rb_scenario_entries.specs.Links.{are_apart, differ, is_link, pattern_of, rule_of}
-use Rattle.rb_scenario_entries.specs.Says.{content_in, content_there, is_offset, is_say, is_sync_alone, lies_in_all, lies_in_stage, marked, meant, raw_in, say_of, short_bytes, word_content}
+use Rattle.rb_scenario_entries.specs.{declared.bus.Bus.Bus, Links.{are_apart, differ, is_link, pattern_of, rule_of}, Says.{content_in, content_there, is_offset, is_say, is_sync_alone, lies_in_all, lies_in_stage, marked, meant, raw_in, say_of, short_bytes, word_content}}
 use Rattle.rb_scenario_entries.proofs.EntryParts.{link_parts, say_parts}
+use Rattle.rb_base.specs.declared.node.NodeName.TheVariants as node
 
 -- Ranges.
 range_or-in : (low high : ℕ) (o : Option Data) → low ≤ high → absent_or (is_range low high) o ≡ true → IsRangeIn low high (range_or (low, high) o)

@@ -2,13 +2,8 @@
 use Rattle.std.specs.Prelude.{ℕ, ◌-◌, ◌≤◌, Bool, ◌&&◌, ◌||◌, ◌==◌, nat_le, List, Option, Some, None, option_and_then, codes, if◌then◌else◌}
 use Rattle.toml.specs.Data.{Data, Members, get, get_member}
 use Rattle.rb_base.specs.Sizes.{IsShape, Sizes}
-use Rattle.rb_rules.specs.Lawful.{IsVersion}
-use Rattle.rb_rules.specs.Plan.{IsPlan}
-use Rattle.rb_rules.specs.declared.message.Version.{Version}
-use Rattle.rb_rules.specs.declared.message.Version.TheVariants.{One, Two}
-use Rattle.rb_rules.specs.declared.plan.Plan.{Plan}
-use Rattle.rb_scenario_document.specs.Values.{has_number, is_within, may_have_number, number_at, number_or}
-use Rattle.rb_scenario_document.specs.Walk.{absent_or}
+use Rattle.rb_rules.specs.{Lawful.IsVersion, Plan.IsPlan, declared.message.Version.Version, declared.message.Version.TheVariants.{One, Two}, declared.plan.Plan.Plan}
+use Rattle.rb_scenario_document.specs.{Values.{has_number, is_within, may_have_number, number_at, number_or}, Walk.absent_or}
 use Rattle.rb_scenario_entries.specs.declared.bus.Bus.{Bus}
 
 -- 1 to 16 BIUs, 1 to 16 RMUs and 1 to 64 data slots

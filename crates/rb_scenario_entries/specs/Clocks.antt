@@ -1,22 +1,10 @@
 -- Clock entries: the clocks of some nodes.
-use Rattle.std.specs.Prelude.{ℕ, Bool, ◌&&◌, List, [], ◌∷◌, ◌++◌, map, Option, Some, is_some, unwrap_or, codes}
-use Rattle.std.specs.List.{list_all}
+use Rattle.std.specs.{Prelude.{ℕ, Bool, ◌&&◌, List, [], ◌∷◌, ◌++◌, map, Option, Some, is_some, unwrap_or, codes}, List.list_all}
 use Rattle.toml.specs.Data.{Data, array, Items, no_items, item, Members, no_members, get_member, at}
-use Rattle.rb_base.specs.Counting.{numbers}
-use Rattle.rb_base.specs.Sizes.{Sizes}
-use Rattle.rb_base.specs.declared.node.NodeName.{NodeName}
-use Rattle.rb_base.specs.Nodes.{Side}
-use Rattle.rb_base.specs.Nodes.Side.{Biu, Rmu}
-use Rattle.rb_rules.specs.Clock.{Timeline, are_rising, are_within}
-use Rattle.rb_rules.specs.Links.{name_of}
-use Rattle.rb_rules.specs.Plan.{longest_of, shortest_of}
-use Rattle.rb_rules.specs.declared.plan.Plan.{Plan}
-use Rattle.rb_scenario_document.specs.Forms.{is_array_of}
-use Rattle.rb_scenario_document.specs.Names.{node_at}
-use Rattle.rb_scenario_document.specs.Values.{is_within, may_have_number, number_at, pair_of}
-use Rattle.rb_scenario_document.specs.Walk.{absent_or, entries_at, passes}
-use Rattle.rb_scenario_entries.specs.declared.bus.Bus.{Bus}
-use Rattle.rb_scenario_entries.specs.Entries.{are_distinct, entry_for, nodes_in}
+use Rattle.rb_base.specs.{Counting.numbers, Sizes.Sizes, declared.node.NodeName.NodeName, Nodes.Side, Nodes.Side.{Biu, Rmu}}
+use Rattle.rb_rules.specs.{Clock.{Timeline, are_rising, are_within}, Links.name_of, Plan.{longest_of, shortest_of}, declared.plan.Plan.Plan}
+use Rattle.rb_scenario_document.specs.{Forms.is_array_of, Names.node_at, Values.{is_within, may_have_number, number_at, pair_of}, Walk.{absent_or, entries_at, passes}}
+use Rattle.rb_scenario_entries.specs.{declared.bus.Bus.Bus, Entries.{are_distinct, entry_for, nodes_in}}
 
 -- a first tick, and a length
 abbrev pub is_segment : Data → Bool

@@ -1,7 +1,6 @@
 -- The numbers by which refusals are printed.
 use Rattle.std.specs.Prelude.{ℕ, Option, Some, None}
-use Rattle.rb_scenario_entries.specs.declared.refusal.Refusal.{Refusal}
-use Rattle.rb_scenario_entries.specs.declared.refusal.Refusal.TheVariants.{NotToml, MissingKey, UnknownKey, WrongType, OutOfRange, PlanFails, ClockBounds, DelayBounds, StartApart, SayOfGood, TooMany, NoSuchNode, OutOfMemory}
+use Rattle.rb_scenario_entries.specs.{declared.refusal.Refusal.Refusal, declared.refusal.Refusal.TheVariants.{NotToml, MissingKey, UnknownKey, WrongType, OutOfRange, PlanFails, ClockBounds, DelayBounds, StartApart, SayOfGood, TooMany, NoSuchNode, OutOfMemory}}
 
 -- the code of a refusal; out of memory has none
 abbrev pub code_of : Refusal → Option ℕ

@@ -1,9 +1,7 @@
 -- Entries that are for one node each.
-use Rattle.std.specs.Prelude.{Bool, true, false, not, ◌&&◌, List, [], ◌∷◌, Option, Some, None, codes}
-use Rattle.std.specs.List.{find, filter_map, list_any}
+use Rattle.std.specs.{Prelude.{Bool, true, false, not, ◌&&◌, List, [], ◌∷◌, Option, Some, None, codes}, List.{find, filter_map, list_any}}
 use Rattle.toml.specs.Data.{Members}
-use Rattle.rb_base.specs.Sizes.{Sizes}
-use Rattle.rb_base.specs.declared.node.NodeName.{NodeName}
+use Rattle.rb_base.specs.{Sizes.Sizes, declared.node.NodeName.NodeName}
 use Rattle.rb_rules.specs.Links.{same_node}
 use Rattle.rb_scenario_document.specs.Names.{node_at}
 

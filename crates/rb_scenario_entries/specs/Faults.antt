@@ -1,17 +1,10 @@
 -- Fault entries: the frame and the slot from which on nodes are not good.
-use Rattle.std.specs.Prelude.{ℕ, ◌-◌, Bool, ◌&&◌, List, map, Option, option_map, is_some, codes}
-use Rattle.std.specs.List.{list_all}
+use Rattle.std.specs.{Prelude.{ℕ, ◌-◌, Bool, ◌&&◌, List, map, Option, option_map, is_some, codes}, List.list_all}
 use Rattle.toml.specs.Data.{Members}
-use Rattle.rb_base.specs.Counting.{numbers}
-use Rattle.rb_base.specs.Nodes.{Side}
-use Rattle.rb_base.specs.Sizes.{sync_slot_of}
-use Rattle.rb_base.specs.declared.node.NodeName.{NodeName}
+use Rattle.rb_base.specs.{Counting.numbers, Nodes.Side, Sizes.sync_slot_of, declared.node.NodeName.NodeName}
 use Rattle.rb_rules.specs.Links.{name_of}
-use Rattle.rb_scenario_document.specs.Names.{node_at}
-use Rattle.rb_scenario_document.specs.Values.{has_number, number_at}
-use Rattle.rb_scenario_document.specs.Walk.{entries_at}
-use Rattle.rb_scenario_entries.specs.declared.bus.Bus.{Bus}
-use Rattle.rb_scenario_entries.specs.Entries.{are_distinct, entry_for, nodes_in}
+use Rattle.rb_scenario_document.specs.{Names.node_at, Values.{has_number, number_at}, Walk.entries_at}
+use Rattle.rb_scenario_entries.specs.{declared.bus.Bus.Bus, Entries.{are_distinct, entry_for, nodes_in}}
 
 -- a fault entry is for a node of the bus, from a slot of a frame on
 abbrev pub is_fault : Bus → Members → Bool

@@ -2,12 +2,8 @@
 use Rattle.std.specs.Prelude.{ℕ, ◌-◌, Bool, true, false, not, ◌&&◌, List, map, Option, Some, None, unwrap_or, codes}
 use Rattle.toml.specs.Data.{Members}
 use Rattle.rb_base.specs.Sizes.{sync_slot_of}
-use Rattle.rb_rules.specs.declared.link.Pattern.{Pattern}
-use Rattle.rb_rules.specs.declared.link.Pattern.TheVariants.{AllBiu}
-use Rattle.rb_rules.specs.declared.link.Rule.{Rule}
-use Rattle.rb_scenario_document.specs.Names.{is_of_bius, pattern_at}
-use Rattle.rb_scenario_document.specs.Values.{has_number, may_have_range, number_at, range_at}
-use Rattle.rb_scenario_document.specs.Walk.{entries_at}
+use Rattle.rb_rules.specs.{declared.link.Pattern.Pattern, declared.link.Pattern.TheVariants.AllBiu, declared.link.Rule.Rule}
+use Rattle.rb_scenario_document.specs.{Names.{is_of_bius, pattern_at}, Values.{has_number, may_have_range, number_at, range_at}, Walk.entries_at}
 use Rattle.rb_scenario_entries.specs.declared.bus.Bus.{Bus}
 
 abbrev pub differ : Bool → Bool → Bool

@@ -2,21 +2,10 @@
 use Rattle.std.specs.Prelude.{ℕ, pos, ◌-◌, Bool, true, not, ◌&&◌, ◌||◌, ◌==◌, nat_le, nat_lt, List, [], ◌∷◌, map, length, Option, Some, None, option_map, is_some, unwrap_or, Result, Ok, Err, codes, if◌then◌else◌}
 use Rattle.hex.specs.Hex.{decode_of}
 use Rattle.toml.specs.Data.{Data, string, integer, boolean, Members, get_member}
-use Rattle.rb_base.specs.Counting.{count_if}
-use Rattle.rb_base.specs.Sizes.{sync_slot_of}
-use Rattle.rb_base.specs.declared.node.NodeName.TheVariants.{Biu}
-use Rattle.rb_rules.specs.Lawful.{ticks_in_sync}
-use Rattle.rb_rules.specs.Links.{is_in_range}
-use Rattle.rb_rules.specs.declared.link.Pattern.TheVariants.{One}
-use Rattle.rb_rules.specs.declared.plan.Plan.{Plan}
-use Rattle.rb_rules.specs.declared.say.Content.{Content}
-use Rattle.rb_rules.specs.declared.say.Content.TheVariants.{Word, Fault, Sync, Raw}
-use Rattle.rb_rules.specs.declared.say.Say.{Say}
-use Rattle.rb_scenario_document.specs.Names.{node_at, pattern_at}
-use Rattle.rb_scenario_document.specs.Values.{has_range, is_within, may_have_number, number_at, number_or, range_at}
-use Rattle.rb_scenario_document.specs.Walk.{absent_or, entries_at, has_key}
-use Rattle.rb_scenario_entries.specs.declared.bus.Bus.{Bus}
-use Rattle.rb_scenario_entries.specs.Links.{are_apart, pattern_of}
+use Rattle.rb_base.specs.{Counting.count_if, Sizes.sync_slot_of, declared.node.NodeName.TheVariants.Biu}
+use Rattle.rb_rules.specs.{Lawful.ticks_in_sync, Links.is_in_range, declared.link.Pattern.TheVariants.One, declared.plan.Plan.Plan, declared.say.Content.Content, declared.say.Content.TheVariants.{Word, Fault, Sync, Raw}, declared.say.Say.Say}
+use Rattle.rb_scenario_document.specs.{Names.{node_at, pattern_at}, Values.{has_range, is_within, may_have_number, number_at, number_or, range_at}, Walk.{absent_or, entries_at, has_key}}
+use Rattle.rb_scenario_entries.specs.{declared.bus.Bus.Bus, Links.{are_apart, pattern_of}}
 
 -- the ranges of frames, slots and stages
 abbrev pub frames_of : Members → ℕ × ℕ

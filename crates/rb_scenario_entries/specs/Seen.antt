@@ -1,11 +1,7 @@
 -- Sets of nodes of both kinds.
-use Rattle.std.specs.Prelude.{Bool, not, ◌&&◌, List}
-use Rattle.std.specs.List.{list_all}
-use Rattle.rb_base.specs.Nodes.{has}
-use Rattle.rb_base.specs.declared.node.NodeName.{NodeName}
-use Rattle.rb_base.specs.declared.node.NodeName.TheVariants.{Biu, Rmu}
-use Rattle.rb_scenario_entries.specs.declared.entries.Seen.{Seen}
-use Rattle.rb_scenario_entries.specs.Entries.{are_distinct}
+use Rattle.std.specs.{Prelude.{Bool, not, ◌&&◌, List}, List.list_all}
+use Rattle.rb_base.specs.{Nodes.has, declared.node.NodeName.NodeName, declared.node.NodeName.TheVariants.{Biu, Rmu}}
+use Rattle.rb_scenario_entries.specs.{declared.entries.Seen.Seen, Entries.are_distinct}
 
 -- the node is in the sets
 abbrev pub was_seen : Seen → NodeName → Bool

@@ -1,8 +1,6 @@
 -- Who asks for a data slot.
 use Rattle.std.specs.Prelude.{ℕ, nat_lt, ◌&&◌, Bool, List, get_or}
-use Rattle.rb_base.specs.Nodes.{has}
-use Rattle.rb_base.specs.declared.values.Heard.{Heard}
-use Rattle.rb_base.specs.declared.values.Heard.TheVariants.{Fault}
+use Rattle.rb_base.specs.{Nodes.has, declared.values.Heard.Heard, declared.values.Heard.TheVariants.Fault}
 use Rattle.rb_rules.specs.Owners.{request_in}
 
 -- BIU i asks for a slot in a pass: it is trusted, and wants more slots than there were passes

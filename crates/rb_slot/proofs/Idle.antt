@@ -1,27 +1,12 @@
 -- The close of a stage in which the node does not listen.
 use Rattle.std.proofs.Common.{◌≡◌, ℕ, zero, suc, Bool, true, false, ◌==◌, ◌&&◌, not, if◌then◌else◌, Option, Some, None, get_or, map, replicate, refl, sym, ◌∙◌, ap}
 use Rattle.std.specs.Prelude.{slice_set}
-use Rattle.rb_base.specs.Nodes.{Side, has}
-use Rattle.rb_base.specs.declared.values.Delivery.{Delivery}
-use Rattle.rb_base.specs.declared.values.Heard.{Heard}
-use Rattle.rb_base.proofs.Plain.{and-false}
-use Rattle.rb_base.proofs.Sets.{has_none}
-use Rattle.rb_rules.specs.declared.closing.Closed.{Closed}
-use Rattle.rb_rules.specs.declared.closing.Closing.{Closing}
-use Rattle.rb_rules.specs.declared.role.Role.{Role}
-use Rattle.rb_rules.specs.declared.role.Role.TheVariants.{Data}
-use Rattle.rb_rules.specs.declared.sense.Sense.{Sense}
-use Rattle.rb_rules.specs.ExactStage.{close_exact, closing_of, compare_with, delivery_of, is_sender, owners_after, reference_value, see_value, taken_of_sender}
-use Rattle.rb_rules.specs.NodeState.{NodeState, sender_at}
-use Rattle.rb_rules.specs.Sense.{value_in}
-use Rattle.rb_rules.specs.Slots.{Sender, expects, listens, role_of, same_side, sender_kind}
-use Rattle.rb_rules.specs.Slots.Sender.{Nobody, Node, EachTrusted}
-use Rattle.rb_rules.specs.Standing.{Standing, has_evidence, taken_of, with_evidence}
-use Rattle.rb_rules.proofs.ExactStages.{same_each_node}
-use Rattle.rb_rules.proofs.Standings.{unexpected_not_taken}
+use Rattle.rb_base.specs.{Nodes.{Side, has}, declared.values.Delivery.Delivery, declared.values.Heard.Heard}
+use Rattle.rb_base.proofs.{Plain.and-false, Sets.has_none}
+use Rattle.rb_rules.specs.{declared.closing.Closed.Closed, declared.closing.Closing.Closing, declared.role.Role.Role, declared.role.Role.TheVariants.Data, declared.sense.Sense.Sense, ExactStage.{close_exact, closing_of, compare_with, delivery_of, is_sender, owners_after, reference_value, see_value, taken_of_sender}, NodeState.{NodeState, sender_at}, Sense.value_in, Slots.{Sender, expects, listens, role_of, same_side, sender_kind}, Slots.Sender.{Nobody, Node, EachTrusted}, Standing.{Standing, has_evidence, taken_of, with_evidence}}
+use Rattle.rb_rules.proofs.{ExactStages.same_each_node, Standings.unexpected_not_taken}
 use Rattle.rb_slot.specs.Engines.{Seated}
-use Rattle.rb_slot.proofs.Masks.{unheard_is}
-use Rattle.rb_slot.proofs.Stages.{Steps, closing_in, evidence_in, shows_so}
+use Rattle.rb_slot.proofs.{Masks.unheard_is, Stages.{Steps, closing_in, evidence_in, shows_so}}
 
 -- every place of an empty row is empty
 none_at : (n i : ℕ) → ◌≡◌ {A = Option Heard} (get_or (replicate n None) i None) None

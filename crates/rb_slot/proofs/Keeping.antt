@@ -1,15 +1,9 @@
 -- What an engine keeps of one slot is right.
 use Rattle.std.proofs.Common.{◌≡◌, ℕ, ◌<◌, false, Option, List, get_or, subst, refl, sym, ◌∙◌, ap, arith}
-use Rattle.rb_base.specs.Nodes.{Side}
-use Rattle.rb_base.specs.Sizes.{Sizes, sync_slot_of}
+use Rattle.rb_base.specs.{Nodes.Side, Sizes.{Sizes, sync_slot_of}}
 use Rattle.rb_base.proofs.Sets.{eq_other}
-use Rattle.rb_rules.specs.declared.role.Role.{Role}
-use Rattle.rb_rules.specs.NodeState.{NodeState, trusted_of}
-use Rattle.rb_rules.specs.Slots.{role_of, sender_in}
-use Rattle.rb_slot.specs.declared.kept.KeptSlot.{KeptSlot}
-use Rattle.rb_slot.specs.Engines.{IsSound, Seated}
-use Rattle.rb_slot.specs.KeptSlots.{IsKeptSlot, bius_by, rmus_by, speaks_of}
-use Rattle.rb_slot.specs.Senders.{sender_of}
+use Rattle.rb_rules.specs.{declared.role.Role.Role, NodeState.{NodeState, trusted_of}, Slots.{role_of, sender_in}}
+use Rattle.rb_slot.specs.{declared.kept.KeptSlot.KeptSlot, Engines.{IsSound, Seated}, KeptSlots.{IsKeptSlot, bius_by, rmus_by, speaks_of}, Senders.sender_of}
 
 -- a state stays sound with the same trusted nodes
 pub still_sound : (sizes : Sizes) (me : Side) (index frame epoch near far after : ℕ) (owners : List ℕ) (kept : KeptSlot) (k1 k2 k3 : Option ℕ)

@@ -1,12 +1,7 @@
 -- What the close of a window makes of an engine.
 use Rattle.std.specs.Prelude.{ℕ, ◌≡◌, Bool, List}
-use Rattle.rb_base.specs.Nodes.{Side}
-use Rattle.rb_base.specs.Sizes.{sync_slot_of}
-use Rattle.rb_rules.specs.declared.closing.Closed.{Closed}
-use Rattle.rb_rules.specs.declared.sense.Sense.{Sense}
-use Rattle.rb_rules.specs.ExactStage.{Outcome, close_exact}
-use Rattle.rb_rules.specs.Standing.{has_evidence, with_evidence}
-use Rattle.rb_rules.specs.SyncStage.{close_sync}
+use Rattle.rb_base.specs.{Nodes.Side, Sizes.sync_slot_of}
+use Rattle.rb_rules.specs.{declared.closing.Closed.Closed, declared.sense.Sense.Sense, ExactStage.{Outcome, close_exact}, Standing.{has_evidence, with_evidence}, SyncStage.close_sync}
 use Rattle.rb_eligible.specs.Inboxes.{HoldsArrivals, KeptArrivals, Received}
 use Rattle.rb_slot.specs.Engines.{IsSameFrame, Seated, senses_in}
 

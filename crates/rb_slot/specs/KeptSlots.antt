@@ -1,14 +1,8 @@
 -- What an engine keeps of one slot.
 use Rattle.std.specs.Prelude.{ℕ, ◌≡◌, ◌==◌, ◌&&◌, ◌||◌, not, nat_lt, Bool, false, List, get_or}
-use Rattle.rb_base.specs.Nodes.{Side, other}
-use Rattle.rb_base.specs.Nodes.Side.{Biu, Rmu}
-use Rattle.rb_base.specs.Sizes.{Sizes, sync_slot_of}
-use Rattle.rb_rules.specs.declared.role.Role.{Role}
-use Rattle.rb_rules.specs.ExactStage.{is_sender}
-use Rattle.rb_rules.specs.Slots.{Sender, listens, role_of, sender_in}
-use Rattle.rb_rules.specs.Slots.Sender.{Nobody, Node, EachTrusted}
-use Rattle.rb_slot.specs.declared.kept.KeptSlot.{KeptSlot}
-use Rattle.rb_slot.specs.Senders.{sender_of}
+use Rattle.rb_base.specs.{Nodes.{Side, other}, Nodes.Side.{Biu, Rmu}, Sizes.{Sizes, sync_slot_of}}
+use Rattle.rb_rules.specs.{declared.role.Role.Role, ExactStage.is_sender, Slots.{Sender, listens, role_of, sender_in}, Slots.Sender.{Nobody, Node, EachTrusted}}
+use Rattle.rb_slot.specs.{declared.kept.KeptSlot.KeptSlot, Senders.sender_of}
 
 -- the trusted BIUs and the trusted RMUs, by the trusted nodes of its own kind and of the other
 abbrev pub bius_by : Side → ℕ → ℕ → ℕ

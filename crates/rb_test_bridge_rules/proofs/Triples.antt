@@ -1,19 +1,8 @@
 -- Buses of three BIUs: which are lawful, and who owns a slot on them.
-use Rattle.std.proofs.Common.{◌≡◌, ℕ, zero, suc, ◌+◌, ◌<◌, ◌≤◌, ◌^◌, nat_lt, true, All, Option, Some, None, List, [], ◌∷◌, get_or, option_map, replicate, slice_get, lit<, lit≤, refl, sym, ◌∙◌, ap, arith}
-use Rattle.std.proofs.lemmas.Bool.{ltb-true}
-use Rattle.std.proofs.lemmas.List.Elements.{All-cons, All-nil}
-use Rattle.std.proofs.lemmas.Option.{same_Some}
-use Rattle.rb_base.specs.Nodes.{Side}
-use Rattle.rb_base.specs.Nodes.Side.{Biu, Rmu}
+use Rattle.std.proofs.{Common.{◌≡◌, ℕ, zero, suc, ◌+◌, ◌<◌, ◌≤◌, ◌^◌, nat_lt, true, All, Option, Some, None, List, [], ◌∷◌, get_or, option_map, replicate, slice_get, lit<, lit≤, refl, sym, ◌∙◌, ap, arith}, lemmas.Bool.ltb-true, lemmas.List.Elements.{All-cons, All-nil}, lemmas.Option.same_Some}
+use Rattle.rb_base.specs.{Nodes.Side, Nodes.Side.{Biu, Rmu}}
 use Rattle.rb_base.proofs.Plain.{and_first}
-use Rattle.rb_rules.specs.Book.{of_kind}
-use Rattle.rb_rules.specs.Clock.{IsClock, Timeline}
-use Rattle.rb_rules.specs.Goodness.{Scenario, is_before, is_good}
-use Rattle.rb_rules.specs.Lawful.{IsLawful, IsOnsetOf}
-use Rattle.rb_rules.specs.Moments.{before_slot}
-use Rattle.rb_rules.specs.NodeSteps.{owner_at}
-use Rattle.rb_rules.specs.Plan.{longest_of, shortest_of}
-use Rattle.rb_rules.specs.Ports.{HandIn}
+use Rattle.rb_rules.specs.{Book.of_kind, Clock.{IsClock, Timeline}, Goodness.{Scenario, is_before, is_good}, Lawful.{IsLawful, IsOnsetOf}, Moments.before_slot, NodeSteps.owner_at, Plan.{longest_of, shortest_of}, Ports.HandIn}
 use Rattle.rb_rules.proofs.Feasibility.{feasible_exactly}
 use Rattle.rb_laws_groups.specs.Laws.{IsSchedule}
 use Rattle.rb_test_bridge_rules.specs.Bridges.{slot_each, triple}

@@ -1,16 +1,8 @@
 -- The bridges of the worked cases, and what is said of them.
 use Rattle.std.specs.Prelude.{ℕ, ◌+◌, ◌==◌, if◌then◌else◌, Option, Some, None, List, [], ◌∷◌, codes, get_or, replicate, take}
-use Rattle.rb_base.specs.Sizes.{Sizes}
-use Rattle.rb_base.specs.declared.values.Delivery.{Delivery}
-use Rattle.rb_base.specs.declared.values.Heard.TheVariants.{Word}
-use Rattle.rb_rules.specs.declared.message.Version.TheVariants.{One}
-use Rattle.rb_rules.specs.declared.plan.Plan.{Plan}
-use Rattle.rb_rules.specs.Book.{Record}
-use Rattle.rb_rules.specs.Book.Record.{Ended, Slot}
-use Rattle.rb_rules.specs.Goodness.{Scenario}
-use Rattle.rb_rules.specs.Rounds.{records_of}
-use Rattle.rb_rules_bridge.specs.declared.bank.Pair.{Pair}
-use Rattle.rb_rules_bridge.specs.Bridges.{Bridge}
+use Rattle.rb_base.specs.{Sizes.Sizes, declared.values.Delivery.Delivery, declared.values.Heard.TheVariants.Word}
+use Rattle.rb_rules.specs.{declared.message.Version.TheVariants.One, declared.plan.Plan.Plan, Book.Record, Book.Record.{Ended, Slot}, Goodness.Scenario, Rounds.records_of}
+use Rattle.rb_rules_bridge.specs.{declared.bank.Pair.Pair, Bridges.Bridge}
 
 -- Buses.
 

@@ -1,34 +1,12 @@
 -- Tests that compute: a scenario that passes is lawful, and its entries are those of a document.
-use Rattle.std.proofs.Common.{◌≡◌, ℕ, ◌+◌, ◌-◌, ◌^◌, ◌<◌, ◌≤◌, ◌&&◌, ◌||◌, ◌==◌, not, nat_le, nat_lt, Bool, true, false, List, [], ◌∷◌, All, get_or, length, Option, Some, None, refl, inl, inr, arith}
-use Rattle.std.proofs.lemmas.Bool.{and_parts, both_ways, eqb-true, false≢true, leb-true, ltb-true, not-true, or_cases}
-use Rattle.std.proofs.lemmas.List.Sums.{AllPass-from_list_all}
-use Rattle.std.specs.Prelude.{is_none}
-use Rattle.std.specs.List.{list_all}
-use Rattle.rb_base.specs.Nodes.{Side, other}
-use Rattle.rb_base.specs.Sizes.{IsShape, Sizes, sync_slot_of}
-use Rattle.rb_base.specs.declared.node.NodeName.{NodeName}
-use Rattle.rb_base.specs.declared.node.NodeName.TheVariants as node
+use Rattle.std.proofs.{Common.{◌≡◌, ℕ, ◌+◌, ◌-◌, ◌^◌, ◌<◌, ◌≤◌, ◌&&◌, ◌||◌, ◌==◌, not, nat_le, nat_lt, Bool, true, false, List, [], ◌∷◌, All, get_or, length, Option, Some, None, refl, inl, inr, arith}, lemmas.Bool.{and_parts, both_ways, eqb-true, false≢true, leb-true, ltb-true, not-true, or_cases}, lemmas.List.Sums.AllPass-from_list_all}
+use Rattle.std.specs.{Prelude.is_none, List.list_all}
+use Rattle.rb_base.specs.{Nodes.{Side, other}, Sizes.{IsShape, Sizes, sync_slot_of}, declared.node.NodeName.NodeName}
 use Rattle.rb_base.proofs.Plain.{either_by}
-use Rattle.rb_rules.specs.declared.link.Pattern.{Pattern}
-use Rattle.rb_rules.specs.declared.link.Pattern.TheVariants.{One, AllBiu, AllRmu}
-use Rattle.rb_rules.specs.declared.link.Rule.{Rule}
-use Rattle.rb_rules.specs.declared.message.Version.{Version}
+use Rattle.rb_rules.specs.{declared.link.Pattern.Pattern, declared.link.Pattern.TheVariants.{One, AllBiu, AllRmu}, declared.link.Rule.Rule, declared.message.Version.Version, declared.plan.Plan.Plan, declared.say.Content.Content, declared.say.Content.TheVariants.{Word, Fault, Sync, Raw}, declared.say.Say.Say, Clock.{IsClock, Timeline, are_rising, are_within}, Behavior.Span, Entries.{IsListed, listed}, Goodness.{Scenario, clock_of}, Lawful.{HasEach, IsContent, IsDelay, IsLawful, IsNodeOf, IsOnsetOf, IsPatternOf, IsRangeIn, IsRuleOf, IsSayOf, IsSyncAlone, IsVersion, is_node_good, kind_named, kind_of, segments_of_all, ticks_in_sync}, Links.is_in_range, Plan.{IsPlan, first_failing, longest_of, shortest_of}, Slots.same_side}
+use Rattle.rb_rules.proofs.{Feasibility.feasible_exactly, Lawfulness.{at_each_stage, lies_in_each}, Slots.same_side-is}
+use Rattle.rb_base.specs.declared.node.NodeName.TheVariants as node
 use Rattle.rb_rules.specs.declared.message.Version.TheVariants as version
-use Rattle.rb_rules.specs.declared.plan.Plan.{Plan}
-use Rattle.rb_rules.specs.declared.say.Content.{Content}
-use Rattle.rb_rules.specs.declared.say.Content.TheVariants.{Word, Fault, Sync, Raw}
-use Rattle.rb_rules.specs.declared.say.Say.{Say}
-use Rattle.rb_rules.specs.Clock.{IsClock, Timeline, are_rising, are_within}
-use Rattle.rb_rules.specs.Behavior.{Span}
-use Rattle.rb_rules.specs.Entries.{IsListed, listed}
-use Rattle.rb_rules.specs.Goodness.{Scenario, clock_of}
-use Rattle.rb_rules.specs.Lawful.{HasEach, IsContent, IsDelay, IsLawful, IsNodeOf, IsOnsetOf, IsPatternOf, IsRangeIn, IsRuleOf, IsSayOf, IsSyncAlone, IsVersion, is_node_good, kind_named, kind_of, segments_of_all, ticks_in_sync}
-use Rattle.rb_rules.specs.Links.{is_in_range}
-use Rattle.rb_rules.specs.Plan.{IsPlan, first_failing, longest_of, shortest_of}
-use Rattle.rb_rules.specs.Slots.{same_side}
-use Rattle.rb_rules.proofs.Feasibility.{feasible_exactly}
-use Rattle.rb_rules.proofs.Lawfulness.{at_each_stage, lies_in_each}
-use Rattle.rb_rules.proofs.Slots.{same_side-is}
 
 -- ---- lists of tests
 

@@ -1,13 +1,8 @@
 -- The abstract bus at some slots of the usual bus, and nodes that hold what it holds.
 use Rattle.std.specs.Prelude.{ℕ, zero, suc, ◌+◌, ◌*◌, ◌∷◌, ◌++◌, [], List, replicate, Some, None}
-use Rattle.rb_base.specs.declared.values.Heard.{Heard}
-use Rattle.rb_base.specs.declared.values.Heard.TheVariants.{Word, Fault}
-use Rattle.rb_rules.specs.AbstractBus.{AbstractBus, first_bus, bus_after_slot}
-use Rattle.rb_rules.specs.Goodness.{Scenario}
-use Rattle.rb_rules.specs.NodeState.{NodeState}
-use Rattle.rb_test_rules.specs.Buses.{ticking}
-use Rattle.rb_test_rules.specs.Ordinary.{greatest_drift, ordinary_use}
-use Rattle.rb_test_rules.specs.Parts.{sizes, biu}
+use Rattle.rb_base.specs.{declared.values.Heard.Heard, declared.values.Heard.TheVariants.{Word, Fault}}
+use Rattle.rb_rules.specs.{AbstractBus.{AbstractBus, first_bus, bus_after_slot}, Goodness.Scenario, NodeState.NodeState}
+use Rattle.rb_test_rules.specs.{Buses.ticking, Ordinary.{greatest_drift, ordinary_use}, Parts.{sizes, biu}}
 
 -- at first, the first good node having begun at time 0
 abbrev pub at_first : AbstractBus

@@ -1,14 +1,7 @@
 -- Nodes that accuse, and frames that end with convictions.
 use Rattle.std.specs.Prelude.{ℕ, ◌==◌, ◌∷◌, ◌++◌, [], replicate, Some, if◌then◌else◌}
-use Rattle.rb_base.specs.Nodes.Side.{Biu, Rmu}
-use Rattle.rb_base.specs.declared.values.Heard.TheVariants.{Word, Fault}
-use Rattle.rb_rules.specs.declared.sense.Sense.{Sense}
-use Rattle.rb_rules.specs.declared.sense.Sense.TheVariants.{Silent, Bad}
-use Rattle.rb_rules.specs.Conviction.{turn}
-use Rattle.rb_rules.specs.ExactStage.{keep_sent, close_exact}
-use Rattle.rb_rules.specs.NodeState.{NodeState}
-use Rattle.rb_rules.specs.Standing.{Standing}
-use Rattle.rb_rules.specs.SyncStage.{close_sync}
+use Rattle.rb_base.specs.{Nodes.Side.{Biu, Rmu}, declared.values.Heard.TheVariants.{Word, Fault}}
+use Rattle.rb_rules.specs.{declared.sense.Sense.Sense, declared.sense.Sense.TheVariants.{Silent, Bad}, Conviction.turn, ExactStage.{keep_sent, close_exact}, NodeState.NodeState, Standing.Standing, SyncStage.close_sync}
 use Rattle.rb_test_rules.specs.Parts.{sizes, biu, rmu, called, comes, accused}
 
 -- nodes 1 and 2 are accused, and node 1 is convicted

@@ -1,25 +1,8 @@
 -- What good nodes hold in common if others are silent or lie, and whom they accuse.
 use Rattle.std.specs.Prelude.{ℕ, ◌≡◌, false, List, [], ◌∷◌, ◌++◌, map, filter, replicate, get_or, Some, None}
-use Rattle.rb_base.specs.Counting.{numbers}
-use Rattle.rb_base.specs.Nodes.{Side, has}
-use Rattle.rb_base.specs.Nodes.Side.{Biu}
-use Rattle.rb_base.specs.declared.values.Heard.{Heard}
-use Rattle.rb_rules.specs.declared.cause.Cause.TheVariants.{FewGoodBiu}
-use Rattle.rb_rules.specs.declared.link.Pattern.TheVariants.{AllBiu, AllRmu}
-use Rattle.rb_rules.specs.declared.say.Content.TheVariants.{Word}
-use Rattle.rb_rules.specs.Book.{Record, of_kind}
-use Rattle.rb_rules.specs.Book.Record.{Ended, Breach}
-use Rattle.rb_rules.specs.Goodness.{Scenario, is_good}
-use Rattle.rb_rules.specs.Moments.{IsComplete, IsGoodBefore, IsSettled, after_slot}
-use Rattle.rb_rules.specs.NodeState.{NodeState, first_state}
-use Rattle.rb_rules.specs.NodeSteps.{convicted_of}
-use Rattle.rb_rules.specs.Slots.{count_of}
-use Rattle.rb_rules.specs.Standing.{vector_of}
-use Rattle.rb_test_rules.specs.Buses.{b, r, steady, says, listing}
-use Rattle.rb_test_rules.specs.Told.{none, at, all_begin, everybody, all_but, port, usual_ports, silent, usual_words}
-use Rattle.rb_test_rules.specs.Ordinary.{ordinary_use}
-use Rattle.rb_test_rules.specs.Frames.{late_onset}
-use Rattle.rb_test_rules.specs.Parts.{sizes}
+use Rattle.rb_base.specs.{Counting.numbers, Nodes.{Side, has}, Nodes.Side.Biu, declared.values.Heard.Heard}
+use Rattle.rb_rules.specs.{declared.cause.Cause.TheVariants.FewGoodBiu, declared.link.Pattern.TheVariants.{AllBiu, AllRmu}, declared.say.Content.TheVariants.Word, Book.{Record, of_kind}, Book.Record.{Ended, Breach}, Goodness.{Scenario, is_good}, Moments.{IsComplete, IsGoodBefore, IsSettled, after_slot}, NodeState.{NodeState, first_state}, NodeSteps.convicted_of, Slots.count_of, Standing.vector_of}
+use Rattle.rb_test_rules.specs.{Buses.{b, r, steady, says, listing}, Told.{none, at, all_begin, everybody, all_but, port, usual_ports, silent, usual_words}, Ordinary.ordinary_use, Frames.late_onset, Parts.sizes}
 
 -- RMU 2 is good until it sends a vector that names BIU 0
 abbrev pub false_accuser : Scenario

@@ -1,10 +1,7 @@
 -- A book that has ended, and what nodes could still tell.
 use Rattle.std.specs.Prelude.{[], ◌∷◌, true, None, Option}
-use Rattle.rb_rules.specs.Book.{Begun, Book, Each, Row}
-use Rattle.rb_rules.specs.Book.Milestone.{End}
-use Rattle.rb_rules.specs.Book.Record.{Ended}
-use Rattle.rb_test_rules.specs.Buses.{b}
-use Rattle.rb_test_rules.specs.Told.{begins}
+use Rattle.rb_rules.specs.{Book.{Begun, Book, Each, Row}, Book.Milestone.End, Book.Record.Ended}
+use Rattle.rb_test_rules.specs.{Buses.b, Told.begins}
 
 abbrev pub ended_book : Book
 ended_book = record { upcoming = End; stages = []; lines = []; given = Ended ∷ []; ended = true }

@@ -1,16 +1,7 @@
 -- Words in which the scenarios of the worked cases are said.
 use Rattle.std.specs.Prelude.{ℕ, List, [], ◌∷◌}
-use Rattle.rb_base.specs.declared.node.NodeName.{NodeName}
-use Rattle.rb_base.specs.declared.node.NodeName.TheVariants.{Biu, Rmu}
-use Rattle.rb_rules.specs.declared.link.Pattern.{Pattern}
-use Rattle.rb_rules.specs.declared.message.Version.TheVariants.{One}
-use Rattle.rb_rules.specs.declared.plan.Plan.{Plan}
-use Rattle.rb_rules.specs.declared.say.Content.{Content}
-use Rattle.rb_rules.specs.declared.say.Content.TheVariants.{Raw}
-use Rattle.rb_rules.specs.declared.say.Say.{Say}
-use Rattle.rb_rules.specs.Clock.{Timeline}
-use Rattle.rb_rules.specs.Entries.{listed}
-use Rattle.rb_rules.specs.Goodness.{Scenario, clock_of}
+use Rattle.rb_base.specs.{declared.node.NodeName.NodeName, declared.node.NodeName.TheVariants.{Biu, Rmu}}
+use Rattle.rb_rules.specs.{declared.link.Pattern.Pattern, declared.message.Version.TheVariants.One, declared.plan.Plan.Plan, declared.say.Content.Content, declared.say.Content.TheVariants.Raw, declared.say.Say.Say, Clock.Timeline, Entries.listed, Goodness.{Scenario, clock_of}}
 
 -- the BIU and the RMU with this number
 abbrev pub b : ℕ → NodeName

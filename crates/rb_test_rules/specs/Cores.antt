@@ -1,10 +1,7 @@
 -- A single core by its ticks and arrivals.
 use Rattle.std.specs.Prelude.{ℕ, List, [], ◌∷◌, ◌++◌, replicate, Option, filter_map}
-use Rattle.rb_base.specs.Nodes.Side.{Biu, Rmu}
-use Rattle.rb_base.specs.Sizes.{Sizes}
-use Rattle.rb_rules.specs.declared.record.Epoch.{Epoch}
-use Rattle.rb_rules.specs.Core.{Core, CoreEvent, first_core, tick, pass_to, next_tick, acts_of}
-use Rattle.rb_rules.specs.Core.CoreEvent.{Tick, Arrive}
+use Rattle.rb_base.specs.{Nodes.Side.{Biu, Rmu}, Sizes.Sizes}
+use Rattle.rb_rules.specs.{declared.record.Epoch.Epoch, Core.{Core, CoreEvent, first_core, tick, pass_to, next_tick, acts_of}, Core.CoreEvent.{Tick, Arrive}}
 use Rattle.rb_test_rules.specs.Buses.{plan}
 
 -- four BIUs, three RMUs and eight data slots; one of each

@@ -1,8 +1,6 @@
 -- Runs event by event, with a rule that picks among the events that are due.
 use Rattle.std.specs.Prelude.{ℕ, zero, suc, ◌+◌, ◌-◌, ◌*◌, ◌%◌, true, false, List, length}
-use Rattle.rb_rules.specs.Book.{Record}
-use Rattle.rb_rules.specs.Goodness.{Scenario}
-use Rattle.rb_rules.specs.WorldStep.{World, due_of, take, go_on, needs_no_event, first_world}
+use Rattle.rb_rules.specs.{Book.Record, Goodness.Scenario, WorldStep.{World, due_of, take, go_on, needs_no_event, first_world}}
 
 -- the place of the event that is taken, by the number of events that are due and the number of
 -- steps that may still come

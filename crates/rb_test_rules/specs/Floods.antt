@@ -1,12 +1,8 @@
 -- A node that says more than any document lists.
 use Rattle.std.specs.Prelude.{ℕ, ◌+◌, ◌*◌, ◌==◌, ◌&&◌, [], ◌∷◌, replicate, Some, None, if◌then◌else◌}
-use Rattle.rb_rules.specs.declared.message.Tag.TheVariants as tag
-use Rattle.rb_rules.specs.declared.message.Version.TheVariants.{One}
-use Rattle.rb_rules.specs.Behavior.{Behavior, Said, Span}
-use Rattle.rb_rules.specs.Entries.{message_at}
-use Rattle.rb_rules.specs.Goodness.{Scenario}
-use Rattle.rb_rules.specs.Spelling.{spelling_of}
+use Rattle.rb_rules.specs.{declared.message.Version.TheVariants.One, Behavior.{Behavior, Said, Span}, Entries.message_at, Goodness.Scenario, Spelling.spelling_of}
 use Rattle.rb_test_rules.specs.Ordinary.{ordinary_use}
+use Rattle.rb_rules.specs.declared.message.Tag.TheVariants as tag
 
 -- a word at the offset of a window at which a good node sends: another word in each slot and stage,
 -- and to each node

@@ -1,18 +1,9 @@
 -- Several frames, and buses by their number.
 use Rattle.std.specs.Prelude.{ℕ, List, [], ◌∷◌, ◌++◌, replicate, Option, Some, None, option_map, slice_get}
 use Rattle.rb_base.specs.Nodes.Side.{Rmu}
-use Rattle.rb_rules.specs.declared.cause.Cause.TheVariants.{FewGoodRmu}
-use Rattle.rb_rules.specs.declared.link.Pattern.TheVariants.{One, AllBiu, AllRmu}
+use Rattle.rb_rules.specs.{declared.cause.Cause.TheVariants.FewGoodRmu, declared.link.Pattern.TheVariants.{One, AllBiu, AllRmu}, declared.say.Content.TheVariants.{Word, Fault, Sync}, Book.{Record, of_kind}, Book.Record.{Ended, Breach}, Goodness.Scenario, Ports.HandIn, Rounds.moment}
+use Rattle.rb_test_rules.specs.{Buses.{b, r, plan, steady, says, listing, raw}, Told.{word, none, at, all_begin, everybody, all_but, port, usual_ports, silent, delivered, usual_words}, Ordinary.ordinary_use}
 use Rattle.rb_rules.specs.declared.message.Version.TheVariants as version
-use Rattle.rb_rules.specs.declared.say.Content.TheVariants.{Word, Fault, Sync}
-use Rattle.rb_rules.specs.Book.{Record, of_kind}
-use Rattle.rb_rules.specs.Book.Record.{Ended, Breach}
-use Rattle.rb_rules.specs.Goodness.{Scenario}
-use Rattle.rb_rules.specs.Ports.{HandIn}
-use Rattle.rb_rules.specs.Rounds.{moment}
-use Rattle.rb_test_rules.specs.Buses.{b, r, plan, steady, says, listing, raw}
-use Rattle.rb_test_rules.specs.Told.{word, none, at, all_begin, everybody, all_but, port, usual_ports, silent, delivered, usual_words}
-use Rattle.rb_test_rules.specs.Ordinary.{ordinary_use}
 
 -- four frames, and BIU 2 is silent from the fourth frame's slot 5 on
 abbrev pub late_onset : Scenario

@@ -1,9 +1,7 @@
 -- Stages of a frame as they are judged: four trusted BIUs, of which two are good, and three RMUs,
 -- all good.
 use Rattle.std.specs.Prelude.{ℕ, ◌==◌, if◌then◌else◌}
-use Rattle.rb_base.specs.declared.values.Heard.TheVariants.{Word, Fault}
-use Rattle.rb_base.specs.declared.values.See.{See}
-use Rattle.rb_base.specs.declared.values.See.TheVariants.{Nothing, Value, Time}
+use Rattle.rb_base.specs.{declared.values.Heard.TheVariants.{Word, Fault}, declared.values.See.See, declared.values.See.TheVariants.{Nothing, Value, Time}}
 use Rattle.rb_rules.specs.Judging.{JudgedStage, by_kind}
 
 -- each RMU sees this of each BIU, and the BIUs see nothing

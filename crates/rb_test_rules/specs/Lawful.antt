@@ -1,13 +1,8 @@
 -- Lies at the edges of what may be said in the sync slot, a rule of delay, and what lies beyond
 -- each edge.
 use Rattle.std.specs.Prelude.{ℕ, [], ◌∷◌, replicate, Some, None}
-use Rattle.rb_rules.specs.declared.link.Pattern.TheVariants.{One, AllBiu, AllRmu}
-use Rattle.rb_rules.specs.declared.link.Rule.{Rule}
-use Rattle.rb_rules.specs.declared.say.Content.TheVariants.{Word, Sync}
-use Rattle.rb_rules.specs.declared.say.Say.{Say}
-use Rattle.rb_rules.specs.Goodness.{Scenario}
-use Rattle.rb_test_rules.specs.Buses.{b, r, says, listing, raw}
-use Rattle.rb_test_rules.specs.Ordinary.{ordinary_use}
+use Rattle.rb_rules.specs.{declared.link.Pattern.TheVariants.{One, AllBiu, AllRmu}, declared.link.Rule.Rule, declared.say.Content.TheVariants.{Word, Sync}, declared.say.Say.Say, Goodness.Scenario}
+use Rattle.rb_test_rules.specs.{Buses.{b, r, says, listing, raw}, Ordinary.ordinary_use}
 
 -- RMU 1, which is faulty from a slot of frame 0 on, says the entry `say`
 abbrev pub saying_from : ℕ → Say → Scenario

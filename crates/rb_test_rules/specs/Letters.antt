@@ -1,13 +1,8 @@
 -- A letter over the bus: BIU 0 offers its two words in two frames, one each.
 use Rattle.std.specs.Prelude.{ℕ, List, [], ◌∷◌, replicate, None}
-use Rattle.rb_rules.specs.Book.{Record}
-use Rattle.rb_rules.specs.Goodness.{Scenario}
-use Rattle.rb_rules.specs.Ports.{HandIn}
-use Rattle.rb_rules.specs.Rounds.{records_of}
-use Rattle.rb_laws_letters.specs.Sent.{Call, Sent, after_calls, nothing_sent}
-use Rattle.rb_laws_letters.specs.Sent.Call.{Next, Push}
-use Rattle.rb_test_rules.specs.Buses.{steady}
-use Rattle.rb_test_rules.specs.Ordinary.{ordinary_use}
+use Rattle.rb_rules.specs.{Book.Record, Goodness.Scenario, Ports.HandIn, Rounds.records_of}
+use Rattle.rb_laws_letters.specs.{Sent.{Call, Sent, after_calls, nothing_sent}, Sent.Call.{Next, Push}}
+use Rattle.rb_test_rules.specs.{Buses.steady, Ordinary.ordinary_use}
 
 -- one byte makes the words 2^24 + 1 and 2^25 + 65536 * 65
 abbrev pub letter : List ℕ

@@ -1,16 +1,7 @@
 -- Nodes that are silent or lie in a frame, and what the good ones record.
 use Rattle.std.specs.Prelude.{ℕ, List, [], ◌∷◌, ◌++◌, Some, None}
-use Rattle.rb_rules.specs.declared.cause.Cause.TheVariants.{FewGoodBiu, FewGoodRmu, TwoSided}
-use Rattle.rb_rules.specs.declared.link.Pattern.TheVariants.{One, AllBiu, AllRmu}
-use Rattle.rb_rules.specs.declared.say.Content.{Content}
-use Rattle.rb_rules.specs.declared.say.Content.TheVariants.{Word, Sync}
-use Rattle.rb_rules.specs.declared.say.Say.{Say}
-use Rattle.rb_rules.specs.Book.{Record}
-use Rattle.rb_rules.specs.Book.Record.{Ended, Breach}
-use Rattle.rb_rules.specs.Goodness.{Scenario}
-use Rattle.rb_test_rules.specs.Buses.{b, r, says, listing, raw}
-use Rattle.rb_test_rules.specs.Told.{word, none, at, all_begin, everybody, all_but, port, usual_ports, silent, delivered, usual_words}
-use Rattle.rb_test_rules.specs.Ordinary.{ordinary_use}
+use Rattle.rb_rules.specs.{declared.cause.Cause.TheVariants.{FewGoodBiu, FewGoodRmu, TwoSided}, declared.link.Pattern.TheVariants.{One, AllBiu, AllRmu}, declared.say.Content.Content, declared.say.Content.TheVariants.{Word, Sync}, declared.say.Say.Say, Book.Record, Book.Record.{Ended, Breach}, Goodness.Scenario}
+use Rattle.rb_test_rules.specs.{Buses.{b, r, says, listing, raw}, Told.{word, none, at, all_begin, everybody, all_but, port, usual_ports, silent, delivered, usual_words}, Ordinary.ordinary_use}
 
 -- RMU 2 is silent
 abbrev pub silent_rmu : Scenario

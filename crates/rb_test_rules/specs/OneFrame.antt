@@ -1,15 +1,9 @@
 -- A frame in whose sync slot an RMU calls one BIU early, and sends noise to the other.
 use Rattle.std.specs.Prelude.{ℕ, ◌==◌, ◌&&◌, nat_lt, if◌then◌else◌}
-use Rattle.rb_base.specs.Nodes.{Side}
-use Rattle.rb_base.specs.Nodes.Side.{Biu, Rmu}
-use Rattle.rb_rules.specs.declared.sense.Sense.{Sense}
-use Rattle.rb_rules.specs.declared.sense.Sense.TheVariants.{Silent, One, Bad}
-use Rattle.rb_rules.specs.Clock.{stamp_of}
-use Rattle.rb_rules.specs.NodeState.{first_state}
-use Rattle.rb_rules.specs.SyncStage.{call_of}
+use Rattle.rb_base.specs.{Nodes.Side, Nodes.Side.{Biu, Rmu}}
+use Rattle.rb_rules.specs.{declared.sense.Sense.Sense, declared.sense.Sense.TheVariants.{Silent, One, Bad}, Clock.stamp_of, NodeState.first_state, SyncStage.call_of}
 use Rattle.rb_laws_synchrony.specs.OneFrame.{Frame}
-use Rattle.rb_test_rules.specs.Buses.{plan, steady}
-use Rattle.rb_test_rules.specs.OneSlot.{two_and_three}
+use Rattle.rb_test_rules.specs.{Buses.{plan, steady}, OneSlot.two_and_three}
 
 -- a call of a stage that comes at a time
 abbrev pub called : ℕ → ℕ → Sense

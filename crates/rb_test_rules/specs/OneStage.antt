@@ -1,14 +1,9 @@
 -- Two BIUs that hear calls in stage 2 of the sync slot: of RMUs 0 and 1, and of RMU 2 long before.
 use Rattle.std.specs.Prelude.{ℕ, ◌==◌, if◌then◌else◌, nat_lt, Bool}
 use Rattle.rb_base.specs.Nodes.Side.{Biu}
-use Rattle.rb_rules.specs.declared.message.Message.{Message}
-use Rattle.rb_rules.specs.declared.message.Tag.TheVariants.{Sync}
-use Rattle.rb_rules.specs.declared.sense.Sense.{Sense}
-use Rattle.rb_rules.specs.declared.sense.Sense.TheVariants.{Silent, One}
-use Rattle.rb_rules.specs.Clock.{Timeline, stamp_of}
+use Rattle.rb_rules.specs.{declared.message.Message.Message, declared.message.Tag.TheVariants.Sync, declared.sense.Sense.Sense, declared.sense.Sense.TheVariants.{Silent, One}, Clock.{Timeline, stamp_of}}
 use Rattle.rb_laws_synchrony.specs.OneStage.{Listener}
-use Rattle.rb_test_rules.specs.Buses.{ticking}
-use Rattle.rb_test_rules.specs.Parts.{biu, sizes}
+use Rattle.rb_test_rules.specs.{Buses.ticking, Parts.{biu, sizes}}
 
 abbrev pub a_call : Message
 a_call = record { tag = Sync; frame = 0; slot = 19; stage = 2; value = 0 }

@@ -1,11 +1,7 @@
 -- Buses without a fault, and what they record.
 use Rattle.std.specs.Prelude.{List, [], ◌∷◌, ◌++◌, replicate, None}
-use Rattle.rb_rules.specs.declared.link.Pattern.TheVariants.{AllBiu, AllRmu}
-use Rattle.rb_rules.specs.Book.{Record}
-use Rattle.rb_rules.specs.Book.Record.{Frame, Ended}
-use Rattle.rb_rules.specs.Goodness.{Scenario}
-use Rattle.rb_test_rules.specs.Buses.{b, r, plan, ticking, steady}
-use Rattle.rb_test_rules.specs.Told.{word, begins, all_begin, everybody, port, usual_ports, silent, delivered, usual_words}
+use Rattle.rb_rules.specs.{declared.link.Pattern.TheVariants.{AllBiu, AllRmu}, Book.Record, Book.Record.{Frame, Ended}, Goodness.Scenario}
+use Rattle.rb_test_rules.specs.{Buses.{b, r, plan, ticking, steady}, Told.{word, begins, all_begin, everybody, port, usual_ports, silent, delivered, usual_words}}
 
 -- four BIUs and three RMUs, all good; each BIU asks for two data slots
 abbrev pub ordinary_use : Scenario

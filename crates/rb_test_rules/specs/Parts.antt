@@ -1,21 +1,8 @@
 -- Single nodes of a bus of four BIUs, three RMUs and eight data slots.
 use Rattle.std.specs.Prelude.{ℕ, ◌-◌, ◌==◌, false, List, [], ◌∷◌, get_or, if◌then◌else◌, Option, Some, None}
-use Rattle.rb_base.specs.Nodes.Side.{Biu, Rmu}
-use Rattle.rb_base.specs.Sizes.{Sizes}
-use Rattle.rb_base.specs.declared.values.Heard.{Heard}
-use Rattle.rb_base.specs.declared.values.Heard.TheVariants.{Word, Fault}
-use Rattle.rb_rules.specs.declared.message.Tag.TheVariants.{Sync}
+use Rattle.rb_base.specs.{Nodes.Side.{Biu, Rmu}, Sizes.Sizes, declared.values.Heard.Heard, declared.values.Heard.TheVariants.{Word, Fault}}
+use Rattle.rb_rules.specs.{declared.message.Tag.TheVariants.Sync, declared.plan.Plan.Plan, declared.sense.Expect.Expect, declared.sense.Sense.Sense, declared.sense.Sense.TheVariants.{Silent, One}, Conviction.convicted_by, ExactStage.{Outcome, message_of, says, keep_sent, close_exact}, NodeState.{NodeState, first_state}, Sense.Arrival, Standing.{Standing, first_standing, with_evidence, is_unlike, with_mismatch, standing_at_end}, SyncStage.close_sync}
 use Rattle.rb_rules.specs.declared.message.Version.TheVariants as version
-use Rattle.rb_rules.specs.declared.plan.Plan.{Plan}
-use Rattle.rb_rules.specs.declared.sense.Expect.{Expect}
-use Rattle.rb_rules.specs.declared.sense.Sense.{Sense}
-use Rattle.rb_rules.specs.declared.sense.Sense.TheVariants.{Silent, One}
-use Rattle.rb_rules.specs.Conviction.{convicted_by}
-use Rattle.rb_rules.specs.ExactStage.{Outcome, message_of, says, keep_sent, close_exact}
-use Rattle.rb_rules.specs.NodeState.{NodeState, first_state}
-use Rattle.rb_rules.specs.Sense.{Arrival}
-use Rattle.rb_rules.specs.Standing.{Standing, first_standing, with_evidence, is_unlike, with_mismatch, standing_at_end}
-use Rattle.rb_rules.specs.SyncStage.{close_sync}
 
 abbrev pub sizes : Sizes
 sizes = record { bius = 4; rmus = 3; data_slots = 8 }

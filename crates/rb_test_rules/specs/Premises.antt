@@ -1,13 +1,8 @@
 -- What is handed in alike to two BIUs, and nodes that run.
 use Rattle.std.specs.Prelude.{ℕ, ◌≡◌, List, [], ◌∷◌, replicate}
-use Rattle.rb_base.specs.Nodes.{Side}
-use Rattle.rb_base.specs.Nodes.Side.{Biu}
-use Rattle.rb_rules.specs.Moments.{IsRunning}
-use Rattle.rb_rules.specs.Ports.{HandIn}
-use Rattle.rb_rules.specs.WorldStep.{World, world_after}
-use Rattle.rb_rules.specs.WorldStep.Choice.{Take}
-use Rattle.rb_laws_events.specs.OwnMoments.{RunningNode, moment_of}
-use Rattle.rb_laws_events.specs.RunningNodes.{StandsAfterSlot, StandsInSlot}
+use Rattle.rb_base.specs.{Nodes.Side, Nodes.Side.Biu}
+use Rattle.rb_rules.specs.{Moments.IsRunning, Ports.HandIn, WorldStep.{World, world_after}, WorldStep.Choice.Take}
+use Rattle.rb_laws_events.specs.{OwnMoments.{RunningNode, moment_of}, RunningNodes.{StandsAfterSlot, StandsInSlot}}
 use Rattle.rb_test_rules.specs.Ordinary.{one_state}
 
 abbrev pub handed_to_both : List HandIn

@@ -1,13 +1,8 @@
 -- Receivers beside the bus.
 use Rattle.std.specs.Prelude.{ℕ, ◌==◌, if◌then◌else◌, Option, Some, None, [], ◌∷◌, replicate}
 use Rattle.rb_base.specs.declared.values.See.{See}
-use Rattle.rb_rules.specs.Clock.{Timeline}
-use Rattle.rb_rules.specs.Goodness.{Scenario}
-use Rattle.rb_rules.specs.Hearing.{Coming, judged_see}
-use Rattle.rb_rules.specs.Judging.{JudgedStage}
-use Rattle.rb_rules.specs.SyncStage.{see_time}
-use Rattle.rb_test_rules.specs.Buses.{steady, ticking}
-use Rattle.rb_test_rules.specs.Ordinary.{smallest_bus}
+use Rattle.rb_rules.specs.{Clock.Timeline, Goodness.Scenario, Hearing.{Coming, judged_see}, Judging.JudgedStage, SyncStage.see_time}
+use Rattle.rb_test_rules.specs.{Buses.{steady, ticking}, Ordinary.smallest_bus}
 
 -- The call of the smallest bus's RMU: the stamp that a receiver takes of it, and its time.
 

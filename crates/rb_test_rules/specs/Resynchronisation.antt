@@ -1,14 +1,7 @@
 -- Nodes that lie in the sync slot and before it, and what the good ones record.
 use Rattle.std.specs.Prelude.{List, [], ◌∷◌, ◌++◌, Some, None}
-use Rattle.rb_rules.specs.declared.cause.Cause.TheVariants.{TwoSided}
-use Rattle.rb_rules.specs.declared.link.Pattern.TheVariants.{One, AllBiu, AllRmu}
-use Rattle.rb_rules.specs.declared.say.Content.TheVariants.{Word, Sync}
-use Rattle.rb_rules.specs.Book.{Record}
-use Rattle.rb_rules.specs.Book.Record.{Ended, Breach}
-use Rattle.rb_rules.specs.Goodness.{Scenario}
-use Rattle.rb_test_rules.specs.Buses.{b, r, says, listing}
-use Rattle.rb_test_rules.specs.Told.{word, at, all_begin, everybody, all_but, port, usual_ports, silent, delivered, usual_words}
-use Rattle.rb_test_rules.specs.Ordinary.{ordinary_use}
+use Rattle.rb_rules.specs.{declared.cause.Cause.TheVariants.TwoSided, declared.link.Pattern.TheVariants.{One, AllBiu, AllRmu}, declared.say.Content.TheVariants.{Word, Sync}, Book.Record, Book.Record.{Ended, Breach}, Goodness.Scenario}
+use Rattle.rb_test_rules.specs.{Buses.{b, r, says, listing}, Told.{word, at, all_begin, everybody, all_but, port, usual_ports, silent, delivered, usual_words}, Ordinary.ordinary_use}
 
 -- BIU 3 accuses all RMUs, repeats it, relays nothing and calls
 abbrev pub false_accuser : Scenario

@@ -1,27 +1,8 @@
 -- Single steps of a core and of a world.
 use Rattle.std.specs.Prelude.{ℕ, true, [], ◌∷◌, Option, Some, None}
-use Rattle.rb_base.specs.Nodes.Side.{Biu, Rmu}
-use Rattle.rb_base.specs.declared.values.Heard.TheVariants.{Word}
-use Rattle.rb_rules.specs.declared.closing.Closed.{Closed}
-use Rattle.rb_rules.specs.declared.link.Pattern.TheVariants.{AllRmu}
-use Rattle.rb_rules.specs.declared.message.Message.{Message}
-use Rattle.rb_rules.specs.declared.plan.Plan.{Plan}
-use Rattle.rb_rules.specs.declared.say.Content.TheVariants.{Sync}
-use Rattle.rb_rules.specs.declared.say.Say.{Say}
-use Rattle.rb_rules.specs.Book.{Each, Row}
-use Rattle.rb_rules.specs.Book.Milestone.{Stage}
-use Rattle.rb_rules.specs.Book.Record.{Frame, Slot}
-use Rattle.rb_rules.specs.Core.{Act, Core, first_core, arrive, tick, pass_to}
-use Rattle.rb_rules.specs.ExactStage.{message_of}
-use Rattle.rb_rules.specs.Goodness.{Scenario}
-use Rattle.rb_rules.specs.Hearing.{Coming, Span}
-use Rattle.rb_rules.specs.WorldStep.{Due, Site, World, fresh_site, first_world, stop, take_if_due}
-use Rattle.rb_rules.specs.WorldStep.Pending.{Tick}
-use Rattle.rb_test_rules.specs.Buses.{b, plan, says}
-use Rattle.rb_test_rules.specs.Cores.{usual_sizes}
-use Rattle.rb_test_rules.specs.Ordinary.{smallest_bus}
-use Rattle.rb_test_rules.specs.Parts.{biu}
-use Rattle.rb_test_rules.specs.Told.{at, begins}
+use Rattle.rb_base.specs.{Nodes.Side.{Biu, Rmu}, declared.values.Heard.TheVariants.Word}
+use Rattle.rb_rules.specs.{declared.closing.Closed.Closed, declared.link.Pattern.TheVariants.AllRmu, declared.message.Message.Message, declared.plan.Plan.Plan, declared.say.Content.TheVariants.Sync, declared.say.Say.Say, Book.{Each, Row}, Book.Milestone.Stage, Book.Record.{Frame, Slot}, Core.{Act, Core, first_core, arrive, tick, pass_to}, ExactStage.message_of, Goodness.Scenario, Hearing.{Coming, Span}, WorldStep.{Due, Site, World, fresh_site, first_world, stop, take_if_due}, WorldStep.Pending.Tick}
+use Rattle.rb_test_rules.specs.{Buses.{b, plan, says}, Cores.usual_sizes, Ordinary.smallest_bus, Parts.biu, Told.{at, begins}}
 
 -- A core.
 

@@ -1,17 +1,8 @@
 -- A plan and a clock whose numbers are all different, and rules of delay.
 use Rattle.std.specs.Prelude.{[], ◌∷◌}
-use Rattle.rb_base.specs.declared.node.NodeName.TheVariants.{Biu, Rmu}
-use Rattle.rb_base.specs.declared.values.Place.{Place}
-use Rattle.rb_rules.specs.declared.link.Pattern.TheVariants.{One, AllBiu, AllRmu}
-use Rattle.rb_rules.specs.declared.link.Rule.{Rule}
-use Rattle.rb_rules.specs.declared.message.Tag.TheVariants.{Word}
-use Rattle.rb_rules.specs.declared.plan.Plan.{Plan}
-use Rattle.rb_rules.specs.Clock.{Timeline}
-use Rattle.rb_rules.specs.Goodness.{Scenario}
-use Rattle.rb_rules.specs.Hearing.{Sending}
-use Rattle.rb_rules.specs.Links.{DelayRules}
-use Rattle.rb_test_rules.specs.Ordinary.{ordinary_use}
-use Rattle.rb_test_rules.specs.Parts.{plan}
+use Rattle.rb_base.specs.{declared.node.NodeName.TheVariants.{Biu, Rmu}, declared.values.Place.Place}
+use Rattle.rb_rules.specs.{declared.link.Pattern.TheVariants.{One, AllBiu, AllRmu}, declared.link.Rule.Rule, declared.message.Tag.TheVariants.Word, declared.plan.Plan.Plan, Clock.Timeline, Goodness.Scenario, Hearing.Sending, Links.DelayRules}
+use Rattle.rb_test_rules.specs.{Ordinary.ordinary_use, Parts.plan}
 
 -- ticks that may be nearly twice as long as the nominal one, or a tenth of it. No bus could run by
 -- it

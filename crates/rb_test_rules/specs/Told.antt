@@ -1,16 +1,9 @@
 -- Words in which the records of the worked cases are said.
-use Rattle.std.specs.Prelude.{ℕ, ◌+◌, not, List, [], ◌∷◌, map, filter}
-use Rattle.std.specs.List.{list_any, range_with_len}
-use Rattle.rb_base.specs.declared.node.NodeName.{NodeName}
-use Rattle.rb_base.specs.declared.values.Heard.{Heard}
-use Rattle.rb_base.specs.declared.values.Heard.TheVariants as heard
-use Rattle.rb_base.specs.declared.values.Place.{Place}
-use Rattle.rb_rules.specs.declared.record.NodeLine.{NodeLine}
-use Rattle.rb_rules.specs.declared.record.PortLine.{PortLine}
-use Rattle.rb_rules.specs.Book.{Record}
-use Rattle.rb_rules.specs.Book.Record.{Frame, Slot}
-use Rattle.rb_rules.specs.Links.{same_node}
+use Rattle.std.specs.{Prelude.{ℕ, ◌+◌, not, List, [], ◌∷◌, map, filter}, List.{list_any, range_with_len}}
+use Rattle.rb_base.specs.{declared.node.NodeName.NodeName, declared.values.Heard.Heard, declared.values.Place.Place}
+use Rattle.rb_rules.specs.{declared.record.NodeLine.NodeLine, declared.record.PortLine.PortLine, Book.Record, Book.Record.{Frame, Slot}, Links.same_node}
 use Rattle.rb_test_rules.specs.Buses.{b, r}
+use Rattle.rb_base.specs.declared.values.Heard.TheVariants as heard
 
 abbrev pub word : ℕ → Heard
 word w = heard.Word w

@@ -1,14 +1,8 @@
 -- All that is promised of a command, from its answer.
 use Rattle.std.proofs.Common.{◌≡◌, ℕ, Bool, true, List, Option, None, refl}
 use Rattle.rb_world_book.specs.declared.turn.Turn.{Turn}
-use Rattle.rb_top.specs.declared.form.Form.{Form}
-use Rattle.rb_top.specs.declared.status.Status.{Status}
-use Rattle.rb_top.specs.Answers.{CommandAnswers, command_of}
-use Rattle.rb_top.specs.declared.form.Form.TheVariants.{Run}
-use Rattle.rb_top.specs.Calls.{AnswersAlone, AnswersDriven, AnswersRun, DrivesTheInput}
-use Rattle.rb_top.specs.Statuses.{HasEnded, RunsNothing, WritesNothing}
-use Rattle.rb_top.proofs.Completeness.{IsSound, completes}
-use Rattle.rb_top.proofs.Promised.{promised}
+use Rattle.rb_top.specs.{declared.form.Form.Form, declared.status.Status.Status, Answers.{CommandAnswers, command_of}, declared.form.Form.TheVariants.Run, Calls.{AnswersAlone, AnswersDriven, AnswersRun, DrivesTheInput}, Statuses.{HasEnded, RunsNothing, WritesNothing}}
+use Rattle.rb_top.proofs.{Completeness.{IsSound, completes}, Promised.promised}
 
 pub answers_alone : {S K : Type 0} (form : Form) → IsSound (command_of form) → (status : Status) (left : S → Option (List ℕ)) (reads : S → ℕ) (source source' : S)
     (held : K → Option (List ℕ)) (writes : K → ℕ) (sink sink' : K)

@@ -1,33 +1,18 @@
 -- The answers of a command, from what came of its input and of its run.
 use Rattle.std.proofs.Common.{◌≡◌, ◌∙◌, ◌≤◌, ℕ, ◌⊎◌, Bool, List, [], Option, inl, inr, refl, sym, subst}
 use Rattle.std.specs.Io.KnownBytes.{Appends}
-use Rattle.rb_outside.specs.Bytes.{AppendsPart, Gave, ReadsToEnd}
-use Rattle.rb_outside.specs.Causes.{Rose}
+use Rattle.rb_outside.specs.{Bytes.{AppendsPart, Gave, ReadsToEnd}, Causes.Rose}
 use Rattle.rb_base.specs.declared.node.NodeName.{NodeName}
-use Rattle.rb_rules.specs.Lawful.{IsNodeOf}
+use Rattle.rb_rules.specs.{Lawful.IsNodeOf, Goodness.Scenario}
 use Rattle.rb_scenario_entries.specs.declared.refusal.Refusal.TheVariants.{NoSuchNode}
 use Rattle.rb_record.specs.Recording.{WritesPart as WritesLogPart, log_text}
-use Rattle.rb_scenario.specs.Acceptance.{as_scenario}
-use Rattle.rb_scenario.specs.declared.scenario.Scenario.{Scenario as Accepted}
+use Rattle.rb_scenario.specs.{Acceptance.as_scenario, declared.scenario.Scenario.Scenario as Accepted}
 use Rattle.rb_world_book.specs.declared.turn.Turn.{Turn}
 use Rattle.rb_group.specs.declared.voters.Which.{Which}
 use Rattle.rb_long_run.specs.Letters.{WritesSome}
-use Rattle.rb_group_run.specs.Members.{AreMembers}
-use Rattle.rb_group_run.specs.declared.asked.Asked.{Asked}
-use Rattle.rb_group_run.specs.Runs.{WritesPart as WritesGroupsPart}
-use Rattle.rb_rules.specs.Goodness.{Scenario}
-use Rattle.rb_run.specs.Runs.{WritesPart}
-use Rattle.rb_run.specs.Turns.{AreAll, AreGiven, records_in}
-use Rattle.rb_top.specs.declared.status.Status.{Status}
-use Rattle.rb_top.specs.declared.status.Status.TheVariants.{Done, Breach, Usage, Refused, TooLong, ReadFault, WriteFault, OutOfMemory}
-use Rattle.rb_top.specs.Answers.{CommandAnswers, IsRefusedAlone}
-use Rattle.rb_top.specs.CheckText.{check_text}
-use Rattle.rb_top.specs.Commands.{Command, EndsAs, IsReport, IsReportSoFar, alone_command, check_command, group_command, record_command, stress_command, telling_command, text_command}
-use Rattle.rb_top.specs.Inputs.{BreaksRule, IsReadBy, IsTextOf, IsUnreadBy, IsUnreadOver, LacksMember, LacksNode, member_text, rule_text, scenario_limit}
-use Rattle.rb_top.specs.Reading.{ReadsNone, ReadsScenario}
-use Rattle.rb_top.specs.Serving.{Either, FailsToSum, IsGrouped, IsLettered, IsLogged, IsNotRead, IsOfLog, IsOfRun, IsOfText, IsReported, IsSummed, WritesOf, WritesPartOf}
-use Rattle.rb_top.specs.Statuses.{HasEnded, MayRefuse, RunsNothing, WritesNothing}
-use Rattle.rb_top.specs.Texts.{Telling, told_by_group, told_by_letters, told_by_run}
+use Rattle.rb_group_run.specs.{Members.AreMembers, declared.asked.Asked.Asked, Runs.WritesPart as WritesGroupsPart}
+use Rattle.rb_run.specs.{Runs.WritesPart, Turns.{AreAll, AreGiven, records_in}}
+use Rattle.rb_top.specs.{declared.status.Status.Status, declared.status.Status.TheVariants.{Done, Breach, Usage, Refused, TooLong, ReadFault, WriteFault, OutOfMemory}, Answers.{CommandAnswers, IsRefusedAlone}, CheckText.check_text, Commands.{Command, EndsAs, IsReport, IsReportSoFar, alone_command, check_command, group_command, record_command, stress_command, telling_command, text_command}, Inputs.{BreaksRule, IsReadBy, IsTextOf, IsUnreadBy, IsUnreadOver, LacksMember, LacksNode, member_text, rule_text, scenario_limit}, Reading.{ReadsNone, ReadsScenario}, Serving.{Either, FailsToSum, IsGrouped, IsLettered, IsLogged, IsNotRead, IsOfLog, IsOfRun, IsOfText, IsReported, IsSummed, WritesOf, WritesPartOf}, Statuses.{HasEnded, MayRefuse, RunsNothing, WritesNothing}, Texts.{Telling, told_by_group, told_by_letters, told_by_run}}
 
 -- a command that reads a scenario
 pub record ReadsAScenario (command : Command) : Type 0 where

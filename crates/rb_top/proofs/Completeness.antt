@@ -3,29 +3,19 @@ use Rattle.std.proofs.Common.{◌≡◌, ℕ, ◌<◌, ◌⊎◌, true, false, B
 use Rattle.rb_base.specs.declared.node.NodeName.{NodeName}
 use Rattle.rb_outside.specs.Bytes.{Gave, ReadsToEnd}
 use Rattle.rb_outside.proofs.Known.{gave_within, read_bytes}
-use Rattle.rb_rules.specs.Goodness.{Scenario}
-use Rattle.rb_rules.specs.Lawful.{IsNodeOf}
+use Rattle.rb_rules.specs.{Goodness.Scenario, Lawful.IsNodeOf}
 use Rattle.rb_log.specs.LogText.{Log, log_in}
 use Rattle.rb_replay.specs.Overhearing.{is_of_biu}
 use Rattle.rb_group.specs.declared.voters.Which.{Which}
 use Rattle.rb_group_run.specs.Members.{AreMembers}
 use Rattle.rb_gen.specs.Generated.{generated}
-use Rattle.rb_scenario.specs.Acceptance.{IsAccepted, IsRefused}
+use Rattle.rb_scenario.specs.{Acceptance.{IsAccepted, IsRefused}, declared.scenario.Scenario.Scenario as Accepted}
 use Rattle.rb_scenario.proofs.Documents.{accepted_alike, accepted_is_toml, accepted_is_unbroken}
-use Rattle.rb_scenario.specs.declared.scenario.Scenario.{Scenario as Accepted}
 use Rattle.rb_scenario_entries.specs.declared.refusal.Refusal.{Refusal}
-use Rattle.rb_scenario_entries.specs.declared.refusal.Refusal.TheVariants as rule
 use Rattle.rb_world_book.specs.declared.turn.Turn.{Turn}
 use Rattle.rb_run.specs.declared.ending.Ending.{Ending}
-use Rattle.rb_top.specs.declared.form.Form.{Form}
-use Rattle.rb_top.specs.declared.form.Form.TheVariants.{Run, Check, Gen, Stress, Record, Replay, Spell, Letters, Group, Listen, Show}
-use Rattle.rb_top.specs.declared.status.Status.{Status}
-use Rattle.rb_top.specs.declared.status.Status.TheVariants.{Done, Breach, Usage, Refused, TooLong, ReadFault, WriteFault, OutOfMemory}
-use Rattle.rb_top.specs.Answers.{CommandAnswers, CommandCompletes, CommandEnds, CommandRefuses, IsLeft, NothingFails, command_of}
-use Rattle.rb_top.specs.Commands.{Command, EndsAs, IsNotForListeners, IsOverheard, IsReplay, IsSides, alone_command, check_command, group_command, listen_command, record_command, replay_command, status_of, stress_command, telling_command, text_command}
-use Rattle.rb_top.specs.Inputs.{BreaksLog, BreaksRule, HasCode, IsReadBy, IsTextOf, IsUnreadBy}
-use Rattle.rb_top.specs.Statuses.{MayRefuse}
-use Rattle.rb_top.specs.Texts.{Telling}
+use Rattle.rb_top.specs.{declared.form.Form.Form, declared.form.Form.TheVariants.{Run, Check, Gen, Stress, Record, Replay, Spell, Letters, Group, Listen, Show}, declared.status.Status.Status, declared.status.Status.TheVariants.{Done, Breach, Usage, Refused, TooLong, ReadFault, WriteFault, OutOfMemory}, Answers.{CommandAnswers, CommandCompletes, CommandEnds, CommandRefuses, IsLeft, NothingFails, command_of}, Commands.{Command, EndsAs, IsNotForListeners, IsOverheard, IsReplay, IsSides, alone_command, check_command, group_command, listen_command, record_command, replay_command, status_of, stress_command, telling_command, text_command}, Inputs.{BreaksLog, BreaksRule, HasCode, IsReadBy, IsTextOf, IsUnreadBy}, Statuses.MayRefuse, Texts.Telling}
+use Rattle.rb_scenario_entries.specs.declared.refusal.Refusal.TheVariants as rule
 
 -- What excludes what.
 

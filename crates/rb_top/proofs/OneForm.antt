@@ -1,24 +1,16 @@
 -- Words ask for one form.
-use Rattle.std.proofs.Common.{◌≡◌, ℕ, List, codes, drop, get_or, [], ◌∷◌, String, Result, Ok, Err, arith, sym, ◌∙◌, ap, refl}
+use Rattle.std.proofs.{Common.{◌≡◌, ℕ, List, codes, drop, get_or, [], ◌∷◌, String, Result, Ok, Err, arith, sym, ◌∙◌, ap, refl}, lemmas.Fmt.decimal_injective}
 use Rattle.arrayvec.specs.ArrayVec.{ArrayVec}
-use Rattle.hex.specs.Hex.{IsBytes, decode_of, encode_lower}
-use Rattle.hex.specs.declared.FromHexError.{FromHexError}
+use Rattle.hex.specs.{Hex.{IsBytes, decode_of, encode_lower}, declared.FromHexError.FromHexError}
 use Rattle.hex.proofs.HexLemmas.{decode_of-encode_lower}
-use Rattle.std.proofs.lemmas.Fmt.{decimal_injective}
-use Rattle.std.specs.Fmt.{decimal}
-use Rattle.std.specs.declared.alloc.Global.{Global}
-use Rattle.rb_base.specs.declared.node.NodeName.{NodeName}
-use Rattle.rb_base.specs.declared.node.NodeName.TheVariants.{Biu, Rmu}
+use Rattle.std.specs.{Fmt.decimal, declared.alloc.Global.Global}
+use Rattle.rb_base.specs.{declared.node.NodeName.NodeName, declared.node.NodeName.TheVariants.{Biu, Rmu}}
 use Rattle.rb_scenario_document.specs.Names.{IsNumbered}
-use Rattle.rb_flags.specs.declared.Flag.{Flag}
-use Rattle.rb_flags.specs.Flags.{flag_text}
+use Rattle.rb_flags.specs.{declared.Flag.Flag, Flags.flag_text}
 use Rattle.rb_flags.proofs.OneFlag.{no_flag, one_flag}
-use Rattle.rb_group.specs.declared.voters.Which.{Which}
-use Rattle.rb_group.specs.declared.voters.Which.TheVariants.{Most, Mid}
+use Rattle.rb_group.specs.{declared.voters.Which.Which, declared.voters.Which.TheVariants.{Most, Mid}}
 use Rattle.rb_report.specs.Report.{node_text}
-use Rattle.rb_top.specs.declared.form.Form.{Form}
-use Rattle.rb_top.specs.declared.form.Form.TheVariants.{Run, Check, Gen, Stress, Record, Replay, Spell, Letters, Group, Listen, Show}
-use Rattle.rb_top.specs.Words.{AreNumbers, AskFor, IsInRange, IsLetter, IsMask, voter_text, words_of}
+use Rattle.rb_top.specs.{declared.form.Form.Form, declared.form.Form.TheVariants.{Run, Check, Gen, Stress, Record, Replay, Spell, Letters, Group, Listen, Show}, Words.{AreNumbers, AskFor, IsInRange, IsLetter, IsMask, voter_text, words_of}}
 
 -- equal digits are of equal numbers
 same_numbers : (make : ℕ → ℕ → Form) (seed frames seed' frames' : ℕ) → AreNumbers seed frames → AreNumbers seed' frames'

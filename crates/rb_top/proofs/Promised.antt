@@ -3,10 +3,8 @@ use Rattle.std.proofs.Common.{◌≡◌, ℕ, Bool, true, List, [], Option, refl
 use Rattle.std.specs.Io.KnownBytes.{Appends}
 use Rattle.rb_gen.specs.Generated.{generated}
 use Rattle.rb_base.specs.declared.node.NodeName.{NodeName}
-use Rattle.rb_rules.specs.Goodness.{Scenario}
-use Rattle.rb_rules.specs.Lawful.{IsLawful}
-use Rattle.rb_laws_groups.proofs.Alike.{groups-agree}
-use Rattle.rb_laws_groups.proofs.Voted.{mid-stays, most-finds}
+use Rattle.rb_rules.specs.{Goodness.Scenario, Lawful.IsLawful}
+use Rattle.rb_laws_groups.proofs.{Alike.groups-agree, Voted.{mid-stays, most-finds}}
 use Rattle.rb_laws_groups.specs.Laws.{FindsTheMembers}
 use Rattle.rb_laws_letters.proofs.Received.{receive-alike, senders-received}
 use Rattle.rb_laws_logs.proofs.Recorded.{a-log-tells-the-report}
@@ -16,15 +14,8 @@ use Rattle.rb_record.specs.Recording.{timetable_of}
 use Rattle.rb_world_book.specs.declared.turn.Turn.{Turn}
 use Rattle.rb_outside.specs.Bytes.{ReadsToEnd}
 use Rattle.rb_run.proofs.Plain.{plain-records}
-use Rattle.rb_top.specs.declared.form.Form.{Form}
-use Rattle.rb_top.specs.declared.form.Form.TheVariants.{Run, Check, Gen, Stress, Record, Replay, Spell, Letters, Group, Listen, Show}
-use Rattle.rb_top.specs.declared.status.Status.{Status}
-use Rattle.rb_group.specs.declared.voters.Which.{Which}
-use Rattle.rb_group.specs.declared.voters.Which.TheVariants.{Mid, Most}
-use Rattle.rb_top.specs.Answers.{CommandEnds, Ends}
-use Rattle.rb_top.specs.Commands.{IsLogOf, IsReport, IsSummary, group_command, record_command, telling_command}
-use Rattle.rb_top.specs.Promise.{KeepsItsPromise, KeepsTheGroup, KeepsTheHeadline, KeepsTheLetters, KeepsTheLog, SumsTheHeadline}
-use Rattle.rb_top.specs.Texts.{Telling, summary_with, told_by_group, told_by_letters, told_by_run}
+use Rattle.rb_top.specs.{declared.form.Form.Form, declared.form.Form.TheVariants.{Run, Check, Gen, Stress, Record, Replay, Spell, Letters, Group, Listen, Show}, declared.status.Status.Status, Answers.{CommandEnds, Ends}, Commands.{IsLogOf, IsReport, IsSummary, group_command, record_command, telling_command}, Promise.{KeepsItsPromise, KeepsTheGroup, KeepsTheHeadline, KeepsTheLetters, KeepsTheLog, SumsTheHeadline}, Texts.{Telling, summary_with, told_by_group, told_by_letters, told_by_run}}
+use Rattle.rb_group.specs.{declared.voters.Which.Which, declared.voters.Which.TheVariants.{Mid, Most}}
 
 -- a drive told all of a run that is lawful
 told_headline : (tells : Telling) (status : Status) (left left' held held' : Option (List ℕ)) (told told' : Option (List Turn)) (input text : List ℕ)

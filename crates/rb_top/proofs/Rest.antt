@@ -1,7 +1,6 @@
 -- The lines of a text from some line on.
 use Rattle.std.proofs.Common.{◌≡◌, ℕ, zero, suc, List, [], ◌∷◌, ◌++◌, drop, Option, Some, None, slice_get, ◌+◌, ◌∙◌, arith, ap, refl}
-use Rattle.std.specs.List.{flat_map}
-use Rattle.std.specs.Io.KnownBytes.{Appends}
+use Rattle.std.specs.{List.flat_map, Io.KnownBytes.Appends}
 use Rattle.rb_outside.specs.Bytes.{AppendsPart}
 use Rattle.rb_top.proofs.Writing.{Owes, owes_less, owes_none, owes_part, owes_same}
 

@@ -1,7 +1,6 @@
 -- Letters and their digits.
 use Rattle.std.proofs.Common.{◌≡◌, ℕ, List, length, Bool, true, false, Some, None, Result, Ok, Err, if◌then◌else◌, refl, sym, ◌∙◌, ap, subst}
-use Rattle.hex.specs.Hex.{IsBytes, decode_of, encode_lower}
-use Rattle.hex.specs.declared.FromHexError.{FromHexError}
+use Rattle.hex.specs.{Hex.{IsBytes, decode_of, encode_lower}, declared.FromHexError.FromHexError}
 use Rattle.hex.proofs.HexLemmas.{decode_of-encode_lower, decode_of-ok}
 use Rattle.rb_long.specs.Spelling.{is_length}
 use Rattle.rb_top.specs.Words.{IsLetter, letter_bytes}

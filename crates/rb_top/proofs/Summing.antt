@@ -3,19 +3,12 @@ use Rattle.std.proofs.Common.{◌≡◌, ℕ, Bool, List, [], Option, ap, refl, 
 use Rattle.std.specs.Io.KnownBytes.{Appends}
 use Rattle.rb_outside.specs.Bytes.{AppendsPart}
 use Rattle.rb_outside.proofs.Known.{appends_none}
-use Rattle.rb_rules.specs.Entries.{IsListed}
-use Rattle.rb_rules.specs.Goodness.{Scenario}
-use Rattle.rb_rules.specs.Lawful.{IsLawful}
+use Rattle.rb_rules.specs.{Entries.IsListed, Goodness.Scenario, Lawful.IsLawful}
 use Rattle.rb_gen.specs.Generated.{generated}
 use Rattle.rb_world_book.specs.declared.turn.Turn.{Turn}
-use Rattle.rb_run.specs.Runs.{EndsWith, TalliesAll}
-use Rattle.rb_run.specs.declared.ending.Ending.{Ending}
+use Rattle.rb_run.specs.{Runs.{EndsWith, TalliesAll}, declared.ending.Ending.Ending, declared.totals.Totals.Totals}
+use Rattle.rb_top.specs.{declared.status.Status.TheVariants.{Done, Breach}, Commands.IsSummary, Serving.{FailsToSum, IsSummed}, Texts.summary_of}
 use Rattle.rb_run.specs.declared.ending.Ending.TheVariants as ending
-use Rattle.rb_run.specs.declared.totals.Totals.{Totals}
-use Rattle.rb_top.specs.declared.status.Status.TheVariants.{Done, Breach}
-use Rattle.rb_top.specs.Commands.{IsSummary}
-use Rattle.rb_top.specs.Serving.{FailsToSum, IsSummed}
-use Rattle.rb_top.specs.Texts.{summary_of}
 
 -- the generated run has been told
 pub record IsToldOf (seed frames : ℕ) (sc : Scenario) (ended : Ending) (is_plain : Bool) (told told' : Option (List Turn)) (totals : Totals) : Type 0 where

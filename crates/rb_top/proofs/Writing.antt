@@ -1,8 +1,6 @@
 -- A text written piece by piece: what is still owed of it, and what is written if a write fails.
-use Rattle.std.proofs.Common.{◌≡◌, ℕ, suc, ◌+◌, ◌-◌, ◌<◌, ◌≤◌, List, [], ◌++◌, Option, Result, Ok, Err, OnErr, arith, sym, ◌∙◌, ap, append_assoc, subst, refl}
-use Rattle.std.proofs.lemmas.List.{append-nil}
-use Rattle.std.specs.List.{flat_map, range_with_len}
-use Rattle.std.specs.Io.KnownBytes.{Appends}
+use Rattle.std.proofs.{Common.{◌≡◌, ℕ, suc, ◌+◌, ◌-◌, ◌<◌, ◌≤◌, List, [], ◌++◌, Option, Result, Ok, Err, OnErr, arith, sym, ◌∙◌, ap, append_assoc, subst, refl}, lemmas.List.append-nil}
+use Rattle.std.specs.{List.{flat_map, range_with_len}, Io.KnownBytes.Appends}
 use Rattle.rb_outside.specs.Bytes.{AppendsPart}
 use Rattle.rb_outside.proofs.Known.{appends_none, appends_join, part_join, part_widens}
 

@@ -1,22 +1,11 @@
 -- When each answer comes, and what it leaves written: of a command, and of the words that ask the
 -- top call for one.
-use Rattle.std.specs.Prelude.{⊤, ℕ, ◌≡◌, ◌≤◌, ◌⊎◌, Bool, List, [], length, String, Option, Some, None}
-use Rattle.std.specs.declared.alloc.Global.{Global}
-use Rattle.std.specs.Io.KnownBytes.{Appends}
-use Rattle.rb_outside.specs.Bytes.{AppendsPart}
-use Rattle.rb_outside.specs.Causes.{Rose}
+use Rattle.std.specs.{Prelude.{⊤, ℕ, ◌≡◌, ◌≤◌, ◌⊎◌, Bool, List, [], length, String, Option, Some, None}, declared.alloc.Global.Global, Io.KnownBytes.Appends}
+use Rattle.rb_outside.specs.{Bytes.AppendsPart, Causes.Rose}
 use Rattle.rb_world_book.specs.declared.turn.Turn.{Turn}
 use Rattle.rb_long_run.specs.Reports.{spelling_text}
-use Rattle.rb_top.specs.declared.form.Form.{Form}
-use Rattle.rb_top.specs.declared.form.Form.TheVariants.{Run, Check, Gen, Stress, Record, Replay, Spell, Letters, Group, Listen, Show}
-use Rattle.rb_top.specs.declared.status.Status.{Status}
+use Rattle.rb_top.specs.{declared.form.Form.Form, declared.form.Form.TheVariants.{Run, Check, Gen, Stress, Record, Replay, Spell, Letters, Group, Listen, Show}, declared.status.Status.Status, Commands.{Command, check_command, group_command, letters_command, listen_command, record_command, replay_command, run_command, stress_command, text_command}, Inputs.{IsReadBy, IsUnreadBy}, Pages.page_text, Statuses.{HasEnded, MayRefuse, RunsNothing, WritesNothing}, Texts.generated_text, Words.AskFor}
 use Rattle.rb_top.specs.declared.status.Status.TheVariants as answer
-use Rattle.rb_top.specs.Commands.{Command, check_command, group_command, letters_command, listen_command, record_command, replay_command, run_command, stress_command, text_command}
-use Rattle.rb_top.specs.Inputs.{IsReadBy, IsUnreadBy}
-use Rattle.rb_top.specs.Pages.{page_text}
-use Rattle.rb_top.specs.Statuses.{HasEnded, MayRefuse, RunsNothing, WritesNothing}
-use Rattle.rb_top.specs.Texts.{generated_text}
-use Rattle.rb_top.specs.Words.{AskFor}
 
 -- Answers of a command.
 

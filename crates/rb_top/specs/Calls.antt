@@ -3,13 +3,7 @@ use Rattle.std.specs.Prelude.{◌≡◌, ℕ, Bool, IsTrue, List, Option, Some}
 use Rattle.rb_rules.specs.Goodness.{Scenario}
 use Rattle.rb_run.specs.Histories.{HasDriven}
 use Rattle.rb_world_book.specs.declared.turn.Turn.{Turn}
-use Rattle.rb_top.specs.declared.form.Form.{Form}
-use Rattle.rb_top.specs.declared.status.Status.{Status}
-use Rattle.rb_top.specs.declared.form.Form.TheVariants.{Run}
-use Rattle.rb_top.specs.Answers.{CommandAnswers, Completes, command_of}
-use Rattle.rb_top.specs.Inputs.{IsReadBy, IsTextOf, scenario_limit}
-use Rattle.rb_top.specs.Promise.{KeepsItsPromise}
-use Rattle.rb_top.specs.Statuses.{HasEnded, RunsNothing, WritesNothing}
+use Rattle.rb_top.specs.{declared.form.Form.Form, declared.status.Status.Status, declared.form.Form.TheVariants.Run, Answers.{CommandAnswers, Completes, command_of}, Inputs.{IsReadBy, IsTextOf, scenario_limit}, Promise.KeepsItsPromise, Statuses.{HasEnded, RunsNothing, WritesNothing}}
 
 -- The answer of a command that asks no drive. It says the same whatever a drive has told
 pub record AnswersAlone {S K : Type 0} (form : Form) (status : Status) (left : S → Option (List ℕ)) (reads : S → ℕ) (source source' : S) (held : K → Option (List ℕ)) (writes : K → ℕ) (sink sink' : K) : Type 0 where

@@ -1,11 +1,8 @@
 -- What `check` writes: the two sides of each of the seven inequalities.
-use Rattle.std.specs.Prelude.{ℕ, ◌+◌, List, [], Option, Some, None}
-use Rattle.std.specs.List.{flat_map}
-use Rattle.rb_base.specs.Counting.{numbers}
-use Rattle.rb_base.specs.Sizes.{Sizes}
+use Rattle.std.specs.{Prelude.{ℕ, ◌+◌, List, [], Option, Some, None}, List.flat_map}
+use Rattle.rb_base.specs.{Counting.numbers, Sizes.Sizes}
 use Rattle.rb_report.specs.Report.{side_text}
-use Rattle.rb_rules.specs.Plan.{Sides, sides_of}
-use Rattle.rb_rules.specs.declared.plan.Plan.{Plan}
+use Rattle.rb_rules.specs.{Plan.{Sides, sides_of}, declared.plan.Plan.Plan}
 
 -- the line of an inequality with these sides
 abbrev pub sides_text : ℕ → Option Sides → List ℕ

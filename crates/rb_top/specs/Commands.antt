@@ -1,29 +1,20 @@
 -- The commands of the program, each by itself: what it reads, how it ends, what is due of it, and
 -- what refuses its input.
 use Rattle.std.specs.Prelude.{ℕ, ◌≡◌, ◌⊎◌, Bool, true, List, Option, Some, None, Ok}
-use Rattle.rb_base.specs.declared.event.Event.{Event}
-use Rattle.rb_base.specs.declared.node.NodeName.{NodeName}
-use Rattle.rb_rules.specs.Entries.{IsListed}
-use Rattle.rb_rules.specs.Goodness.{Scenario}
-use Rattle.rb_rules.specs.Lawful.{IsLawful, IsNodeOf}
+use Rattle.rb_base.specs.{declared.event.Event.Event, declared.node.NodeName.NodeName}
+use Rattle.rb_rules.specs.{Entries.IsListed, Goodness.Scenario, Lawful.{IsLawful, IsNodeOf}}
 use Rattle.rb_gen.specs.Generated.{generated}
 use Rattle.rb_world_book.specs.declared.turn.Turn.{Turn}
-use Rattle.rb_laws_logs.specs.Given.{AreGiven as AreGivenTo}
-use Rattle.rb_laws_logs.specs.Replays.{replay_text}
+use Rattle.rb_laws_logs.specs.{Given.AreGiven as AreGivenTo, Replays.replay_text}
 use Rattle.rb_log.specs.LogText.{Log, log_in}
 use Rattle.rb_replay.specs.Overhearing.{is_of_biu, overheard_text}
 use Rattle.rb_record.specs.Recording.{log_text}
 use Rattle.rb_group.specs.declared.voters.Which.{Which}
 use Rattle.rb_group_run.specs.Members.{AreMembers}
-use Rattle.rb_run.specs.Runs.{EndsWith}
-use Rattle.rb_run.specs.Turns.{AreAll, AreGiven, records_in}
-use Rattle.rb_run.specs.declared.ending.Ending.{Ending}
+use Rattle.rb_run.specs.{Runs.EndsWith, Turns.{AreAll, AreGiven, records_in}, declared.ending.Ending.Ending}
+use Rattle.rb_top.specs.{declared.status.Status.Status, CheckText.check_text, Inputs.{BreaksLog, BreaksRule, IsOfRmu, IsTextOf, LacksMember, LacksNode, log_limit, scenario_limit}, Texts.{Telling, summary_with, told_by_group, told_by_letters, told_by_run}}
 use Rattle.rb_run.specs.declared.ending.Ending.TheVariants as ending
-use Rattle.rb_top.specs.declared.status.Status.{Status}
 use Rattle.rb_top.specs.declared.status.Status.TheVariants as answer
-use Rattle.rb_top.specs.CheckText.{check_text}
-use Rattle.rb_top.specs.Inputs.{BreaksLog, BreaksRule, IsOfRmu, IsTextOf, LacksMember, LacksNode, log_limit, scenario_limit}
-use Rattle.rb_top.specs.Texts.{Telling, summary_with, told_by_group, told_by_letters, told_by_run}
 
 -- How a run ends.
 

@@ -1,21 +1,14 @@
 -- What a command reads, and how its input is refused or not read to its end.
 use Rattle.std.specs.Prelude.{ℕ, ◌≡◌, ◌≤◌, ◌<◌, ◌⊎◌, List, [], Option, Some, None, IsSome, unwrap_or, Ok, Err, false, true}
-use Rattle.rb_outside.specs.Bytes.{Gave, ReadsToEnd}
-use Rattle.rb_outside.specs.Causes.{Rose}
+use Rattle.rb_outside.specs.{Bytes.{Gave, ReadsToEnd}, Causes.Rose}
 use Rattle.rb_base.specs.declared.node.NodeName.{NodeName}
-use Rattle.rb_rules.specs.Goodness.{Scenario}
-use Rattle.rb_rules.specs.Lawful.{IsNodeOf}
+use Rattle.rb_rules.specs.{Goodness.Scenario, Lawful.IsNodeOf}
 use Rattle.rb_report.specs.Report.{refused_text}
-use Rattle.rb_scenario_entries.specs.Codes.{code_of, detail_of}
-use Rattle.rb_scenario_entries.specs.declared.refusal.Refusal.{Refusal}
-use Rattle.rb_scenario_entries.specs.declared.refusal.Refusal.TheVariants.{NoSuchNode}
-use Rattle.rb_log.specs.LogText.{Log, log_in}
+use Rattle.rb_scenario_entries.specs.{Codes.{code_of, detail_of}, declared.refusal.Refusal.Refusal, declared.refusal.Refusal.TheVariants.NoSuchNode}
+use Rattle.rb_log.specs.{LogText.{Log, log_in}, declared.refusal.LogRefusal.LogRefusal, declared.refusal.LogRefusal.TheVariants.{BadMagic, BadField, Truncated, AfterEnd}}
 use Rattle.rb_replay.specs.Overhearing.{is_of_biu}
 use Rattle.rb_group_run.specs.Members.{AreMembers}
-use Rattle.rb_log.specs.declared.refusal.LogRefusal.{LogRefusal}
-use Rattle.rb_log.specs.declared.refusal.LogRefusal.TheVariants.{BadMagic, BadField, Truncated, AfterEnd}
-use Rattle.rb_scenario.specs.Acceptance.{IsAccepted, IsRefused, as_scenario}
-use Rattle.rb_scenario.specs.declared.scenario.Scenario.{Scenario as Accepted}
+use Rattle.rb_scenario.specs.{Acceptance.{IsAccepted, IsRefused, as_scenario}, declared.scenario.Scenario.Scenario as Accepted}
 use Rattle.rb_top.specs.declared.status.Status.{Status}
 use Rattle.rb_top.specs.declared.status.Status.TheVariants as answer
 

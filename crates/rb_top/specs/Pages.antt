@@ -1,7 +1,6 @@
 -- What the program says of itself.
 use Rattle.std.specs.Prelude.{ℕ, List, codes, ◌++◌}
-use Rattle.rb_flags.specs.declared.Flag.{Flag}
-use Rattle.rb_flags.specs.declared.Flag.TheVariants.{Help, ShortHelp, Version}
+use Rattle.rb_flags.specs.{declared.Flag.Flag, declared.Flag.TheVariants.{Help, ShortHelp, Version}}
 
 -- how it is used
 unfoldable pub help_text : List ℕ

@@ -1,24 +1,15 @@
 -- What the forms that run a bus promise if their drive is plain.
-use Rattle.std.specs.Prelude.{⊤, ℕ, List, [], Option}
-use Rattle.std.specs.Io.KnownBytes.{Appends}
+use Rattle.std.specs.{Prelude.{⊤, ℕ, List, [], Option}, Io.KnownBytes.Appends}
 use Rattle.rb_base.specs.declared.node.NodeName.{NodeName}
 use Rattle.rb_outside.specs.Bytes.{ReadsToEnd}
-use Rattle.rb_rules.specs.Entries.{IsListed}
-use Rattle.rb_rules.specs.Goodness.{Scenario}
-use Rattle.rb_rules.specs.Lawful.{IsLawful}
-use Rattle.rb_rules.specs.Rounds.{records_of}
+use Rattle.rb_rules.specs.{Entries.IsListed, Goodness.Scenario, Lawful.IsLawful, Rounds.records_of}
 use Rattle.rb_group.specs.declared.voters.Which.{Which}
 use Rattle.rb_laws_groups.specs.Laws.{FindsTheMembers, PortsFindAlike}
 use Rattle.rb_laws_letters.specs.Laws.{PortsReceiveAlike, PortsReceiveGoodSenders}
 use Rattle.rb_laws_logs.specs.Laws.{EndsWithoutBreach, IsGoodThroughout, report_of_node}
 use Rattle.rb_laws_promise.specs.Promise.{KeepsThePromise}
 use Rattle.rb_gen.specs.Generated.{generated}
-use Rattle.rb_top.specs.declared.form.Form.{Form}
-use Rattle.rb_top.specs.declared.form.Form.TheVariants.{Run, Check, Gen, Stress, Record, Replay, Spell, Letters, Group, Listen, Show}
-use Rattle.rb_top.specs.declared.status.Status.{Status}
-use Rattle.rb_top.specs.Commands.{EndsAs, IsReplay}
-use Rattle.rb_top.specs.Inputs.{IsTextOf}
-use Rattle.rb_top.specs.Texts.{Telling, summary_with, told_by_group, told_by_letters, told_by_run}
+use Rattle.rb_top.specs.{declared.form.Form.Form, declared.form.Form.TheVariants.{Run, Check, Gen, Stress, Record, Replay, Spell, Letters, Group, Listen, Show}, declared.status.Status.Status, Commands.{EndsAs, IsReplay}, Inputs.IsTextOf, Texts.{Telling, summary_with, told_by_group, told_by_letters, told_by_run}}
 
 -- The promise of a report of a run, as `run` writes it, at Done and at Breach
 pub record KeepsTheHeadline (tells : Telling) (status : Status) (left left' held held' : Option (List ℕ)) : Type 0 where

@@ -1,16 +1,10 @@
 -- What comes of reading a scenario from a source, a refusal being written to a sink.
-use Rattle.std.specs.Prelude.{ℕ, ◌≡◌, ◌≤◌, List, Option}
-use Rattle.std.specs.Io.KnownBytes.{Appends}
-use Rattle.rb_outside.specs.Bytes.{AppendsPart, Gave, ReadsToEnd}
-use Rattle.rb_outside.specs.Causes.{Rose}
-use Rattle.rb_rules.specs.Entries.{IsListed}
-use Rattle.rb_rules.specs.Lawful.{IsLawful}
-use Rattle.rb_scenario.specs.Acceptance.{IsAccepted, as_scenario}
-use Rattle.rb_scenario.specs.declared.scenario.Scenario.{Scenario as Accepted}
-use Rattle.rb_top.specs.declared.status.Status.{Status}
+use Rattle.std.specs.{Prelude.{ℕ, ◌≡◌, ◌≤◌, List, Option}, Io.KnownBytes.Appends}
+use Rattle.rb_outside.specs.{Bytes.{AppendsPart, Gave, ReadsToEnd}, Causes.Rose}
+use Rattle.rb_rules.specs.{Entries.IsListed, Lawful.IsLawful}
+use Rattle.rb_scenario.specs.{Acceptance.{IsAccepted, as_scenario}, declared.scenario.Scenario.Scenario as Accepted}
+use Rattle.rb_top.specs.{declared.status.Status.Status, Statuses.MayRefuse, Inputs.{BreaksRule, IsUnreadOver, scenario_limit}}
 use Rattle.rb_top.specs.declared.status.Status.TheVariants as answer
-use Rattle.rb_top.specs.Statuses.{MayRefuse}
-use Rattle.rb_top.specs.Inputs.{BreaksRule, IsUnreadOver, scenario_limit}
 
 -- the source had the text of an accepted scenario left, this one
 pub record ReadsScenario (left left' : Option (List ℕ)) (accepted : Accepted) : Type 0 where

@@ -1,19 +1,15 @@
 -- What comes of a run that is opened for a command, and of a log that is given to one.
-use Rattle.std.specs.Prelude.{⊤, ℕ, ◌≡◌, ◌⊎◌, Bool, List, Option}
-use Rattle.std.specs.Io.KnownBytes.{Appends}
-use Rattle.rb_outside.specs.Bytes.{AppendsPart}
-use Rattle.rb_outside.specs.Causes.{Rose}
+use Rattle.std.specs.{Prelude.{⊤, ℕ, ◌≡◌, ◌⊎◌, Bool, List, Option}, Io.KnownBytes.Appends}
+use Rattle.rb_outside.specs.{Bytes.AppendsPart, Causes.Rose}
 use Rattle.rb_base.specs.declared.node.NodeName.{NodeName}
 use Rattle.rb_rules.specs.Goodness.{Scenario}
 use Rattle.rb_world_book.specs.declared.turn.Turn.{Turn}
 use Rattle.rb_record.specs.Recording.{WritesAll as WritesAllOf}
 use Rattle.rb_run.specs.Runs.{WritesAll}
 use Rattle.rb_long_run.specs.Letters.{WritesLetters}
-use Rattle.rb_group_run.specs.declared.asked.Asked.{Asked}
-use Rattle.rb_group_run.specs.Runs.{WritesAll as WritesGroups}
-use Rattle.rb_top.specs.declared.status.Status.{Status}
+use Rattle.rb_group_run.specs.{declared.asked.Asked.Asked, Runs.WritesAll as WritesGroups}
+use Rattle.rb_top.specs.{declared.status.Status.Status, Commands.{EndsAs, IsSummary}}
 use Rattle.rb_top.specs.declared.status.Status.TheVariants as answer
-use Rattle.rb_top.specs.Commands.{EndsAs, IsSummary}
 
 -- a run was opened, the drive gave all its turns, and their report was written
 pub record IsReported (sc : Scenario) (status : Status) (is_plain : Bool) (told told' : Option (List Turn)) (held held' : Option (List ℕ)) : Type 0 where

@@ -1,7 +1,6 @@
 -- Kinds of answers.
 use Rattle.std.specs.Prelude.{⊤}
-use Rattle.rb_top.specs.declared.status.Status.{Status}
-use Rattle.rb_top.specs.declared.status.Status.TheVariants.{Done, Breach, Usage, Refused, TooLong, ReadFault, WriteFault, OutOfMemory}
+use Rattle.rb_top.specs.{declared.status.Status.Status, declared.status.Status.TheVariants.{Done, Breach, Usage, Refused, TooLong, ReadFault, WriteFault, OutOfMemory}}
 
 -- all that was asked for is done
 abbrev pub HasEnded : Status → Type 0

@@ -1,19 +1,12 @@
 -- What is written of a run, and of a generated scenario.
-use Rattle.std.specs.Prelude.{ℕ, List, [], ◌++◌}
-use Rattle.std.specs.List.{flat_map}
-use Rattle.rb_rules.specs.Book.{Record}
-use Rattle.rb_rules.specs.Goodness.{Scenario}
-use Rattle.rb_report.specs.Report.{summary_text}
-use Rattle.rb_report.specs.Texts.{report_of}
+use Rattle.std.specs.{Prelude.{ℕ, List, [], ◌++◌}, List.flat_map}
+use Rattle.rb_rules.specs.{Book.Record, Goodness.Scenario}
+use Rattle.rb_report.specs.{Report.summary_text, Texts.report_of}
 use Rattle.rb_group.specs.declared.voters.Which.{Which}
 use Rattle.rb_long_run.specs.Reports.{letters_report}
 use Rattle.rb_group_run.specs.Replies.{groups_text}
-use Rattle.rb_gen.specs.Generated.{generated}
-use Rattle.rb_gen.specs.Text.{lines_of}
-use Rattle.rb_run.specs.Tallies.{tally_of}
-use Rattle.rb_run.specs.declared.ending.Ending.{Ending}
-use Rattle.rb_run.specs.declared.ending.Ending.TheVariants.{Ended, Breach}
-use Rattle.rb_run.specs.declared.totals.Totals.{Totals}
+use Rattle.rb_gen.specs.{Generated.generated, Text.lines_of}
+use Rattle.rb_run.specs.{Tallies.tally_of, declared.ending.Ending.Ending, declared.ending.Ending.TheVariants.{Ended, Breach}, declared.totals.Totals.Totals}
 
 -- what is told of a run's records
 abbrev pub Telling : Type 0

@@ -1,16 +1,12 @@
 -- The forms of words.
-use Rattle.std.specs.Prelude.{⊤, ℕ, ◌≡◌, ◌<◌, ◌≤◌, ◌^◌, true, List, [], ◌∷◌, length, map, codes, String, string_bytes, Option, Some, None, Result, Ok, Err, if◌then◌else◌}
-use Rattle.std.specs.Fmt.{decimal}
+use Rattle.std.specs.{Prelude.{⊤, ℕ, ◌≡◌, ◌<◌, ◌≤◌, ◌^◌, true, List, [], ◌∷◌, length, map, codes, String, string_bytes, Option, Some, None, Result, Ok, Err, if◌then◌else◌}, Fmt.decimal, declared.alloc.Global.Global}
 use Rattle.rb_scenario_document.specs.Names.{IsNumbered}
 use Rattle.rb_report.specs.Report.{node_text}
 use Rattle.hex.specs.Hex.{IsBytes, encode_lower}
 use Rattle.rb_flags.specs.Flags.{flag_text}
-use Rattle.rb_group.specs.declared.voters.Which.{Which}
-use Rattle.rb_group.specs.declared.voters.Which.TheVariants.{Most, Mid}
+use Rattle.rb_group.specs.{declared.voters.Which.Which, declared.voters.Which.TheVariants.{Most, Mid}}
 use Rattle.rb_long.specs.Spelling.{is_length}
-use Rattle.std.specs.declared.alloc.Global.{Global}
-use Rattle.rb_top.specs.declared.form.Form.{Form}
-use Rattle.rb_top.specs.declared.form.Form.TheVariants.{Run, Check, Gen, Stress, Record, Replay, Spell, Letters, Group, Listen, Show}
+use Rattle.rb_top.specs.{declared.form.Form.Form, declared.form.Form.TheVariants.{Run, Check, Gen, Stress, Record, Replay, Spell, Letters, Group, Listen, Show}}
 
 -- the word of a voter
 abbrev pub voter_text : Which → List ℕ

@@ -1,33 +1,14 @@
 -- A tick of a node, put together from its parts.
-use Rattle.std.proofs.Common.{◌≡◌, ℕ, ◌==◌, Bool, true, false, Some, None, Option, List, [], slice_get, refl, sym, ap, ◌∙◌, subst, if◌then◌else◌}
+use Rattle.std.proofs.{Common.{◌≡◌, ℕ, ◌==◌, Bool, true, false, Some, None, Option, List, [], slice_get, refl, sym, ap, ◌∙◌, subst, if◌then◌else◌}, lemmas.Option.same_Some}
 use Rattle.std.specs.Prelude.{option_and_then}
-use Rattle.std.proofs.lemmas.Option.{same_Some}
-use Rattle.rb_base.specs.Nodes.{Side}
-use Rattle.rb_base.specs.declared.node.NodeName.{NodeName}
-use Rattle.rb_rules.specs.declared.closing.Closed.{Closed}
-use Rattle.rb_rules.specs.declared.record.Epoch.{Epoch}
-use Rattle.rb_rules.specs.Book.{Each, Row, of_kind}
-use Rattle.rb_rules.specs.Core.{Act, Core, next_tick, pass_to, wants}
-use Rattle.rb_rules.specs.Goodness.{Scenario}
-use Rattle.rb_rules.specs.Hearing.{row_of}
-use Rattle.rb_rules.specs.Lawful.{kind_of}
-use Rattle.rb_rules.specs.Links.{name_of}
-use Rattle.rb_rules.specs.Ports.{PortState}
-use Rattle.rb_rules.specs.WorldStep.{Site, World, after_act, at_node, coming_from, proceed, wants_in, with_act, with_close, with_delivery, with_epoch, with_message}
+use Rattle.rb_base.specs.{Nodes.Side, declared.node.NodeName.NodeName}
+use Rattle.rb_rules.specs.{declared.closing.Closed.Closed, declared.record.Epoch.Epoch, Book.{Each, Row, of_kind}, Core.{Act, Core, next_tick, pass_to, wants}, Goodness.Scenario, Hearing.row_of, Lawful.kind_of, Links.name_of, Ports.PortState, WorldStep.{Site, World, after_act, at_node, coming_from, proceed, wants_in, with_act, with_close, with_delivery, with_epoch, with_message}}
 use Rattle.rb_world_book.specs.Changing.{with_row}
-use Rattle.rb_node.specs.Acts.{IsAct}
-use Rattle.rb_node.specs.Cores.{next_of}
-use Rattle.rb_node.specs.Wants.{want_for, want_then}
-use Rattle.rb_node.specs.declared.act.Step.{Step}
-use Rattle.rb_world.specs.Sites.{KeptSite, after_tick, number_of}
+use Rattle.rb_node.specs.{Acts.IsAct, Cores.next_of, Wants.{want_for, want_then}, declared.act.Step.Step}
+use Rattle.rb_world.specs.{Sites.{KeptSite, after_tick, number_of}, declared.scene.Scene.Scene, Steps.{closed_if, moved}, Worlds.Surrounds}
 use Rattle.rb_world_traffic.specs.Arriving.{number_of as number_in}
 use Rattle.rb_world_traffic.proofs.Says.{number-of}
-use Rattle.rb_world.specs.declared.scene.Scene.{Scene}
-use Rattle.rb_world.specs.Steps.{closed_if, moved}
-use Rattle.rb_world.specs.Worlds.{Surrounds}
-use Rattle.rb_world.proofs.Alike.{SameShown, alike}
-use Rattle.rb_world.proofs.Lanes.{kind-named}
-use Rattle.rb_world.proofs.Sites.{at-twice}
+use Rattle.rb_world.proofs.{Alike.{SameShown, alike}, Lanes.kind-named, Sites.at-twice}
 
 -- What is wanted.
 

@@ -1,21 +1,14 @@
 -- Changes of a site of which the same is shown around it.
 use Rattle.std.proofs.Common.{◌≡◌, ℕ, suc, ◌+◌, Bool, true, false, Some, List, [], ◌∷◌, slice_get, refl, sym, ap, ◌∙◌, subst, arith}
 use Rattle.std.specs.Prelude.{option_map}
-use Rattle.rb_base.specs.Nodes.{Side}
-use Rattle.rb_base.specs.Nodes.Side.{Biu, Rmu}
-use Rattle.rb_base.specs.Sizes.{Sizes}
-use Rattle.rb_rules.specs.Book.{map_from, of_kind}
-use Rattle.rb_rules.specs.Goodness.{Scenario}
-use Rattle.rb_rules.specs.WorldStep.{Site, World, at_node}
+use Rattle.rb_base.specs.{Nodes.Side, Nodes.Side.{Biu, Rmu}, Sizes.Sizes}
+use Rattle.rb_rules.specs.{Book.{map_from, of_kind}, Goodness.Scenario, WorldStep.{Site, World, at_node}}
 use Rattle.rb_queue.specs.Waiting.{Held}
 use Rattle.rb_world_agenda.specs.Holding.{HoldsAll, HoldsSite}
-use Rattle.rb_world_book.proofs.Noting.{same-shown}
-use Rattle.rb_world_book.proofs.Worlds.{shows-alike}
+use Rattle.rb_world_book.proofs.{Noting.same-shown, Worlds.shows-alike}
 use Rattle.rb_laws_events.proofs.WorldStands.{get-at, is_node, node-is}
 use Rattle.rb_world_traffic.specs.Arriving.{AreRunning}
-use Rattle.rb_world.specs.declared.scene.Scene.{Scene}
-use Rattle.rb_world.specs.Steps.{moved}
-use Rattle.rb_world.specs.Worlds.{Surrounds, running_of}
+use Rattle.rb_world.specs.{declared.scene.Scene.Scene, Steps.moved, Worlds.{Surrounds, running_of}}
 use Rattle.rb_world.proofs.Sites.{at_one, counts-one, holds-site, was-there}
 
 -- both sites show the same

@@ -1,24 +1,11 @@
 -- Steps from tick to tick, up to the next record.
-use Rattle.std.proofs.Common.{◌≡◌, ℕ, zero, suc, ◌+◌, ◌-◌, ◌<◌, ◌≤◌, ◌||◌, true, false, Some, None, Option, List, [], ◌∷◌, flat_map, is_some, length, slice_get, refl, sym, ap, ◌∙◌, arith, inl, inr}
-use Rattle.std.proofs.lemmas.Bool.{cases_lt}
-use Rattle.rb_base.specs.Nodes.{Side}
-use Rattle.rb_base.specs.declared.node.NodeName.{NodeName}
-use Rattle.rb_rules.specs.Book.{Each, in_order}
-use Rattle.rb_rules.specs.Goodness.{Scenario}
-use Rattle.rb_rules.specs.WorldStep.{Due, World, due_at, due_of, go_on, least, needs_no_event, take, times_of}
-use Rattle.rb_rules.specs.WorldStep.Way.{ByItself}
-use Rattle.rb_world_book.specs.Records.{record_of}
-use Rattle.rb_world_book.specs.Settling.{Settles}
-use Rattle.rb_world_book.specs.declared.book.Book.{Book as KeptBook}
-use Rattle.rb_world_book.specs.declared.turn.Turn.{Turn}
-use Rattle.rb_world.specs.Sites.{KeptSite}
+use Rattle.std.proofs.{Common.{◌≡◌, ℕ, zero, suc, ◌+◌, ◌-◌, ◌<◌, ◌≤◌, ◌||◌, true, false, Some, None, Option, List, [], ◌∷◌, flat_map, is_some, length, slice_get, refl, sym, ap, ◌∙◌, arith, inl, inr}, lemmas.Bool.cases_lt}
+use Rattle.rb_base.specs.{Nodes.Side, declared.node.NodeName.NodeName}
+use Rattle.rb_rules.specs.{Book.{Each, in_order}, Goodness.Scenario, WorldStep.{Due, World, due_at, due_of, go_on, least, needs_no_event, take, times_of}, WorldStep.Way.ByItself}
+use Rattle.rb_world_book.specs.{Records.record_of, Settling.Settles, declared.book.Book.Book as KeptBook, declared.turn.Turn.Turn}
+use Rattle.rb_world.specs.{Sites.KeptSite, declared.scene.Scene.Scene, declared.ties.Ties.TheVariants.First, Nexts.{IsNext, Standing, is_last, after_steps, step, step_among}, Trailing.{Along, Comes, GoesToTick, Trails}}
 use Rattle.rb_laws_sweeps.specs.AheadOf.{ArrivalIsFirst, after_takes, ahead_of, tick_alone, until_tick}
-use Rattle.rb_world.specs.declared.scene.Scene.{Scene}
-use Rattle.rb_world.specs.declared.ties.Ties.TheVariants.{First}
-use Rattle.rb_world.specs.Nexts.{IsNext, Standing, is_last, after_steps, step, step_among}
-use Rattle.rb_world.proofs.LastTurn.{reached-ended}
-use Rattle.rb_world.specs.Trailing.{Along, Comes, GoesToTick, Trails}
-use Rattle.rb_world.proofs.GoneOn.{trails-by-itself, turn-by-itself}
+use Rattle.rb_world.proofs.{LastTurn.reached-ended, GoneOn.{trails-by-itself, turn-by-itself}}
 
 -- Steps of the first choice.
 

@@ -1,26 +1,15 @@
 -- What surrounds the nodes, when one site changes.
 use Rattle.std.proofs.Common.{◌≡◌, ℕ, ◌<◌, ◌&&◌, Bool, true, false, Some, List, [], ◌∷◌, ◌++◌, slice_get, refl, sym, ap, subst, ◌∙◌}
-use Rattle.rb_base.specs.Nodes.{Side, has, other}
-use Rattle.rb_base.specs.Nodes.Side.{Biu, Rmu}
-use Rattle.rb_rules.specs.Book.{Each, map_each, of_kind}
-use Rattle.rb_rules.specs.Goodness.{Scenario}
-use Rattle.rb_rules.specs.declared.message.Message.{Message}
-use Rattle.rb_rules.specs.Hearing.{Coming, Sending, coming_of}
-use Rattle.rb_rules.specs.Ports.{PortState}
+use Rattle.rb_base.specs.{Nodes.{Side, has, other}, Nodes.Side.{Biu, Rmu}}
+use Rattle.rb_rules.specs.{Book.{Each, map_each, of_kind}, Goodness.Scenario, declared.message.Message.Message, Hearing.{Coming, Sending, coming_of}, Ports.PortState, Slots.{count_of, same_side}, WorldStep.{Site, World, at_node, sent_to, with_message}}
 use Rattle.rb_rules.proofs.WindowNumbers.{get-each, length-each}
 use Rattle.rb_port.specs.Keeping.{KeptPort}
-use Rattle.rb_rules.specs.Slots.{count_of, same_side}
-use Rattle.rb_rules.specs.WorldStep.{Site, World, at_node, sent_to, with_message}
 use Rattle.rb_queue.specs.Waiting.{Held}
 use Rattle.rb_world_agenda.specs.Holding.{HoldsSites}
 use Rattle.rb_world_book.proofs.Noting.{same-shown}
-use Rattle.rb_world_book.specs.Holding.{Holds}
-use Rattle.rb_world_book.specs.declared.book.Book.{Book as KeptBook}
+use Rattle.rb_world_book.specs.{Holding.Holds, declared.book.Book.Book as KeptBook}
 use Rattle.rb_world_traffic.specs.Arriving.{AreRunning}
-use Rattle.rb_world.specs.declared.scene.Scene.{Scene}
-use Rattle.rb_world.specs.Buses.{HaveRooms}
-use Rattle.rb_world.specs.Steps.{moved}
-use Rattle.rb_world.specs.Worlds.{HoldsPorts, Surrounds, running_of}
+use Rattle.rb_world.specs.{declared.scene.Scene.Scene, Buses.HaveRooms, Steps.moved, Worlds.{HoldsPorts, Surrounds, running_of}}
 use Rattle.rb_world.proofs.Sites.{counts-one, from-map, holds-one, running-one, shows-each, shows-one}
 
 -- the change leaves all but what the node tells

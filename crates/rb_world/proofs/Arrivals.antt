@@ -1,51 +1,20 @@
 -- An arrival that is due may happen, and what it leaves.
-use Rattle.std.proofs.Common.{◌≡◌, ℕ, ◌-◌, ◌<◌, ◌≤◌, ◌^◌, Bool, true, false, Some, None, Option, List, [], ◌∷◌, ◌++◌, map, slice_get, refl, sym, ap, ◌∙◌, subst, arith}
+use Rattle.std.proofs.{Common.{◌≡◌, ℕ, ◌-◌, ◌<◌, ◌≤◌, ◌^◌, Bool, true, false, Some, None, Option, List, [], ◌∷◌, ◌++◌, map, slice_get, refl, sym, ap, ◌∙◌, subst, arith}, lemmas.Bool.true≢false, lemmas.List.Elements.{All-append, All-cons, All-nil}, lemmas.Option.same_Some}
 use Rattle.std.specs.Prelude.{flat_map, option_map, option_to_list, slice_set, unwrap_or}
-use Rattle.std.proofs.lemmas.Bool.{true≢false}
-use Rattle.std.proofs.lemmas.List.Elements.{All-append, All-cons, All-nil}
-use Rattle.std.proofs.lemmas.Option.{same_Some}
-use Rattle.rb_base.specs.Nodes.{Side, other}
-use Rattle.rb_base.specs.Nodes.Side.{Biu, Rmu}
-use Rattle.rb_base.specs.declared.event.Event.{Event}
-use Rattle.rb_base.specs.declared.event.EventKind.{EventKind}
-use Rattle.rb_base.specs.declared.event.EventKind.TheVariants as kind
-use Rattle.rb_base.specs.declared.node.NodeName.{NodeName}
-use Rattle.rb_rules.specs.Book.{Each, in_order, of_kind}
-use Rattle.rb_rules.specs.Clock.{ComesBy, Timeline, stamp_of, time_of}
-use Rattle.rb_rules.specs.Core.{Core, arrive, busy_among, next_tick, pass_to}
-use Rattle.rb_rules.specs.Goodness.{Scenario, clock_of}
-use Rattle.rb_rules.specs.Hearing.{Coming}
-use Rattle.rb_rules.specs.Lawful.{kind_of}
-use Rattle.rb_rules.specs.Links.{name_of}
-use Rattle.rb_rules.specs.Slots.{count_of}
-use Rattle.rb_rules.specs.WorldStep.{Due, Pending as Waits, Site, Timed, World, after_arrival, happens, times_of}
-use Rattle.rb_rules.specs.WorldStep.Pending.{Tick, Arrival}
-use Rattle.rb_rules.proofs.QuietTicks.{arrive-next}
-use Rattle.rb_rules.proofs.Stamps.{Moves}
+use Rattle.rb_base.specs.{Nodes.{Side, other}, Nodes.Side.{Biu, Rmu}, declared.event.Event.Event, declared.event.EventKind.EventKind, declared.node.NodeName.NodeName}
+use Rattle.rb_rules.specs.{Book.{Each, in_order, of_kind}, Clock.{ComesBy, Timeline, stamp_of, time_of}, Core.{Core, arrive, busy_among, next_tick, pass_to}, Goodness.{Scenario, clock_of}, Hearing.Coming, Lawful.kind_of, Links.name_of, Slots.count_of, WorldStep.{Due, Pending as Waits, Site, Timed, World, after_arrival, happens, times_of}, WorldStep.Pending.{Tick, Arrival}}
+use Rattle.rb_rules.proofs.{QuietTicks.arrive-next, Stamps.Moves}
 use Rattle.rb_laws_synchrony.proofs.Times.{stamp_to}
-use Rattle.rb_world_agenda.specs.Agenda.{IsAtTime}
-use Rattle.rb_world_agenda.specs.Holding.{Shows, coming_with, without_waiting}
+use Rattle.rb_world_agenda.specs.{Agenda.IsAtTime, Holding.{Shows, coming_with, without_waiting}}
 use Rattle.rb_world_agenda.proofs.Which.{has-item}
 use Rattle.rb_node.specs.Cores.{bare_core, next_of, passing_end}
-use Rattle.rb_laws_events.proofs.DueEvents.{IsDue, every-at, every-back, every-front, every-unflat}
-use Rattle.rb_laws_events.proofs.OneEvent.{none-stands}
-use Rattle.rb_laws_events.proofs.PendingLists.{StandsAt}
-use Rattle.rb_laws_events.proofs.Receiving.{every-stands}
-use Rattle.rb_laws_events.proofs.SameHeard.{Every}
-use Rattle.rb_laws_events.proofs.WorldNodes.{worlds-known}
-use Rattle.rb_world.specs.Sites.{KeptSite, Stands as StandsFor, number_of as number_of_kept}
+use Rattle.rb_laws_events.proofs.{DueEvents.{IsDue, every-at, every-back, every-front, every-unflat}, OneEvent.none-stands, PendingLists.StandsAt, Receiving.every-stands, SameHeard.Every, WorldNodes.worlds-known}
+use Rattle.rb_world.specs.{Sites.{KeptSite, Stands as StandsFor, number_of as number_of_kept}, declared.scene.Scene.Scene, Steps.{MayHappen, moved}, Worlds.{Awaits, IsNode, Surrounds}}
 use Rattle.rb_world_traffic.specs.Arriving.{number_of}
 use Rattle.rb_world_traffic.proofs.Says.{number-of}
 use Rattle.rb_laws_sweeps.proofs.SentLater.{node-moves}
-use Rattle.rb_world.specs.declared.scene.Scene.{Scene}
-use Rattle.rb_world.specs.Steps.{MayHappen, moved}
-use Rattle.rb_world.specs.Worlds.{Awaits, IsNode, Surrounds}
-use Rattle.rb_world.proofs.Alike.{alike}
-use Rattle.rb_world.proofs.Happening.{Acts, nodes-other, nodes-own}
-use Rattle.rb_world.proofs.Passed.{passed-same}
-use Rattle.rb_world.proofs.Lanes.{kind-named}
-use Rattle.rb_world.proofs.Ready.{due-reached, node-there}
-use Rattle.rb_world.proofs.InTime.{HasTick, reached-in-time}
+use Rattle.rb_world.proofs.{Alike.alike, Happening.{Acts, nodes-other, nodes-own}, Passed.passed-same, Lanes.kind-named, Ready.{due-reached, node-there}, InTime.{HasTick, reached-in-time}}
+use Rattle.rb_base.specs.declared.event.EventKind.TheVariants as kind
 
 -- Which event it is.
 

@@ -1,25 +1,14 @@
 -- What is asked of a run.
-use Rattle.std.proofs.Common.{◌≡◌, ℕ, ◌<◌, List, Some, length, slice_get, get_or, refl, sym, ap, ◌∙◌, subst, arith}
+use Rattle.std.proofs.{Common.{◌≡◌, ℕ, ◌<◌, List, Some, length, slice_get, get_or, refl, sym, ap, ◌∙◌, subst, arith}, lemmas.Option.get_or_from_slice_get}
 use Rattle.std.specs.Prelude.{option_and_then, option_map}
-use Rattle.std.proofs.lemmas.Option.{get_or_from_slice_get}
-use Rattle.rb_base.specs.Nodes.{Side}
-use Rattle.rb_base.specs.Nodes.Side.{Biu, Rmu}
-use Rattle.rb_base.specs.declared.event.Event.{Event}
-use Rattle.rb_base.specs.declared.node.NodeName.{NodeName}
-use Rattle.rb_rules.specs.Book.{of_kind}
-use Rattle.rb_rules.specs.Lawful.{IsNodeOf, kind_of}
-use Rattle.rb_rules.specs.Links.{name_of}
-use Rattle.rb_rules.specs.Slots.{count_of}
-use Rattle.rb_rules.specs.WorldStep.{Due, Site, World, due_of, event_at, event_of}
-use Rattle.rb_world_agenda.specs.Agenda.{IsDue}
-use Rattle.rb_world_agenda.specs.Holding.{due_with}
+use Rattle.rb_base.specs.{Nodes.Side, Nodes.Side.{Biu, Rmu}, declared.event.Event.Event, declared.node.NodeName.NodeName}
+use Rattle.rb_rules.specs.{Book.of_kind, Lawful.{IsNodeOf, kind_of}, Links.name_of, Slots.count_of, WorldStep.{Due, Site, World, due_of, event_at, event_of}}
+use Rattle.rb_world_agenda.specs.{Agenda.IsDue, Holding.due_with}
 use Rattle.rb_world_agenda.proofs.Which.{has-item}
-use Rattle.rb_world.specs.Sites.{KeptSite}
+use Rattle.rb_world.specs.{Sites.KeptSite, Worlds.{KeptWorld, Stands, due_in}}
 use Rattle.rb_world_traffic.specs.Arriving.{number_of}
 use Rattle.rb_laws_sweeps.proofs.Telling.{shown-node}
-use Rattle.rb_world.specs.Worlds.{KeptWorld, Stands, due_in}
-use Rattle.rb_world.proofs.Idle.{due-busy}
-use Rattle.rb_world.proofs.Turns.{due-is-now}
+use Rattle.rb_world.proofs.{Idle.due-busy, Turns.due-is-now}
 
 -- the event that is due at a place is of the named node
 pub node-at : (k : KeptWorld) (w : World) (i place : ℕ) (name : NodeName) → Stands k w → i < due_in k → IsDue k.bus w k.scene.agenda i name place

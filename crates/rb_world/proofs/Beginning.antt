@@ -1,33 +1,12 @@
 -- Nodes begin one after another.
-use Rattle.std.proofs.Common.{◌≡◌, ℕ, zero, suc, ◌+◌, ◌*◌, ◌<◌, ◌≤◌, ◌==◌, ◌⊎◌, Bool, true, false, Some, None, Option, List, [], ◌∷◌, length, slice_get, refl, sym, ap, ◌∙◌, subst, arith, inl, inr}
+use Rattle.std.proofs.{Common.{◌≡◌, ℕ, zero, suc, ◌+◌, ◌*◌, ◌<◌, ◌≤◌, ◌==◌, ◌⊎◌, Bool, true, false, Some, None, Option, List, [], ◌∷◌, length, slice_get, refl, sym, ap, ◌∙◌, subst, arith, inl, inr}, lemmas.Bool.cases_lt, lemmas.Bool.Decides.nat_tests, lemmas.List.Elements.All-nil, lemmas.Option.{same_Some, slice_get_read}}
 use Rattle.std.specs.Prelude.{get_or, option_map, slice_set}
-use Rattle.std.proofs.lemmas.Bool.{cases_lt}
-use Rattle.std.proofs.lemmas.Bool.Decides.{nat_tests}
-use Rattle.std.proofs.lemmas.List.Elements.{All-nil}
-use Rattle.std.proofs.lemmas.Option.{same_Some, slice_get_read}
-use Rattle.rb_base.specs.Nodes.{Side, other}
-use Rattle.rb_base.specs.Nodes.Side.{Biu, Rmu}
+use Rattle.rb_base.specs.{Nodes.{Side, other}, Nodes.Side.{Biu, Rmu}}
 use Rattle.rb_base.proofs.Plain.{none_not_some}
-use Rattle.rb_rules.specs.Core.{state_at, window_here}
-use Rattle.rb_rules.specs.Entries.{IsListed}
-use Rattle.rb_rules.specs.Goodness.{Scenario}
-use Rattle.rb_rules.specs.Hearing.{Coming, Span, span_of}
-use Rattle.rb_rules.specs.Lawful.{IsLawful}
-use Rattle.rb_rules.specs.Links.{name_of}
-use Rattle.rb_rules.specs.NodeState.{NodeState, first_state}
-use Rattle.rb_rules.specs.Slots.{count_of}
-use Rattle.rb_rules.specs.Windows.{exact_window}
-use Rattle.rb_rules.specs.WorldStep.{Site, World, fresh_site, proceed}
+use Rattle.rb_rules.specs.{Core.{state_at, window_here}, Entries.IsListed, Goodness.Scenario, Hearing.{Coming, Span, span_of}, Lawful.IsLawful, Links.name_of, NodeState.{NodeState, first_state}, Slots.count_of, Windows.exact_window, WorldStep.{Site, World, fresh_site, proceed}}
 use Rattle.rb_rules.proofs.WindowNumbers.{exact-numbered}
-use Rattle.rb_laws_events.proofs.TickRooms.{has-room}
-use Rattle.rb_laws_events.proofs.TickWindows.{IsTickIn, first-same, first_of, here-is}
-use Rattle.rb_laws_events.proofs.WorldStands.{get-at, is_node}
-use Rattle.rb_laws_events.proofs.FirstWorld.{not-turned}
-use Rattle.rb_world.specs.Sites.{KeptSite, number_of}
-use Rattle.rb_world.specs.declared.scene.Scene.{Scene}
-use Rattle.rb_world.specs.Openings.{AreFresh, HaveBegun, MayBegin, with_begun}
-use Rattle.rb_world.specs.Steps.{MayProceed, Proceeds, SpanFits, SpansFit}
-use Rattle.rb_world.specs.Worlds.{IsNode}
+use Rattle.rb_laws_events.proofs.{TickRooms.has-room, TickWindows.{IsTickIn, first-same, first_of, here-is}, WorldStands.{get-at, is_node}, FirstWorld.not-turned}
+use Rattle.rb_world.specs.{Sites.{KeptSite, number_of}, declared.scene.Scene.Scene, Openings.{AreFresh, HaveBegun, MayBegin, with_begun}, Steps.{MayProceed, Proceeds, SpanFits, SpansFit}, Worlds.IsNode}
 use Rattle.rb_world.proofs.Lanes.{has-lane, node-named, spare-at}
 
 -- The first window.

@@ -1,54 +1,19 @@
 -- A node takes the first tick of a world that is behind the run's.
-use Rattle.std.proofs.Common.{◌≡◌, ℕ, zero, suc, ◌+◌, ◌<◌, ◌≤◌, ◌&&◌, Bool, true, false, Some, None, Option, List, [], ◌∷◌, ◌++◌, get_or, length, map, slice_get, refl, sym, ap, ◌∙◌, subst, arith, inl, inr}
+use Rattle.std.proofs.{Common.{◌≡◌, ℕ, zero, suc, ◌+◌, ◌<◌, ◌≤◌, ◌&&◌, Bool, true, false, Some, None, Option, List, [], ◌∷◌, ◌++◌, get_or, length, map, slice_get, refl, sym, ap, ◌∙◌, subst, arith, inl, inr}, lemmas.Bool.lt-ltb, lemmas.Option.{same_Some, slice_get-get_or, slice_get_within}}
 use Rattle.std.specs.Prelude.{⊤, option_map, option_to_list, slice_set}
-use Rattle.std.proofs.lemmas.Bool.{lt-ltb}
-use Rattle.std.proofs.lemmas.Option.{same_Some, slice_get-get_or, slice_get_within}
-use Rattle.rb_base.specs.Nodes.{Side, other}
-use Rattle.rb_base.specs.Nodes.Side.{Biu, Rmu}
+use Rattle.rb_base.specs.{Nodes.{Side, other}, Nodes.Side.{Biu, Rmu}}
 use Rattle.rb_base.proofs.Plain.{option_map-back}
-use Rattle.rb_rules.specs.declared.message.Message.{Message}
-use Rattle.rb_rules.specs.Book.{Each, of_kind}
-use Rattle.rb_rules.specs.Core.{Act}
-use Rattle.rb_rules.specs.Goodness.{Scenario}
-use Rattle.rb_rules.specs.Hearing.{Coming, Sending, coming_of}
-use Rattle.rb_rules.specs.Links.{name_of}
-use Rattle.rb_rules.specs.Slots.{count_of, same_side}
-use Rattle.rb_rules.specs.WorldStep.{Due, Site, Timed, World, after_act, after_arrival, at_node, happens, pass_and_tick, sent_to, times_of, with_act, with_message, world_after}
-use Rattle.rb_rules.specs.WorldStep.Pending.{Tick}
-use Rattle.rb_rules.specs.WorldStep.Way.{ByAnEvent}
+use Rattle.rb_rules.specs.{declared.message.Message.Message, Book.{Each, of_kind}, Core.Act, Goodness.Scenario, Hearing.{Coming, Sending, coming_of}, Links.name_of, Slots.{count_of, same_side}, WorldStep.{Due, Site, Timed, World, after_act, after_arrival, at_node, happens, pass_and_tick, sent_to, times_of, with_act, with_message, world_after}, WorldStep.Pending.Tick, WorldStep.Way.ByAnEvent}
 use Rattle.rb_rules.proofs.WindowNumbers.{get-each}
 use Rattle.rb_queue.specs.Waiting.{Held, lane_of, spare_of}
-use Rattle.rb_world_agenda.specs.Agenda.{IsFirstAhead, position_of}
-use Rattle.rb_world_agenda.specs.Holding.{HoldsSites, without_waiting}
+use Rattle.rb_world_agenda.specs.{Agenda.{IsFirstAhead, position_of}, Holding.{HoldsSites, without_waiting}}
 use Rattle.rb_world_agenda.proofs.Which.{has-item}
 use Rattle.rb_laws_events.specs.PendingEvents.{most_pending}
-use Rattle.rb_laws_events.proofs.OneEvent.{happens-is}
-use Rattle.rb_laws_events.proofs.WorldNodes.{settle-sites}
-use Rattle.rb_laws_events.proofs.WorldStands.{is_node, node-is, node-itself, not-other}
-use Rattle.rb_world.specs.Sites.{KeptSite, number_of}
-use Rattle.rb_laws_sweeps.specs.AheadOf.{GoesOnAhead, IsFirstTick, ahead_of, is_behind, tick_alone, until_tick}
-use Rattle.rb_laws_sweeps.specs.Room.{StoppedHaveNothing, TickBehindIsInTime}
-use Rattle.rb_laws_sweeps.specs.Sweeping.{Placed, first_of, swept}
-use Rattle.rb_laws_sweeps.proofs.AfterTick.{Later, TicksNow, act-had, act-later}
-use Rattle.rb_laws_sweeps.proofs.BehindFew.{behind-few}
-use Rattle.rb_laws_sweeps.proofs.EachNode.{nodes-order, until-behind, until-most, until-own}
-use Rattle.rb_laws_sweeps.proofs.Firsts.{first-stands, length-without}
-use Rattle.rb_laws_sweeps.proofs.GoesOn.{worlds-go-on}
-use Rattle.rb_laws_sweeps.proofs.InTime.{ticks-behind-in-time}
-use Rattle.rb_laws_sweeps.proofs.SomeFirst.{some-tick-is-first}
-use Rattle.rb_laws_sweeps.proofs.Sweeps.{all-every, sweep-of, sweep-stays, sweep-takes, sweeps-keep}
-use Rattle.rb_world.specs.declared.scene.Scene.{Scene}
-use Rattle.rb_world.specs.Steps.{MayTick, Ticks, moved}
-use Rattle.rb_world.specs.Worlds.{AreNodes, IsNode, Surrounds}
-use Rattle.rb_world.proofs.Around.{Pends, pends-more}
-use Rattle.rb_world.proofs.Entering.{changed-there}
-use Rattle.rb_world.proofs.Happening.{Acts, nodes-other, nodes-own, tick-acts}
-use Rattle.rb_world.proofs.Lanes.{has-lane, node-named, spare-at}
-use Rattle.rb_world.proofs.Ready.{next-due}
-use Rattle.rb_world.proofs.Sites.{at-same, at-twice, at_one, was-there}
-use Rattle.rb_world.specs.Trailing.{BehindTick, IsBehind, MaySweep, MayTakeFirst, MayTickFirst, Sweeps, TakesFirst, Trails, alone, bare, cleared, tick_from}
-use Rattle.rb_world.proofs.Small.{small-time}
-use Rattle.rb_world.proofs.Spans.{spans-by}
+use Rattle.rb_laws_events.proofs.{OneEvent.happens-is, WorldNodes.settle-sites, WorldStands.{is_node, node-is, node-itself, not-other}}
+use Rattle.rb_world.specs.{Sites.{KeptSite, number_of}, declared.scene.Scene.Scene, Steps.{MayTick, Ticks, moved}, Worlds.{AreNodes, IsNode, Surrounds}, Trailing.{BehindTick, IsBehind, MaySweep, MayTakeFirst, MayTickFirst, Sweeps, TakesFirst, Trails, alone, bare, cleared, tick_from}}
+use Rattle.rb_laws_sweeps.specs.{AheadOf.{GoesOnAhead, IsFirstTick, ahead_of, is_behind, tick_alone, until_tick}, Room.{StoppedHaveNothing, TickBehindIsInTime}, Sweeping.{Placed, first_of, swept}}
+use Rattle.rb_laws_sweeps.proofs.{AfterTick.{Later, TicksNow, act-had, act-later}, BehindFew.behind-few, EachNode.{nodes-order, until-behind, until-most, until-own}, Firsts.{first-stands, length-without}, GoesOn.worlds-go-on, InTime.ticks-behind-in-time, SomeFirst.some-tick-is-first, Sweeps.{all-every, sweep-of, sweep-stays, sweep-takes, sweeps-keep}}
+use Rattle.rb_world.proofs.{Around.{Pends, pends-more}, Entering.changed-there, Happening.{Acts, nodes-other, nodes-own, tick-acts}, Lanes.{has-lane, node-named, spare-at}, Ready.next-due, Sites.{at-same, at-twice, at_one, was-there}, Small.small-time, Spans.spans-by}
 
 -- What is known of the first tick.
 

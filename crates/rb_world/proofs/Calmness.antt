@@ -1,43 +1,16 @@
 -- What the windows of a node bring in frames in which it is good and nothing is said to it.
-use Rattle.std.proofs.Common.{◌≡◌, ℕ, ◌+◌, ◌<◌, ◌⊎◌, ◌&&◌, ◌||◌, nat_lt, Bool, true, false, Some, None, List, [], get_or, refl, sym, ap, ◌∙◌, subst, arith, inl, inr}
-use Rattle.std.specs.Prelude.{◌==◌, Option, length, unwrap_or}
-use Rattle.std.specs.List.{list_any}
-use Rattle.std.proofs.lemmas.Bool.{lt-ltb, or_cases}
-use Rattle.std.proofs.lemmas.Bool.Decides.{nat_tests}
-use Rattle.rb_base.specs.Nodes.{Side}
-use Rattle.rb_base.specs.Nodes.Side.{Biu, Rmu}
-use Rattle.rb_base.specs.Sizes.{Sizes}
-use Rattle.rb_base.specs.declared.node.NodeName.{NodeName}
-use Rattle.rb_base.specs.declared.values.Place.{Place}
-use Rattle.rb_node.specs.Acts.{span_in}
-use Rattle.rb_node.specs.declared.act.Span.{Span as Stretch}
+use Rattle.std.proofs.{Common.{◌≡◌, ℕ, ◌+◌, ◌<◌, ◌⊎◌, ◌&&◌, ◌||◌, nat_lt, Bool, true, false, Some, None, List, [], get_or, refl, sym, ap, ◌∙◌, subst, arith, inl, inr}, lemmas.Bool.{lt-ltb, or_cases}, lemmas.Bool.Decides.nat_tests}
+use Rattle.std.specs.{Prelude.{◌==◌, Option, length, unwrap_or}, List.list_any}
+use Rattle.rb_base.specs.{Nodes.Side, Nodes.Side.{Biu, Rmu}, Sizes.Sizes, declared.node.NodeName.NodeName, declared.values.Place.Place}
+use Rattle.rb_node.specs.{Acts.span_in, declared.act.Span.Span as Stretch}
 use Rattle.rb_queue.specs.Waiting.{Held}
 use Rattle.rb_world_onset.specs.Faults.{Faults, faults_of}
 use Rattle.rb_plan.specs.Timetable.{Timetable}
-use Rattle.rb_rules.specs.declared.plan.Plan.{Plan}
-use Rattle.rb_rules.specs.declared.say.Say.{Say}
-use Rattle.rb_rules.specs.Book.{Each}
-use Rattle.rb_rules.specs.Clock.{Timeline}
-use Rattle.rb_rules.specs.Conviction.{turn}
-use Rattle.rb_rules.specs.Core.{is_tick, state_at, window_here}
-use Rattle.rb_rules.specs.Entries.{IsListed}
-use Rattle.rb_rules.specs.Goodness.{Scenario, clock_of, is_before, is_good, onsets_of}
-use Rattle.rb_rules.specs.Hearing.{Span, span_of}
-use Rattle.rb_rules.specs.Lawful.{IsLawful, kind_of}
-use Rattle.rb_rules.specs.Links.{DelayRules, name_of}
-use Rattle.rb_rules.specs.NodeState.{NodeState}
-use Rattle.rb_rules.specs.NodeSteps.{turn_if_known}
-use Rattle.rb_rules.specs.Slots.{count_of}
-use Rattle.rb_rules.specs.SyncStage.{new_epoch_of}
-use Rattle.rb_rules.specs.WorldStep.{Site, await, proceed, says_in, span_from}
-use Rattle.rb_world_traffic.specs.Arriving.{number_of}
-use Rattle.rb_world_traffic.specs.Saying.{KeptSayings, SaysTo, entries_for, first_frame, is_for, kept_of, last_frame}
+use Rattle.rb_rules.specs.{declared.plan.Plan.Plan, declared.say.Say.Say, Book.Each, Clock.Timeline, Conviction.turn, Core.{is_tick, state_at, window_here}, Entries.IsListed, Goodness.{Scenario, clock_of, is_before, is_good, onsets_of}, Hearing.{Span, span_of}, Lawful.{IsLawful, kind_of}, Links.{DelayRules, name_of}, NodeState.NodeState, NodeSteps.turn_if_known, Slots.count_of, SyncStage.new_epoch_of, WorldStep.{Site, await, proceed, says_in, span_from}}
+use Rattle.rb_world_traffic.specs.{Arriving.number_of, Saying.{KeptSayings, SaysTo, entries_for, first_frame, is_for, kept_of, last_frame}}
 use Rattle.rb_world_traffic.proofs.Says.{none-after, none-before, none-for, number-of, says-are}
-use Rattle.rb_world.specs.Buses.{HasSaid, IsBus, bus_of, scenario_of, with_said}
-use Rattle.rb_world.specs.Calm.{AreRestless, first_restless, is_calm, is_outside, last_restless}
-use Rattle.rb_world.specs.declared.calm.Restless.{Restless}
-use Rattle.rb_world.proofs.Lanes.{kind-named, node-named}
-use Rattle.rb_world.proofs.Onward.{goes-in, goes-on}
+use Rattle.rb_world.specs.{Buses.{HasSaid, IsBus, bus_of, scenario_of, with_said}, Calm.{AreRestless, first_restless, is_calm, is_outside, last_restless}, declared.calm.Restless.Restless}
+use Rattle.rb_world.proofs.{Lanes.{kind-named, node-named}, Onward.{goes-in, goes-on}}
 
 -- The frame of a window.
 

@@ -1,43 +1,21 @@
 -- All nodes are swept, one after another.
-use Rattle.std.proofs.Common.{◌≡◌, ℕ, zero, suc, ◌+◌, ◌<◌, ◌≤◌, ◌==◌, Bool, true, false, Some, None, Option, List, length, slice_get, refl, sym, ap, ◌∙◌, subst, arith, inl, inr}
+use Rattle.std.proofs.{Common.{◌≡◌, ℕ, zero, suc, ◌+◌, ◌<◌, ◌≤◌, ◌==◌, Bool, true, false, Some, None, Option, List, length, slice_get, refl, sym, ap, ◌∙◌, subst, arith, inl, inr}, lemmas.Bool.cases_lt, lemmas.Bool.Decides.nat_tests, lemmas.List.length-set, lemmas.Option.{same_Some, slice_get_past, slice_get_within}}
 use Rattle.std.specs.Prelude.{option_map, slice_set, unwrap_or}
-use Rattle.std.proofs.lemmas.Bool.{cases_lt}
-use Rattle.std.proofs.lemmas.Bool.Decides.{nat_tests}
-use Rattle.std.proofs.lemmas.List.{length-set}
-use Rattle.std.proofs.lemmas.Option.{same_Some, slice_get_past, slice_get_within}
-use Rattle.rb_base.specs.Nodes.{Side, has, other}
-use Rattle.rb_base.specs.Nodes.Side.{Biu, Rmu}
-use Rattle.rb_base.specs.declared.node.NodeName.{NodeName}
+use Rattle.rb_base.specs.{Nodes.{Side, has, other}, Nodes.Side.{Biu, Rmu}, declared.node.NodeName.NodeName}
 use Rattle.rb_base.proofs.Plain.{option_map-back}
-use Rattle.rb_rules.specs.Lawful.{kind_of}
-use Rattle.rb_rules.specs.Book.{Each, of_kind}
-use Rattle.rb_rules.specs.Goodness.{Scenario}
-use Rattle.rb_rules.specs.Links.{name_of}
-use Rattle.rb_rules.specs.Slots.{count_of}
-use Rattle.rb_rules.specs.WorldStep.{Site, Timed, World, at_node}
+use Rattle.rb_rules.specs.{Lawful.kind_of, Book.{Each, of_kind}, Goodness.Scenario, Links.name_of, Slots.count_of, WorldStep.{Site, Timed, World, at_node}}
 use Rattle.rb_rules.proofs.WindowNumbers.{get-each, length-each}
 use Rattle.rb_queue.specs.Waiting.{HasLane, Held}
 use Rattle.rb_world_agenda.specs.Holding.{HoldsSites}
 use Rattle.rb_world_agenda.proofs.Which.{has-item}
 use Rattle.rb_world_book.proofs.Noting.{same-shown}
 use Rattle.rb_laws_events.proofs.WorldStands.{get-at, is_node, node-itself, not-other}
-use Rattle.rb_world.specs.Sites.{KeptSite, number_of}
-use Rattle.rb_laws_sweeps.specs.AheadOf.{ahead_of, each_swept, until_tick}
-use Rattle.rb_laws_sweeps.proofs.Calls.{nobody-is-ahead}
-use Rattle.rb_laws_sweeps.specs.Sweeping.{swept}
-use Rattle.rb_laws_sweeps.proofs.GoesOn.{sweep_to}
-use Rattle.rb_laws_sweeps.proofs.Sweeps.{sweeps-keep}
+use Rattle.rb_world.specs.{Sites.{KeptSite, number_of}, declared.scene.Scene.Scene, Buses.HaveRooms, Worlds.{AreNodes, IsNode, Surrounds, running_of}, Trailing.{HasCaughtUp, HaveCaughtUp, MayCatchUp, MaySweep, Sweeps, Trails, cleared, swept_first}}
+use Rattle.rb_laws_sweeps.specs.{AheadOf.{ahead_of, each_swept, until_tick}, Sweeping.swept}
+use Rattle.rb_laws_sweeps.proofs.{Calls.nobody-is-ahead, GoesOn.sweep_to, Sweeps.sweeps-keep}
 use Rattle.rb_world_traffic.specs.Arriving.{AreRunning, number_of as number_in}
 use Rattle.rb_world_traffic.proofs.Says.{number-of}
-use Rattle.rb_world.specs.declared.scene.Scene.{Scene}
-use Rattle.rb_world.specs.Buses.{HaveRooms}
-use Rattle.rb_world.specs.Worlds.{AreNodes, IsNode, Surrounds, running_of}
-use Rattle.rb_world.proofs.Lanes.{has-lane, kind-named, node-named}
-use Rattle.rb_world.proofs.Sites.{at-same, shows-each}
-use Rattle.rb_world.proofs.Told.{set-here, set-there}
-use Rattle.rb_world.specs.Trailing.{HasCaughtUp, HaveCaughtUp, MayCatchUp, MaySweep, Sweeps, Trails, cleared, swept_first}
-use Rattle.rb_world.proofs.FirstStands.{kept-none, same-lists}
-use Rattle.rb_world.proofs.Swept.{kept-tick}
+use Rattle.rb_world.proofs.{Lanes.{has-lane, kind-named, node-named}, Sites.{at-same, shows-each}, Told.{set-here, set-there}, FirstStands.{kept-none, same-lists}, Swept.kept-tick}
 
 -- The first of them are swept, and the others are as before.
 

@@ -1,21 +1,11 @@
 -- The event that is taken may happen.
 use Rattle.std.proofs.Common.{◌≡◌, ℕ, ◌<◌, Some, None, Option, List, slice_get, refl, sym, ap, ◌∙◌, subst}
-use Rattle.rb_base.specs.declared.event.Event.{Event}
-use Rattle.rb_base.specs.declared.node.NodeName.{NodeName}
-use Rattle.rb_rules.specs.Book.{Each}
-use Rattle.rb_rules.specs.WorldStep.{Due, Pending as Waits, World}
-use Rattle.rb_rules.specs.WorldStep.Pending.{Tick, Arrival}
-use Rattle.rb_queue.specs.Waiting.{Held, Ready, lane_of, ready_of, without_found, without_ready}
-use Rattle.rb_queue.specs.Waiting.Ready.{Comes, Ticks}
-use Rattle.rb_world_agenda.specs.Agenda.{Takes, TakesDue, first_time}
-use Rattle.rb_world_agenda.specs.Holding.{without_waiting}
-use Rattle.rb_world.specs.Buses.{HaveRooms}
-use Rattle.rb_world.specs.Steps.{MayHappen}
-use Rattle.rb_world.specs.Worlds.{KeptWorld, Stands, due_in}
-use Rattle.rb_world.proofs.Around.{Pends, pends-more}
-use Rattle.rb_world.proofs.Idle.{due-busy}
-use Rattle.rb_world.proofs.Lanes.{rooms-with}
-use Rattle.rb_world.proofs.Turns.{due-is-now}
+use Rattle.rb_base.specs.{declared.event.Event.Event, declared.node.NodeName.NodeName}
+use Rattle.rb_rules.specs.{Book.Each, WorldStep.{Due, Pending as Waits, World}, WorldStep.Pending.{Tick, Arrival}}
+use Rattle.rb_queue.specs.{Waiting.{Held, Ready, lane_of, ready_of, without_found, without_ready}, Waiting.Ready.{Comes, Ticks}}
+use Rattle.rb_world_agenda.specs.{Agenda.{Takes, TakesDue, first_time}, Holding.without_waiting}
+use Rattle.rb_world.specs.{Buses.HaveRooms, Steps.MayHappen, Worlds.{KeptWorld, Stands, due_in}}
+use Rattle.rb_world.proofs.{Around.{Pends, pends-more}, Idle.due-busy, Lanes.rooms-with, Turns.due-is-now}
 
 pub waits-pends : (p : Waits) → Pends (without_waiting p)
 waits-pends (Tick k) = record { row = λ s. refl; begun = λ s. refl; runs = λ s. refl }

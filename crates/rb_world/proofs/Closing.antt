@@ -1,29 +1,7 @@
 -- What a tick leaves of what came, and of which sources it shows times.
-use Rattle.std.proofs.Common.{◌≡◌, ℕ, zero, suc, ◌+◌, ◌<◌, ◌≤◌, ◌==◌, ◌&&◌, Bool, true, false, Option, Some, None, List, [], ◌∷◌, map, get_or, refl, sym, ◌∙◌, subst, arith, if◌then◌else◌}
-use Rattle.std.proofs.lemmas.List.FromFn.{get_or-map-range_with_len}
-use Rattle.std.proofs.lemmas.Option.{same_Some}
-use Rattle.rb_base.specs.Nodes.{Side}
-use Rattle.rb_base.specs.Sizes.{Sizes, sync_slot_of}
-use Rattle.rb_base.specs.declared.values.Heard.{Heard}
-use Rattle.rb_base.specs.declared.values.See.TheVariants.{Nothing, Time}
-use Rattle.rb_rules.specs.declared.closing.Closed.{Closed}
-use Rattle.rb_rules.specs.declared.closing.Closing.{Closing}
-use Rattle.rb_rules.specs.declared.closing.SyncClosing.{SyncClosing}
-use Rattle.rb_rules.specs.declared.message.Message.{Message}
-use Rattle.rb_rules.specs.declared.plan.Plan.{Plan}
-use Rattle.rb_rules.specs.declared.plan.Window.{Window}
-use Rattle.rb_rules.specs.declared.role.Role.{Role}
-use Rattle.rb_rules.specs.declared.sense.Expect.{Expect}
-use Rattle.rb_rules.specs.declared.sense.Sense.{Sense}
-use Rattle.rb_rules.specs.Core.{Act, Core, act_at, act_on, epoch_at, is_last, is_spent, of_source, tick, window_here}
-use Rattle.rb_rules.specs.ExactStage.{Outcome, close_exact, each_node, outcome_of, see_value}
-use Rattle.rb_rules.specs.Hearing.{close_window}
-use Rattle.rb_rules.specs.NodeState.{NodeState}
-use Rattle.rb_rules.specs.NodeSteps.{close, expect_of}
-use Rattle.rb_rules.specs.Sense.{Arrival, sense_of, stamp_in}
-use Rattle.rb_rules.specs.Slots.{Sender}
-use Rattle.rb_rules.specs.Standing.{is_eligible, taken_of}
-use Rattle.rb_rules.specs.SyncStage.{close_sync, expects_call, see_time, sync_closing_of, sync_outcome_of}
+use Rattle.std.proofs.{Common.{◌≡◌, ℕ, zero, suc, ◌+◌, ◌<◌, ◌≤◌, ◌==◌, ◌&&◌, Bool, true, false, Option, Some, None, List, [], ◌∷◌, map, get_or, refl, sym, ◌∙◌, subst, arith, if◌then◌else◌}, lemmas.List.FromFn.get_or-map-range_with_len, lemmas.Option.same_Some}
+use Rattle.rb_base.specs.{Nodes.Side, Sizes.{Sizes, sync_slot_of}, declared.values.Heard.Heard, declared.values.See.TheVariants.{Nothing, Time}}
+use Rattle.rb_rules.specs.{declared.closing.Closed.Closed, declared.closing.Closing.Closing, declared.closing.SyncClosing.SyncClosing, declared.message.Message.Message, declared.plan.Plan.Plan, declared.plan.Window.Window, declared.role.Role.Role, declared.sense.Expect.Expect, declared.sense.Sense.Sense, Core.{Act, Core, act_at, act_on, epoch_at, is_last, is_spent, of_source, tick, window_here}, ExactStage.{Outcome, close_exact, each_node, outcome_of, see_value}, Hearing.close_window, NodeState.NodeState, NodeSteps.{close, expect_of}, Sense.{Arrival, sense_of, stamp_in}, Slots.Sender, Standing.{is_eligible, taken_of}, SyncStage.{close_sync, expects_call, see_time, sync_closing_of, sync_outcome_of}}
 
 -- the close shows this time of source `j`
 abbrev pub ShowsTime : Closed → ℕ → ℕ → Type 0

@@ -1,19 +1,10 @@
 -- What came of one source, in the inbox and with its times.
-use Rattle.std.proofs.Common.{◌≡◌, ℕ, suc, ◌<◌, ◌==◌, Bool, true, false, cond, List, [], ◌∷◌, ◌++◌, filter, length, map, get_or, refl, sym, ◌∙◌, ap, subst, arith}
+use Rattle.std.proofs.{Common.{◌≡◌, ℕ, suc, ◌<◌, ◌==◌, Bool, true, false, cond, List, [], ◌∷◌, ◌++◌, filter, length, map, get_or, refl, sym, ◌∙◌, ap, subst, arith}, lemmas.Bool.Decides.nat_tests, lemmas.List.{get_or-set_other, get_or-set_same}}
 use Rattle.std.specs.Prelude.{slice_index, slice_set}
-use Rattle.std.proofs.lemmas.Bool.Decides.{nat_tests}
-use Rattle.std.proofs.lemmas.List.{get_or-set_other, get_or-set_same}
-use Rattle.rb_base.specs.declared.values.See.{See}
-use Rattle.rb_base.specs.declared.values.See.TheVariants.{Nothing, Value, Time}
-use Rattle.rb_rules.specs.declared.closing.Closed.{Closed}
-use Rattle.rb_rules.specs.Core.{of_source}
-use Rattle.rb_rules.specs.ExactStage.{each_node}
-use Rattle.rb_rules.specs.Hearing.{Coming, judged_see, sole_time}
-use Rattle.rb_rules.specs.Sense.{Arrival}
-use Rattle.rb_rules.specs.WorldStep.{coming_from}
+use Rattle.rb_base.specs.{declared.values.See.See, declared.values.See.TheVariants.{Nothing, Value, Time}}
+use Rattle.rb_rules.specs.{declared.closing.Closed.Closed, Core.of_source, ExactStage.each_node, Hearing.{Coming, judged_see, sole_time}, Sense.Arrival, WorldStep.coming_from}
 use Rattle.rb_rules.proofs.ExactStages.{same_each_node}
-use Rattle.rb_world.specs.Sites.{ComeTogether, HoldsTimes}
-use Rattle.rb_world.specs.Tells.{sees_at}
+use Rattle.rb_world.specs.{Sites.{ComeTogether, HoldsTimes}, Tells.sees_at}
 use Rattle.rb_world.proofs.Closing.{ShowsTime}
 
 -- How many came of a source.

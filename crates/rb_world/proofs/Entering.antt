@@ -1,38 +1,16 @@
 -- A node enters a window, or not.
-use Rattle.std.proofs.Common.{◌≡◌, ℕ, ◌+◌, ◌<◌, ◌≤◌, true, false, Some, None, List, [], ◌++◌, length, slice_get, refl, sym, ap, ◌∙◌, subst, arith, length-append}
+use Rattle.std.proofs.{Common.{◌≡◌, ℕ, ◌+◌, ◌<◌, ◌≤◌, true, false, Some, None, List, [], ◌++◌, length, slice_get, refl, sym, ap, ◌∙◌, subst, arith, length-append}, lemmas.Option.same_Some}
 use Rattle.std.specs.Prelude.{option_map}
-use Rattle.std.proofs.lemmas.Option.{same_Some}
-use Rattle.rb_base.specs.Nodes.{Side, other}
-use Rattle.rb_base.specs.Nodes.Side.{Biu, Rmu}
-use Rattle.rb_base.specs.declared.node.NodeName.{NodeName}
-use Rattle.rb_rules.specs.Book.{Each, of_kind}
-use Rattle.rb_rules.specs.Core.{Core}
-use Rattle.rb_rules.specs.Entries.{IsListed}
-use Rattle.rb_rules.specs.Goodness.{Scenario, is_good}
-use Rattle.rb_rules.specs.Hearing.{Coming, Span}
-use Rattle.rb_rules.specs.Lawful.{is_node_good, kind_of}
-use Rattle.rb_rules.specs.Links.{name_of}
-use Rattle.rb_rules.specs.NodeState.{NodeState}
-use Rattle.rb_rules.specs.WorldStep.{Site, World, at_node, await, says_in, span_from, stop}
+use Rattle.rb_base.specs.{Nodes.{Side, other}, Nodes.Side.{Biu, Rmu}, declared.node.NodeName.NodeName}
+use Rattle.rb_rules.specs.{Book.{Each, of_kind}, Core.Core, Entries.IsListed, Goodness.{Scenario, is_good}, Hearing.{Coming, Span}, Lawful.{is_node_good, kind_of}, Links.name_of, NodeState.NodeState, WorldStep.{Site, World, at_node, await, says_in, span_from, stop}}
 use Rattle.rb_queue.specs.Waiting.{HasLane, Held, lane_of, spare_of, with_lane}
 use Rattle.rb_world_agenda.proofs.Keeping.{lane-with}
 use Rattle.rb_world_agenda.specs.Holding.{HoldsSites}
-use Rattle.rb_laws_events.proofs.WorldStands.{get-at, is_node, node-itself}
-use Rattle.rb_world.specs.Sites.{KeptSite}
-use Rattle.rb_world_traffic.specs.Arriving.{number_of}
-use Rattle.rb_world_traffic.specs.Saying.{hears, with_arrivals}
+use Rattle.rb_laws_events.proofs.{WorldStands.{get-at, is_node, node-itself}, FewEntered.says-few}
+use Rattle.rb_world.specs.{Sites.KeptSite, declared.scene.Scene.Scene, Buses.HaveRooms, Calm.is_calm, Steps.{IsAt, IsCoreAt, OthersStay, Proceeds, moved}, Worlds.Surrounds}
+use Rattle.rb_world_traffic.specs.{Arriving.number_of, Saying.{hears, with_arrivals}}
 use Rattle.rb_world_traffic.proofs.Says.{good-of, number-of}
-use Rattle.rb_laws_events.proofs.FewEntered.{says-few}
-use Rattle.rb_world.specs.declared.scene.Scene.{Scene}
-use Rattle.rb_world.specs.Buses.{HaveRooms}
-use Rattle.rb_world.specs.Calm.{is_calm}
-use Rattle.rb_world.specs.Steps.{IsAt, IsCoreAt, OthersStay, Proceeds, moved}
-use Rattle.rb_world.specs.Worlds.{Surrounds}
-use Rattle.rb_world.proofs.Around.{Pends, pends-more}
-use Rattle.rb_world.proofs.Going.{name-is, says-then}
-use Rattle.rb_world.proofs.Lanes.{kind-named, rooms-with}
-use Rattle.rb_world.proofs.Calmness.{calm-awaits}
-use Rattle.rb_world.proofs.Onward.{goes-in, goes-on, goes-out, others-stay, proceeds-on, proceeds-out}
+use Rattle.rb_world.proofs.{Around.{Pends, pends-more}, Going.{name-is, says-then}, Lanes.{kind-named, rooms-with}, Calmness.calm-awaits, Onward.{goes-in, goes-on, goes-out, others-stay, proceeds-on, proceeds-out}}
 
 -- a new lane of a named node leaves the lanes of the other kind as they are
 pub others-named : (name : NodeName) (lane : Held) (lanes : Each Held) → of_kind (other (kind_of name)) (with_lane name lane lanes) ≡ of_kind (other (kind_of name)) lanes

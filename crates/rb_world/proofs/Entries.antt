@@ -1,18 +1,12 @@
 -- No more is said to a node in a window than there are entries.
-use Rattle.std.proofs.Common.{◌≡◌, ℕ, zero, suc, ◌+◌, ◌≤◌, Bool, true, List, [], ◌∷◌, ◌++◌, filter, flat_map, length, refl, ap, ◌∙◌, arith, length-append}
+use Rattle.std.proofs.{Common.{◌≡◌, ℕ, zero, suc, ◌+◌, ◌≤◌, Bool, true, List, [], ◌∷◌, ◌++◌, filter, flat_map, length, refl, ap, ◌∙◌, arith, length-append}, lemmas.Bool.Decides.nat_tests, lemmas.Grind.flat_map-append}
 use Rattle.std.specs.List.{range_with_len}
-use Rattle.std.proofs.lemmas.Bool.Decides.{nat_tests}
-use Rattle.std.proofs.lemmas.Grind.{flat_map-append}
-use Rattle.rb_base.specs.Nodes.{Side, other}
-use Rattle.rb_base.specs.Nodes.Side.{Biu, Rmu}
-use Rattle.rb_base.specs.declared.node.NodeName.{NodeName}
-use Rattle.rb_base.specs.declared.node.NodeName.TheVariants as node
+use Rattle.rb_base.specs.{Nodes.{Side, other}, Nodes.Side.{Biu, Rmu}, declared.node.NodeName.NodeName}
 use Rattle.rb_base.proofs.Plain.{and_first, range-end}
-use Rattle.rb_rules.specs.declared.say.Say.{Say}
-use Rattle.rb_rules.specs.Lawful.{kind_of}
-use Rattle.rb_rules.specs.Links.{name_of, same_node, stands_for}
+use Rattle.rb_rules.specs.{declared.say.Say.Say, Lawful.kind_of, Links.{name_of, same_node, stands_for}}
 use Rattle.rb_laws_events.proofs.SourceSums.{items-once, sum_to}
 use Rattle.rb_world_traffic.specs.Saying.{entries_to, is_between}
+use Rattle.rb_base.specs.declared.node.NodeName.TheVariants as node
 
 sums : {X : Type 0} (f : ℕ → List X) (n : ℕ) → length (flat_map f (range_with_len 0 n)) ≡ sum_to (λ j. length (f j)) n
 sums f zero = refl

@@ -1,43 +1,20 @@
 -- When all nodes have begun, it is the first world.
-use Rattle.std.proofs.Common.{◌≡◌, ℕ, zero, suc, ◌+◌, ◌<◌, ◌≤◌, nat_lt, Bool, true, false, Some, None, Option, All, List, [], ◌∷◌, length, map, slice_get, refl, sym, ap, ◌∙◌, subst, arith, inl, inr}
+use Rattle.std.proofs.{Common.{◌≡◌, ℕ, zero, suc, ◌+◌, ◌<◌, ◌≤◌, nat_lt, Bool, true, false, Some, None, Option, All, List, [], ◌∷◌, length, map, slice_get, refl, sym, ap, ◌∙◌, subst, arith, inl, inr}, lemmas.Bool.{cases_lt, ltb-true}, lemmas.Bool.Decides.nat_tests, lemmas.Option.{same_Some, slice_get_past, slice_get_within}, lemmas.List.Elements.{All-cons, All-nil}}
 use Rattle.std.specs.Prelude.{option_map}
-use Rattle.std.proofs.lemmas.Bool.{cases_lt, ltb-true}
-use Rattle.std.proofs.lemmas.Bool.Decides.{nat_tests}
-use Rattle.std.proofs.lemmas.Option.{same_Some, slice_get_past, slice_get_within}
-use Rattle.std.proofs.lemmas.List.Elements.{All-cons, All-nil}
-use Rattle.rb_base.specs.Counting.{numbers}
-use Rattle.rb_base.specs.Nodes.{Side, has, other, set_of}
-use Rattle.rb_base.specs.Nodes.Side.{Biu, Rmu}
-use Rattle.rb_base.specs.Sizes.{IsShape, Sizes}
-use Rattle.rb_base.proofs.Plain.{none_not_some}
-use Rattle.rb_base.proofs.Sets.{has-set_of, has_above, set_of-lt}
-use Rattle.rb_rules.specs.Book.{each_of, of_kind}
-use Rattle.rb_rules.specs.Entries.{IsListed}
-use Rattle.rb_rules.specs.Goodness.{Scenario}
-use Rattle.rb_rules.specs.Hearing.{Coming, Span, port_at}
-use Rattle.rb_rules.specs.Lawful.{IsLawful}
-use Rattle.rb_rules.specs.Slots.{count_of}
-use Rattle.rb_rules.specs.WorldStep.{Site, World, at_node, await, enter, first_world, fresh_site, proceed, says_in, span_from, stop}
-use Rattle.rb_rules.specs.Goodness.{is_good}
+use Rattle.rb_base.specs.{Counting.numbers, Nodes.{Side, has, other, set_of}, Nodes.Side.{Biu, Rmu}, Sizes.{IsShape, Sizes}}
+use Rattle.rb_base.proofs.{Plain.none_not_some, Sets.{has-set_of, has_above, set_of-lt}}
+use Rattle.rb_rules.specs.{Book.{each_of, of_kind}, Entries.IsListed, Goodness.Scenario, Hearing.{Coming, Span, port_at}, Lawful.IsLawful, Slots.count_of, WorldStep.{Site, World, at_node, await, enter, first_world, fresh_site, proceed, says_in, span_from, stop}, Goodness.is_good}
 use Rattle.rb_rules.proofs.WindowNumbers.{get-made}
 use Rattle.rb_world_agenda.specs.Holding.{HoldsAll, HoldsSites}
 use Rattle.rb_world_book.proofs.Noting.{same-shown}
 use Rattle.rb_world_book.specs.Holding.{Holds}
-use Rattle.rb_laws_events.proofs.WorldNodes.{first-counts}
-use Rattle.rb_laws_events.proofs.WorldStands.{get-at, node-itself, not-other}
+use Rattle.rb_laws_events.proofs.{WorldNodes.first-counts, WorldStands.{get-at, node-itself, not-other}}
 use Rattle.rb_laws_events.specs.PendingEvents.{most_pending}
 use Rattle.rb_queue.specs.Waiting.{empty_lane}
-use Rattle.rb_world.specs.Sites.{KeptSite}
+use Rattle.rb_world.specs.{Sites.KeptSite, Buses.{HasRoom, HaveRooms, listed_by}, declared.scene.Scene.Scene, declared.ties.Seeding.Seeding, Openings.{HaveBegun, MayBegin, before_all, with_begun}, Worlds.{AreNodes, HoldsPorts, IsNode, Stands, Surrounds, running_of}}
 use Rattle.rb_world_traffic.specs.Arriving.{AreRunning}
-use Rattle.rb_world.specs.Buses.{HasRoom, HaveRooms, listed_by}
+use Rattle.rb_world.proofs.{Beginning.apart, Going.few-nodes, Sites.counts-one}
 use Rattle.rb_world.specs.declared.last.Last.TheVariants as last
-use Rattle.rb_world.specs.declared.scene.Scene.{Scene}
-use Rattle.rb_world.specs.declared.ties.Seeding.{Seeding}
-use Rattle.rb_world.specs.Openings.{HaveBegun, MayBegin, before_all, with_begun}
-use Rattle.rb_world.specs.Worlds.{AreNodes, HoldsPorts, IsNode, Stands, Surrounds, running_of}
-use Rattle.rb_world.proofs.Beginning.{apart}
-use Rattle.rb_world.proofs.Going.{few-nodes}
-use Rattle.rb_world.proofs.Sites.{counts-one}
 
 -- What surrounds the nodes before they begin.
 

@@ -1,41 +1,20 @@
 -- A node goes on to its next tick, or stops.
-use Rattle.std.proofs.Common.{◌≡◌, ℕ, zero, suc, ◌<◌, ◌≤◌, ◌==◌, ◌&&◌, not, Bool, true, false, Some, None, List, [], ◌∷◌, ◌++◌, length, slice_get, refl, sym, ap, ◌∙◌, subst, arith, inl, inr}
+use Rattle.std.proofs.{Common.{◌≡◌, ℕ, zero, suc, ◌<◌, ◌≤◌, ◌==◌, ◌&&◌, not, Bool, true, false, Some, None, List, [], ◌∷◌, ◌++◌, length, slice_get, refl, sym, ap, ◌∙◌, subst, arith, inl, inr}, lemmas.Bool.cases_lt, lemmas.Bool.Decides.nat_tests, lemmas.List.append-nil, lemmas.Option.slice_get_within}
 use Rattle.std.specs.Prelude.{option_map, slice_set, unwrap_or}
-use Rattle.std.proofs.lemmas.Bool.{cases_lt}
-use Rattle.std.proofs.lemmas.Bool.Decides.{nat_tests}
-use Rattle.std.proofs.lemmas.List.{append-nil}
-use Rattle.std.proofs.lemmas.Option.{slice_get_within}
-use Rattle.rb_base.specs.Nodes.{Side, has, other, set_of}
-use Rattle.rb_base.specs.Nodes.Side.{Biu, Rmu}
-use Rattle.rb_base.specs.Sizes.{IsShape}
-use Rattle.rb_base.specs.declared.node.NodeName.{NodeName}
-use Rattle.rb_base.specs.declared.node.NodeName.TheVariants as node
+use Rattle.rb_base.specs.{Nodes.{Side, has, other, set_of}, Nodes.Side.{Biu, Rmu}, Sizes.IsShape, declared.node.NodeName.NodeName}
 use Rattle.rb_base.proofs.Sets.{has-set_of, has_above, set_of-lt}
-use Rattle.rb_rules.specs.Book.{Each, of_kind}
-use Rattle.rb_rules.specs.Clock.{time_of}
-use Rattle.rb_rules.specs.Core.{Core, next_tick}
-use Rattle.rb_rules.specs.Goodness.{Scenario, clock_of}
-use Rattle.rb_rules.specs.Hearing.{Coming, Span}
-use Rattle.rb_rules.specs.Lawful.{kind_of}
-use Rattle.rb_rules.specs.Links.{name_of}
-use Rattle.rb_rules.specs.Slots.{count_of}
-use Rattle.rb_rules.specs.WorldStep.{Site, Timed, World, at_node, await, says_in, stop}
+use Rattle.rb_rules.specs.{Book.{Each, of_kind}, Clock.time_of, Core.{Core, next_tick}, Goodness.{Scenario, clock_of}, Hearing.{Coming, Span}, Lawful.kind_of, Links.name_of, Slots.count_of, WorldStep.{Site, Timed, World, at_node, await, says_in, stop}}
 use Rattle.rb_queue.specs.Waiting.{HasLane, Held, empty_lane, lane_of, with_lane, with_tick, without_events}
 use Rattle.rb_world_agenda.specs.Holding.{HoldsSite, HoldsSites}
 use Rattle.rb_world_agenda.proofs.Changes.{holds-at, holds-nothing, holds-tick}
 use Rattle.rb_world_book.specs.Holding.{Holds}
 use Rattle.rb_port.specs.Keeping.{KeptPort}
 use Rattle.rb_node.specs.Cores.{next_of}
-use Rattle.rb_world.specs.Sites.{KeptSite}
+use Rattle.rb_world.specs.{Sites.KeptSite, declared.scene.Scene.Scene, Buses.HaveRooms, Steps.{IsCoreAt, moved}, Worlds.{HoldsPorts, Surrounds, running_of}}
 use Rattle.rb_laws_events.proofs.WorldStands.{is_node, node-is, not-other}
 use Rattle.rb_world_traffic.specs.Arriving.{AreRunning, number_of}
-use Rattle.rb_world.specs.declared.scene.Scene.{Scene}
-use Rattle.rb_world.specs.Buses.{HaveRooms}
-use Rattle.rb_world.specs.Steps.{IsCoreAt, moved}
-use Rattle.rb_world.specs.Worlds.{HoldsPorts, Surrounds, running_of}
-use Rattle.rb_world.proofs.Around.{Pends, book-kept}
-use Rattle.rb_world.proofs.Lanes.{rooms-with}
-use Rattle.rb_world.proofs.Sites.{at-same, at-twice, at_one, counts-one, holds-site, running-one, was-there}
+use Rattle.rb_world.proofs.{Around.{Pends, book-kept}, Lanes.rooms-with, Sites.{at-same, at-twice, at_one, counts-one, holds-site, running-one, was-there}}
+use Rattle.rb_base.specs.declared.node.NodeName.TheVariants as node
 
 -- A node stops.
 

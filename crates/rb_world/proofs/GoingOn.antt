@@ -1,17 +1,9 @@
 -- What a call makes of a world when no event is taken.
 use Rattle.std.proofs.Common.{◌≡◌, true, false, refl, sym, ap, subst}
-use Rattle.rb_rules.specs.Goodness.{Scenario}
-use Rattle.rb_rules.specs.WorldStep.{World, go_on, settle}
-use Rattle.rb_rules.specs.WorldStep.Choice.{GoOn}
-use Rattle.rb_rules.specs.WorldStep.Way.{ByItself}
-use Rattle.rb_world_book.specs.Records.{record_of}
-use Rattle.rb_world_book.specs.Settling.{Settles}
-use Rattle.rb_world_book.specs.declared.book.Book.{Book as KeptBook}
-use Rattle.rb_world_book.specs.declared.turn.Turn.{Turn}
+use Rattle.rb_rules.specs.{Goodness.Scenario, WorldStep.{World, go_on, settle}, WorldStep.Choice.GoOn, WorldStep.Way.ByItself}
+use Rattle.rb_world_book.specs.{Records.record_of, Settling.Settles, declared.book.Book.Book as KeptBook, declared.turn.Turn.Turn}
 use Rattle.rb_laws_events.proofs.GivenAlone.{go-on-is}
-use Rattle.rb_world.specs.declared.last.Last.{Last}
-use Rattle.rb_world.specs.Turning.{Gives}
-use Rattle.rb_world.specs.Worlds.{KeptWorld, Stands, last_of}
+use Rattle.rb_world.specs.{declared.last.Last.Last, Turning.Gives, Worlds.{KeptWorld, Stands, last_of}}
 use Rattle.rb_world.proofs.Turns.{gives}
 
 -- a run that has ended stays

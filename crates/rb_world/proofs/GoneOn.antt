@@ -1,28 +1,13 @@
 -- What is kept goes on standing for a world behind.
 use Rattle.std.proofs.Common.{◌≡◌, ℕ, ◌<◌, false, slice_get, refl, sym, ap, ◌∙◌, subst, arith}
-use Rattle.rb_base.specs.Nodes.{Side}
-use Rattle.rb_base.specs.declared.node.NodeName.{NodeName}
-use Rattle.rb_rules.specs.Book.{Each, of_kind}
-use Rattle.rb_rules.specs.Goodness.{Scenario}
-use Rattle.rb_rules.specs.Links.{name_of}
-use Rattle.rb_rules.specs.WorldStep.{Site, Timed, World, go_on, happens, settle}
-use Rattle.rb_rules.specs.WorldStep.Choice.{GoOn}
-use Rattle.rb_rules.specs.WorldStep.Pending.{Tick}
-use Rattle.rb_rules.specs.WorldStep.Way.{ByAnEvent, ByItself}
-use Rattle.rb_world_book.specs.Records.{record_of}
-use Rattle.rb_world_book.specs.Settling.{Settles}
-use Rattle.rb_world_book.specs.declared.book.Book.{Book as KeptBook}
-use Rattle.rb_world_book.specs.declared.turn.Turn.{Turn}
-use Rattle.rb_laws_events.proofs.WorldNodes.{settle-sites}
-use Rattle.rb_world.specs.Sites.{KeptSite}
+use Rattle.rb_base.specs.{Nodes.Side, declared.node.NodeName.NodeName}
+use Rattle.rb_rules.specs.{Book.{Each, of_kind}, Goodness.Scenario, Links.name_of, WorldStep.{Site, Timed, World, go_on, happens, settle}, WorldStep.Choice.GoOn, WorldStep.Pending.Tick, WorldStep.Way.{ByAnEvent, ByItself}}
+use Rattle.rb_world_book.specs.{Records.record_of, Settling.Settles, declared.book.Book.Book as KeptBook, declared.turn.Turn.Turn}
+use Rattle.rb_laws_events.proofs.{WorldNodes.settle-sites, GivenAlone.go-on-is}
+use Rattle.rb_world.specs.{Sites.KeptSite, declared.scene.Scene.Scene, Worlds.{AreNodes, KeptWorld, Stands, Surrounds}, Trailing.{BehindTick, GoesToTick, HappensFirst, Trails, alone}}
 use Rattle.rb_laws_sweeps.specs.AheadOf.{GoesOnAhead, IsFirstTick}
 use Rattle.rb_laws_sweeps.proofs.Calls.{go-on-passes, nobody-is-ahead}
-use Rattle.rb_laws_events.proofs.GivenAlone.{go-on-is}
-use Rattle.rb_world.specs.declared.scene.Scene.{Scene}
-use Rattle.rb_world.specs.Worlds.{AreNodes, KeptWorld, Stands, Surrounds}
-use Rattle.rb_world.proofs.Turns.{reached-more, surrounds-settled}
-use Rattle.rb_world.specs.Trailing.{BehindTick, GoesToTick, HappensFirst, Trails, alone}
-use Rattle.rb_world.proofs.Behind.{behind-tick, goes-on}
+use Rattle.rb_world.proofs.{Turns.{reached-more, surrounds-settled}, Behind.{behind-tick, goes-on}}
 
 -- At first.
 

@@ -1,27 +1,16 @@
 -- What a state that is handed in makes of a world.
-use Rattle.std.proofs.Common.{◌≡◌, ℕ, zero, suc, ◌<◌, ◌&&◌, nat_lt, Bool, true, false, Option, Some, None, List, [], ◌∷◌, ◌++◌, get_or, length, slice_get, slice_set, refl, sym, ap, ◌∙◌, subst}
-use Rattle.std.proofs.lemmas.Bool.{ltb-true}
-use Rattle.std.proofs.lemmas.Option.{same_Some}
-use Rattle.rb_base.specs.Nodes.{Side, has}
-use Rattle.rb_base.specs.Nodes.Side.{Biu, Rmu}
+use Rattle.std.proofs.{Common.{◌≡◌, ℕ, zero, suc, ◌<◌, ◌&&◌, nat_lt, Bool, true, false, Option, Some, None, List, [], ◌∷◌, ◌++◌, get_or, length, slice_get, slice_set, refl, sym, ap, ◌∙◌, subst}, lemmas.Bool.ltb-true, lemmas.Option.same_Some}
+use Rattle.rb_base.specs.{Nodes.{Side, has}, Nodes.Side.{Biu, Rmu}}
 use Rattle.rb_base.proofs.Plain.{none_not_some}
-use Rattle.rb_rules.specs.Book.{Record, of_kind}
-use Rattle.rb_rules.specs.Goodness.{Scenario, is_before, is_good, onsets_of}
-use Rattle.rb_rules.specs.Ports.{PortState, with_state}
-use Rattle.rb_rules.specs.Slots.{count_of}
-use Rattle.rb_rules.specs.WorldStep.{World, frame_in, hand}
-use Rattle.rb_rules.specs.WorldStep.Choice.{Hand}
+use Rattle.rb_rules.specs.{Book.{Record, of_kind}, Goodness.{Scenario, is_before, is_good, onsets_of}, Ports.{PortState, with_state}, Slots.count_of, WorldStep.{World, frame_in, hand}, WorldStep.Choice.Hand}
 use Rattle.rb_port.specs.Keeping.{HoldsPort, KeptPort}
 use Rattle.rb_world_traffic.specs.Arriving.{AreRunning}
 use Rattle.rb_world_agenda.specs.Holding.{HoldsSites}
-use Rattle.rb_world_book.specs.Holding.{Holds}
-use Rattle.rb_world_book.specs.declared.book.Book.{Book as KeptBook}
+use Rattle.rb_world_book.specs.{Holding.Holds, declared.book.Book.Book as KeptBook}
 use Rattle.rb_laws_agreement.proofs.PortLists.{with-state-long}
-use Rattle.rb_world.specs.Buses.{HaveRooms}
-use Rattle.rb_world.specs.declared.last.Last.TheVariants as last
-use Rattle.rb_world.specs.declared.scene.Scene.{Scene}
-use Rattle.rb_world.specs.Worlds.{AreNodes, HoldsPorts, IsReached, KeptWorld, Stands, Surrounds, last_of, running_of}
+use Rattle.rb_world.specs.{Buses.HaveRooms, declared.scene.Scene.Scene, Worlds.{AreNodes, HoldsPorts, IsReached, KeptWorld, Stands, Surrounds, last_of, running_of}}
 use Rattle.rb_world.proofs.Turns.{reached-more}
+use Rattle.rb_world.specs.declared.last.Last.TheVariants as last
 
 -- Ports.
 

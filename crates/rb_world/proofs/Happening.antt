@@ -1,30 +1,13 @@
 -- A tick that is due happens.
-use Rattle.std.proofs.Common.{◌≡◌, ℕ, ◌==◌, ◌&&◌, Bool, true, false, Some, None, Option, List, [], ◌∷◌, ◌++◌, slice_get, refl, sym, ap, ◌∙◌, subst, arith}
+use Rattle.std.proofs.{Common.{◌≡◌, ℕ, ◌==◌, ◌&&◌, Bool, true, false, Some, None, Option, List, [], ◌∷◌, ◌++◌, slice_get, refl, sym, ap, ◌∙◌, subst, arith}, lemmas.Bool.Decides.nat_tests, lemmas.List.length-set}
 use Rattle.std.specs.Prelude.{slice_set, unwrap_or}
-use Rattle.std.proofs.lemmas.Bool.Decides.{nat_tests}
-use Rattle.std.proofs.lemmas.List.{length-set}
-use Rattle.rb_base.specs.Nodes.{Side, other}
-use Rattle.rb_base.specs.Nodes.Side.{Biu, Rmu}
-use Rattle.rb_rules.specs.declared.closing.Closed.{Closed}
-use Rattle.rb_rules.specs.declared.message.Message.{Message}
-use Rattle.rb_rules.specs.declared.record.Epoch.{Epoch}
-use Rattle.rb_rules.specs.Book.{Each, of_kind}
-use Rattle.rb_rules.specs.Core.{Act}
-use Rattle.rb_rules.specs.Goodness.{Scenario, is_good}
-use Rattle.rb_rules.specs.Hearing.{Sending, Span, coming_of}
-use Rattle.rb_rules.specs.Ports.{PortState}
-use Rattle.rb_rules.specs.Slots.{same_side}
-use Rattle.rb_rules.specs.WorldStep.{Due, Site, World, after_act, at_node, await, enter, happens, pass_and_tick, proceed, says_in, sent_to, span_from, stop, with_act, with_close, with_epoch, with_message}
-use Rattle.rb_rules.specs.WorldStep.Pending.{Tick}
+use Rattle.rb_base.specs.{Nodes.{Side, other}, Nodes.Side.{Biu, Rmu}}
+use Rattle.rb_rules.specs.{declared.closing.Closed.Closed, declared.message.Message.Message, declared.record.Epoch.Epoch, Book.{Each, of_kind}, Core.Act, Goodness.{Scenario, is_good}, Hearing.{Sending, Span, coming_of}, Ports.PortState, Slots.same_side, WorldStep.{Due, Site, World, after_act, at_node, await, enter, happens, pass_and_tick, proceed, says_in, sent_to, span_from, stop, with_act, with_close, with_epoch, with_message}, WorldStep.Pending.Tick}
 use Rattle.rb_rules.proofs.WindowNumbers.{get-each}
 use Rattle.rb_world_agenda.specs.Holding.{without_waiting}
 use Rattle.rb_laws_events.proofs.WorldStands.{is_node, not-other}
-use Rattle.rb_world.specs.Sites.{KeptSite, after_tick}
-use Rattle.rb_world.specs.declared.scene.Scene.{Scene}
-use Rattle.rb_world.specs.Steps.{Happens, Ticks, moved}
-use Rattle.rb_world.specs.Worlds.{AreNodes, IsNode, Surrounds}
-use Rattle.rb_world.proofs.Sites.{at-same, at-twice, at_one, from-map, was-there}
-use Rattle.rb_world.proofs.Told.{set-here, set-there}
+use Rattle.rb_world.specs.{Sites.{KeptSite, after_tick}, declared.scene.Scene.Scene, Steps.{Happens, Ticks, moved}, Worlds.{AreNodes, IsNode, Surrounds}}
+use Rattle.rb_world.proofs.{Sites.{at-same, at-twice, at_one, from-map, was-there}, Told.{set-here, set-there}}
 
 -- The tick that is ahead is overwritten.
 

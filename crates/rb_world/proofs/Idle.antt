@@ -1,6 +1,5 @@
 -- When nothing may be taken.
-use Rattle.std.proofs.Common.{◌≡◌, ℕ, ◌<◌, ◌||◌, Bool, true, false, List, [], length, refl, sym, ap, ◌∙◌, arith, inl, inr, IsTrue, ◌↔◌}
-use Rattle.std.proofs.lemmas.Bool.{cases_lt}
+use Rattle.std.proofs.{Common.{◌≡◌, ℕ, ◌<◌, ◌||◌, Bool, true, false, List, [], length, refl, sym, ap, ◌∙◌, arith, inl, inr, IsTrue, ◌↔◌}, lemmas.Bool.cases_lt}
 use Rattle.rb_base.proofs.Plain.{or-true}
 use Rattle.rb_rules.specs.WorldStep.{Due, World, due_of, needs_no_event}
 use Rattle.rb_world_agenda.specs.Agenda.{due_now, how_many}

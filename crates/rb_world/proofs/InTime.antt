@@ -2,25 +2,8 @@
 use Rattle.std.proofs.Common.{◌≡◌, ℕ, ◌^◌, ◌<◌, ◌≤◌, true, List, sym, ◌∙◌, subst, arith, inl, inr, Some, slice_get}
 use Rattle.rb_base.specs.Nodes.{Side}
 use Rattle.rb_base.proofs.Plain.{true-false}
-use Rattle.rb_rules.specs.Clock.{time_of}
-use Rattle.rb_rules.specs.Goodness.{Scenario, clock_of}
-use Rattle.rb_rules.specs.Lawful.{IsLawful}
-use Rattle.rb_rules.specs.Rounds.{moment}
-use Rattle.rb_rules.specs.WorldStep.{Choice, Due, World, due_of, world_after}
-use Rattle.rb_laws_events.proofs.BreakNodes.{KeepsNodes}
-use Rattle.rb_laws_events.proofs.BreakOff.{BreaksOff}
-use Rattle.rb_laws_events.proofs.BreakRooms.{HasLater, has-later}
-use Rattle.rb_laws_events.proofs.BreakRuns.{first-of, waits-yet}
-use Rattle.rb_laws_events.proofs.DueEvents.{IsDue}
-use Rattle.rb_laws_events.proofs.EventsHold.{keeps, nodes_at}
-use Rattle.rb_laws_events.proofs.EveryWorld.{AnyWorld, InRun, any-after, due-going}
-use Rattle.rb_laws_events.proofs.Invariant.{is_good_at}
-use Rattle.rb_laws_events.proofs.NodeEvents.{tick-after}
-use Rattle.rb_laws_events.proofs.OneEvent.{all-pend}
-use Rattle.rb_laws_events.proofs.OneTake.{StandsInRounds}
-use Rattle.rb_laws_events.proofs.TickRooms.{has-room}
-use Rattle.rb_laws_events.proofs.WorldStands.{IsUp, sent_by}
-use Rattle.rb_laws_events.proofs.Behind.{pend-of}
+use Rattle.rb_rules.specs.{Clock.time_of, Goodness.{Scenario, clock_of}, Lawful.IsLawful, Rounds.moment, WorldStep.{Choice, Due, World, due_of, world_after}}
+use Rattle.rb_laws_events.proofs.{BreakNodes.KeepsNodes, BreakOff.BreaksOff, BreakRooms.{HasLater, has-later}, BreakRuns.{first-of, waits-yet}, DueEvents.IsDue, EventsHold.{keeps, nodes_at}, EveryWorld.{AnyWorld, InRun, any-after, due-going}, Invariant.is_good_at, NodeEvents.tick-after, OneEvent.all-pend, OneTake.StandsInRounds, TickRooms.has-room, WorldStands.{IsUp, sent_by}, Behind.pend-of}
 use Rattle.rb_world.specs.Worlds.{IsReached}
 
 -- a tick that the node may have and that comes no earlier

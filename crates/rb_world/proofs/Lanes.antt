@@ -1,28 +1,14 @@
 -- Room in the lanes.
-use Rattle.std.proofs.Common.{◌≡◌, ℕ, zero, suc, ◌+◌, ◌<◌, ◌≤◌, Bool, true, false, Some, All, List, [], ◌∷◌, length, map, slice_get, refl, ap, subst, arith, length-append}
+use Rattle.std.proofs.{Common.{◌≡◌, ℕ, zero, suc, ◌+◌, ◌<◌, ◌≤◌, Bool, true, false, Some, All, List, [], ◌∷◌, length, map, slice_get, refl, ap, subst, arith, length-append}, lemmas.List.length-map, lemmas.List.Elements.{All-cons, All-head, All-nil, All-set, All-tail}, lemmas.Option.none-some}
 use Rattle.std.specs.Prelude.{option_map, option_to_list, unwrap_or}
-use Rattle.std.proofs.lemmas.List.{length-map}
-use Rattle.std.proofs.lemmas.List.Elements.{All-cons, All-head, All-nil, All-set, All-tail}
-use Rattle.std.proofs.lemmas.Option.{none-some}
-use Rattle.rb_base.specs.Nodes.{Side}
-use Rattle.rb_base.specs.Nodes.Side.{Biu, Rmu}
-use Rattle.rb_base.specs.Sizes.{Sizes}
-use Rattle.rb_base.specs.declared.node.NodeName.{NodeName}
-use Rattle.rb_base.specs.declared.node.NodeName.TheVariants as node
-use Rattle.rb_rules.specs.Book.{Each, map_from, of_kind}
-use Rattle.rb_rules.specs.Goodness.{Scenario}
-use Rattle.rb_rules.specs.Hearing.{Coming}
-use Rattle.rb_rules.specs.Lawful.{IsNodeOf, kind_of}
-use Rattle.rb_rules.specs.Links.{name_of}
-use Rattle.rb_rules.specs.Slots.{count_of}
-use Rattle.rb_rules.specs.WorldStep.{Site, World, times_of}
+use Rattle.rb_base.specs.{Nodes.Side, Nodes.Side.{Biu, Rmu}, Sizes.Sizes, declared.node.NodeName.NodeName}
+use Rattle.rb_rules.specs.{Book.{Each, map_from, of_kind}, Goodness.Scenario, Hearing.Coming, Lawful.{IsNodeOf, kind_of}, Links.name_of, Slots.count_of, WorldStep.{Site, World, times_of}}
 use Rattle.rb_laws_events.specs.PendingEvents.{most_pending}
 use Rattle.rb_queue.specs.Waiting.{HasLane, Held, empty_lane, lane_of, spare_of, with_arrival, with_lane}
 use Rattle.rb_world_agenda.specs.Holding.{HoldsAll, HoldsSite, HoldsSites}
 use Rattle.rb_world_traffic.specs.Arriving.{lane_with, lanes_with}
-use Rattle.rb_world.specs.declared.scene.Scene.{Scene}
-use Rattle.rb_world.specs.Buses.{HasRoom, HaveRooms}
-use Rattle.rb_world.specs.Worlds.{Surrounds}
+use Rattle.rb_world.specs.{declared.scene.Scene.Scene, Buses.{HasRoom, HaveRooms}, Worlds.Surrounds}
+use Rattle.rb_base.specs.declared.node.NodeName.TheVariants as node
 
 -- Names.
 

@@ -1,21 +1,10 @@
 -- Once a run has ended, the last turn is its last record, and the last turn is always the record
 -- that was given last.
-use Rattle.std.proofs.Common.{◌≡◌, ℕ, zero, suc, ◌==◌, ◌&&◌, ◌||◌, nat_lt, Bool, true, false, Option, Some, None, List, [], ◌∷◌, ◌++◌, flat_map, fold, length, slice_get, if◌then◌else◌, inl, inr, refl, sym, ap, ◌∙◌, subst}
-use Rattle.std.proofs.lemmas.List.{append-nil}
-use Rattle.rb_base.specs.Sizes.{Sizes, sync_slot_of}
-use Rattle.rb_base.specs.declared.values.Place.{Place}
-use Rattle.rb_rules.specs.declared.cause.Cause.{Cause}
-use Rattle.rb_rules.specs.Book.{Begun, Book, Each, Milestone, Record, Row, after_verdict, frame_records, judged_of, in_order, with_end, with_frame, with_stage}
-use Rattle.rb_rules.specs.Book.Milestone.{Begin, Stage, End}
-use Rattle.rb_rules.specs.Book.Record.{Slot, Ended, Breach}
-use Rattle.rb_rules.specs.Goodness.{Scenario}
-use Rattle.rb_rules.specs.Judging.{JudgedStage, verdict_of}
-use Rattle.rb_rules.specs.WorldStep.{Choice, Due, Site, Way, World, book_with, choose, comes_so, due_at, due_of, first_world, go_on, hand, happens, is_complete, least, needs_no_event, record_since, settle, settle_next, take, take_if_due, times_of}
-use Rattle.rb_rules.specs.WorldStep.Choice.{Take, GoOn, Hand}
-use Rattle.rb_rules.specs.WorldStep.Way.{ByAnEvent, ByItself}
+use Rattle.std.proofs.{Common.{◌≡◌, ℕ, zero, suc, ◌==◌, ◌&&◌, ◌||◌, nat_lt, Bool, true, false, Option, Some, None, List, [], ◌∷◌, ◌++◌, flat_map, fold, length, slice_get, if◌then◌else◌, inl, inr, refl, sym, ap, ◌∙◌, subst}, lemmas.List.append-nil}
+use Rattle.rb_base.specs.{Sizes.{Sizes, sync_slot_of}, declared.values.Place.Place}
+use Rattle.rb_rules.specs.{declared.cause.Cause.Cause, Book.{Begun, Book, Each, Milestone, Record, Row, after_verdict, frame_records, judged_of, in_order, with_end, with_frame, with_stage}, Book.Milestone.{Begin, Stage, End}, Book.Record.{Slot, Ended, Breach}, Goodness.Scenario, Judging.{JudgedStage, verdict_of}, WorldStep.{Choice, Due, Site, Way, World, book_with, choose, comes_so, due_at, due_of, first_world, go_on, hand, happens, is_complete, least, needs_no_event, record_since, settle, settle_next, take, take_if_due, times_of}, WorldStep.Choice.{Take, GoOn, Hand}, WorldStep.Way.{ByAnEvent, ByItself}}
 use Rattle.rb_laws_events.proofs.WorldBooks.{IsTurn, go-on-turn, hand-leaves, happens-book, last-one, none-past, settle_rest, take-turn}
-use Rattle.rb_world.specs.Nexts.{is_last}
-use Rattle.rb_world.specs.Worlds.{IsReached}
+use Rattle.rb_world.specs.{Nexts.is_last, Worlds.IsReached}
 use Rattle.rb_world.proofs.GoingOn.{ended-stays}
 
 not-both : {P : Type 0} (b : Bool) → b ≡ true → b ≡ false → P

@@ -1,32 +1,15 @@
 -- What an observer is told when all nodes are swept.
-use Rattle.std.proofs.Common.{◌≡◌, ℕ, ◌+◌, ◌<◌, ◌≤◌, ◌==◌, ◌&&◌, nat_lt, Bool, true, false, List, [], ◌++◌, refl, sym, ap, ◌∙◌, subst, arith, inl, inr, Option, Some, None, slice_get, if◌then◌else◌}
-use Rattle.std.proofs.lemmas.Bool.{cases_lt, le-ltb, lt-ltb}
-use Rattle.std.proofs.lemmas.Bool.Decides.{nat_tests}
-use Rattle.std.proofs.lemmas.List.{append-nil}
-use Rattle.rb_base.specs.Nodes.{Side}
-use Rattle.rb_base.specs.Nodes.Side.{Biu, Rmu}
-use Rattle.rb_base.specs.declared.node.NodeName.{NodeName}
-use Rattle.rb_base.specs.declared.node.NodeName.TheVariants as node
+use Rattle.std.proofs.{Common.{◌≡◌, ℕ, ◌+◌, ◌<◌, ◌≤◌, ◌==◌, ◌&&◌, nat_lt, Bool, true, false, List, [], ◌++◌, refl, sym, ap, ◌∙◌, subst, arith, inl, inr, Option, Some, None, slice_get, if◌then◌else◌}, lemmas.Bool.{cases_lt, le-ltb, lt-ltb}, lemmas.Bool.Decides.nat_tests, lemmas.List.append-nil}
+use Rattle.rb_base.specs.{Nodes.Side, Nodes.Side.{Biu, Rmu}, declared.node.NodeName.NodeName}
 use Rattle.rb_base.proofs.Plain.{and-false}
-use Rattle.rb_rules.specs.Book.{Each, of_kind}
-use Rattle.rb_rules.specs.Goodness.{Scenario}
-use Rattle.rb_rules.specs.Lawful.{IsNodeOf, kind_of}
-use Rattle.rb_rules.specs.Links.{name_of, same_node}
-use Rattle.rb_rules.specs.Slots.{count_of, same_side}
-use Rattle.rb_rules.specs.WorldStep.{Site}
+use Rattle.rb_rules.specs.{Book.{Each, of_kind}, Goodness.Scenario, Lawful.{IsNodeOf, kind_of}, Links.{name_of, same_node}, Slots.{count_of, same_side}, WorldStep.Site}
 use Rattle.rb_queue.specs.Waiting.{Held}
-use Rattle.rb_world.specs.Sites.{KeptSite, number_of as number_at}
-use Rattle.rb_laws_sweeps.specs.AheadOf.{until_tick}
-use Rattle.rb_laws_sweeps.specs.Told.{Told, heard}
-use Rattle.rb_laws_sweeps.proofs.Calls.{at-any-time}
-use Rattle.rb_laws_sweeps.proofs.Hearing.{hears-none}
-use Rattle.rb_laws_sweeps.proofs.Telling.{same-named}
+use Rattle.rb_world.specs.{Sites.{KeptSite, number_of as number_at}, Observing.{WasTold, left_at, left_below, left_for}, Trailing.swept_first}
+use Rattle.rb_laws_sweeps.specs.{AheadOf.until_tick, Told.{Told, heard}}
+use Rattle.rb_laws_sweeps.proofs.{Calls.at-any-time, Hearing.hears-none, Telling.same-named}
 use Rattle.rb_world_traffic.specs.Arriving.{number_of}
-use Rattle.rb_world.specs.Observing.{WasTold, left_at, left_below, left_for}
-use Rattle.rb_world.specs.Trailing.{swept_first}
-use Rattle.rb_world.proofs.CaughtUp.{CatchMay, first-other}
-use Rattle.rb_world.proofs.ToldOn.{same-name}
-use Rattle.rb_world.proofs.Going.{name-is}
+use Rattle.rb_world.proofs.{CaughtUp.{CatchMay, first-other}, ToldOn.same-name, Going.name-is}
+use Rattle.rb_base.specs.declared.node.NodeName.TheVariants as node
 
 -- One node.
 

@@ -1,10 +1,9 @@
 -- A mask changes nothing but what a drive that is not plain may change.
 use Rattle.std.proofs.Common.{◌≡◌, Bool, true, false, IsTrue, List, [], ◌∷◌, is_some, map, not, refl, ap}
 use Rattle.rb_rules.specs.declared.record.SlotLine.{SlotLine}
-use Rattle.rb_world_book.specs.Records.{record_of}
-use Rattle.rb_world_book.specs.declared.turn.Turn.{Turn}
-use Rattle.rb_world_book.specs.declared.turn.Turn.TheVariants as turn
+use Rattle.rb_world_book.specs.{Records.record_of, declared.turn.Turn.Turn}
 use Rattle.rb_world.specs.Driving.{bare, given_for, masked, without_value}
+use Rattle.rb_world_book.specs.declared.turn.Turn.TheVariants as turn
 
 masked-lines : (ls : List SlotLine) → map without_value (map without_value ls) ≡ map without_value ls
 masked-lines [] = refl

@@ -1,17 +1,10 @@
 -- Steps up to the next record.
-use Rattle.std.proofs.Common.{◌≡◌, ℕ, zero, suc, ◌+◌, ◌^◌, ◌<◌, inl, inr, true, None, is_some, length, refl, sym, ap, ◌∙◌, subst, arith}
-use Rattle.std.proofs.lemmas.Bool.{cases_lt}
-use Rattle.rb_rules.specs.Goodness.{Scenario}
-use Rattle.rb_rules.specs.WorldStep.{World, due_of, go_on, take}
-use Rattle.rb_world_book.specs.Records.{record_of}
-use Rattle.rb_world_book.specs.declared.turn.Turn.{Turn}
-use Rattle.rb_world_book.specs.declared.turn.Turn.TheVariants as shown
-use Rattle.rb_world.specs.declared.ties.Seeding.{Seeding}
-use Rattle.rb_world.specs.declared.ties.Ties.{Ties}
-use Rattle.rb_world.specs.Nexts.{GoesToNext, IsNext, RunsOn, Standing, TakesStep, TakesSteps, after_steps, begun_with, drawn, place_among, step, step_among}
-use Rattle.rb_world.specs.Turning.{Gives}
-use Rattle.rb_world.specs.Worlds.{KeptWorld, Stands}
+use Rattle.std.proofs.{Common.{◌≡◌, ℕ, zero, suc, ◌+◌, ◌^◌, ◌<◌, inl, inr, true, None, is_some, length, refl, sym, ap, ◌∙◌, subst, arith}, lemmas.Bool.cases_lt}
+use Rattle.rb_rules.specs.{Goodness.Scenario, WorldStep.{World, due_of, go_on, take}}
+use Rattle.rb_world_book.specs.{Records.record_of, declared.turn.Turn.Turn}
+use Rattle.rb_world.specs.{declared.ties.Seeding.Seeding, declared.ties.Ties.Ties, Nexts.{GoesToNext, IsNext, RunsOn, Standing, TakesStep, TakesSteps, after_steps, begun_with, drawn, place_among, step, step_among}, Turning.Gives, Worlds.{KeptWorld, Stands}}
 use Rattle.rb_world.proofs.Steps.{few-steps}
+use Rattle.rb_world_book.specs.declared.turn.Turn.TheVariants as shown
 
 -- One step.
 

@@ -4,32 +4,13 @@
 -- `alike-last`, that both are the last of a run or neither is). `take-in-rounds` is about an event
 -- that is taken.
 use Rattle.std.proofs.Common.{◌≡◌, ℕ, zero, suc, ◌<◌, ◌≤◌, ◌||◌, inl, inr, Bool, true, false, Option, Some, None, is_some, List, [], ◌∷◌, ◌++◌, flat_map, length, slice_get, refl, sym, ap, ◌∙◌, subst, arith}
-use Rattle.rb_rules.specs.Book.{Record, in_order}
-use Rattle.rb_rules.specs.Goodness.{Scenario}
-use Rattle.rb_rules.specs.Lawful.{IsLawful}
-use Rattle.rb_rules.specs.Rounds.{records_of}
-use Rattle.rb_rules.specs.WorldStep.{Due, World, due_at, due_of, go_on, least, needs_no_event, take, times_of}
-use Rattle.rb_rules.specs.WorldStep.Choice.{GoOn, Take}
-use Rattle.rb_rules.specs.WorldStep.Way.{ByItself}
-use Rattle.rb_world_book.specs.Records.{record_of}
-use Rattle.rb_world_book.specs.declared.turn.Turn.{Turn}
-use Rattle.rb_world_book.specs.declared.turn.Turn.TheVariants as shown
+use Rattle.rb_rules.specs.{Book.{Record, in_order}, Goodness.Scenario, Lawful.IsLawful, Rounds.records_of, WorldStep.{Due, World, due_at, due_of, go_on, least, needs_no_event, take, times_of}, WorldStep.Choice.{GoOn, Take}, WorldStep.Way.ByItself}
+use Rattle.rb_world_book.specs.{Records.record_of, declared.turn.Turn.Turn}
 use Rattle.rb_laws_events.specs.Laws.{IsNextTurn}
-use Rattle.rb_laws_events.proofs.EventsHold.{events-hold, turns-hold}
-use Rattle.rb_laws_events.proofs.GivenAlone.{go-on-is}
-use Rattle.rb_laws_events.proofs.OneTake.{settle-hands, take-hands}
-use Rattle.rb_laws_events.proofs.RoundNodes.{item-at}
-use Rattle.rb_world.specs.declared.ties.Ties.{Ties}
-use Rattle.rb_world.specs.declared.ties.Ties.TheVariants.{First}
-use Rattle.rb_world.specs.Driving.{GoesAlike, bare}
-use Rattle.rb_world.specs.Nexts.{GoesToNext, IsNext, Standing, after_steps, drawn, is_last, place_among, step, step_among}
-use Rattle.rb_world.specs.Numbering.{GivesInRounds, GoesInRounds, IsNextRecord, TakesInRounds}
-use Rattle.rb_world.specs.Turning.{Gives}
-use Rattle.rb_world.specs.Worlds.{IsReached, KeptWorld, Stands}
-use Rattle.rb_world.proofs.GoingOn.{ended-stays}
-use Rattle.rb_world.proofs.LastTurn.{reached-ended, reached-gave}
-use Rattle.rb_world.proofs.Steps.{place-below}
-use Rattle.rb_world.proofs.Turns.{reached-more}
+use Rattle.rb_laws_events.proofs.{EventsHold.{events-hold, turns-hold}, GivenAlone.go-on-is, OneTake.{settle-hands, take-hands}, RoundNodes.item-at}
+use Rattle.rb_world.specs.{declared.ties.Ties.Ties, declared.ties.Ties.TheVariants.First, Driving.{GoesAlike, bare}, Nexts.{GoesToNext, IsNext, Standing, after_steps, drawn, is_last, place_among, step, step_among}, Numbering.{GivesInRounds, GoesInRounds, IsNextRecord, TakesInRounds}, Turning.Gives, Worlds.{IsReached, KeptWorld, Stands}}
+use Rattle.rb_world.proofs.{GoingOn.ended-stays, LastTurn.{reached-ended, reached-gave}, Steps.place-below, Turns.reached-more}
+use Rattle.rb_world_book.specs.declared.turn.Turn.TheVariants as shown
 
 -- One call.
 

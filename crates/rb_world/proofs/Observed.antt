@@ -1,22 +1,11 @@
 -- What is told to an observer.
-use Rattle.std.proofs.Common.{◌≡◌, ℕ, List, [], ◌∷◌, ◌++◌, refl, sym, ◌∙◌, subst, arith, Some, slice_get}
-use Rattle.std.proofs.lemmas.Option.{same_Some}
-use Rattle.rb_base.specs.Nodes.{Side}
-use Rattle.rb_base.specs.declared.event.Event.{Event}
-use Rattle.rb_base.specs.declared.node.NodeName.{NodeName}
-use Rattle.rb_rules.specs.Goodness.{Scenario}
-use Rattle.rb_rules.specs.Hearing.{Coming}
-use Rattle.rb_rules.specs.Links.{name_of}
-use Rattle.rb_rules.specs.Ports.{PortState}
-use Rattle.rb_rules.specs.WorldStep.{Pending, Site, event_of}
+use Rattle.std.proofs.{Common.{◌≡◌, ℕ, List, [], ◌∷◌, ◌++◌, refl, sym, ◌∙◌, subst, arith, Some, slice_get}, lemmas.Option.same_Some}
+use Rattle.rb_base.specs.{Nodes.Side, declared.event.Event.Event, declared.node.NodeName.NodeName}
+use Rattle.rb_rules.specs.{Goodness.Scenario, Hearing.Coming, Links.name_of, Ports.PortState, WorldStep.{Pending, Site, event_of}, Book.Each}
 use Rattle.rb_queue.specs.Waiting.{Held, lane_of}
-use Rattle.rb_rules.specs.Book.{Each}
-use Rattle.rb_world.specs.Sites.{KeptSite, Stands as StandsFor, number_of}
+use Rattle.rb_world.specs.{Sites.{KeptSite, Stands as StandsFor, number_of}, Observing.WasTold, Showing.MayShowArrival, Steps.CanHear}
 use Rattle.rb_world.proofs.Standing.{passing-most}
 use Rattle.rb_laws_sweeps.specs.Told.{Told, telling}
-use Rattle.rb_world.specs.Observing.{WasTold}
-use Rattle.rb_world.specs.Showing.{MayShowArrival}
-use Rattle.rb_world.specs.Steps.{CanHear}
 
 -- One event.
 

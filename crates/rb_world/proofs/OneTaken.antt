@@ -1,22 +1,12 @@
 -- One event of a sweep is taken.
 use Rattle.std.proofs.Common.{◌≡◌, ℕ, ◌<◌, ◌≤◌, ◌++◌, ◌∷◌, List, min, map, Option, Some, None, slice_get, refl, sym, ap, subst, ◌∙◌, arith, inl, inr}
 use Rattle.std.specs.Prelude.{option_map, option_to_list, unwrap_or}
-use Rattle.rb_base.specs.Nodes.{Side}
-use Rattle.rb_base.specs.declared.event.Event.{Event}
-use Rattle.rb_base.specs.declared.node.NodeName.{NodeName}
-use Rattle.rb_rules.specs.Book.{Each}
-use Rattle.rb_rules.specs.Goodness.{Scenario}
-use Rattle.rb_rules.specs.Hearing.{Coming}
-use Rattle.rb_rules.specs.Links.{name_of}
-use Rattle.rb_rules.specs.WorldStep.{Site, at_node, least}
-use Rattle.rb_queue.specs.Waiting.{HasLane, Held, IsFirstBefore, IsReadyBefore, IsTickReady, event_with, head_of, lane_of, ready_event, tick_time_of, with_lane, without_found, without_place, without_ready, without_tick}
-use Rattle.rb_queue.specs.Waiting.Ready.{Comes, Ticks}
-use Rattle.rb_world_agenda.specs.Agenda.{key_of}
-use Rattle.rb_world_agenda.specs.Holding.{coming_with}
-use Rattle.rb_world.specs.Sites.{KeptSite}
-use Rattle.rb_world.specs.Trailing.{TakesArrival, TakesTick}
-use Rattle.rb_world.proofs.Swept.{SweepsOn}
-use Rattle.rb_world.proofs.Taken.{IsTaken, arrival-taken, is-taken, tick-taken}
+use Rattle.rb_base.specs.{Nodes.Side, declared.event.Event.Event, declared.node.NodeName.NodeName}
+use Rattle.rb_rules.specs.{Book.Each, Goodness.Scenario, Hearing.Coming, Links.name_of, WorldStep.{Site, at_node, least}}
+use Rattle.rb_queue.specs.{Waiting.{HasLane, Held, IsFirstBefore, IsReadyBefore, IsTickReady, event_with, head_of, lane_of, ready_event, tick_time_of, with_lane, without_found, without_place, without_ready, without_tick}, Waiting.Ready.{Comes, Ticks}}
+use Rattle.rb_world_agenda.specs.{Agenda.key_of, Holding.coming_with}
+use Rattle.rb_world.specs.{Sites.KeptSite, Trailing.{TakesArrival, TakesTick}}
+use Rattle.rb_world.proofs.{Swept.SweepsOn, Taken.{IsTaken, arrival-taken, is-taken, tick-taken}}
 
 -- the first event at the node comes before the time, and is `event`
 pub record ComesFirst (me : Side) (i until : ℕ) (lanes : Each Held) (name : NodeName) (time : ℕ) (event : Event) : Type 0 where

@@ -1,20 +1,10 @@
 -- A node that goes on is as in the world.
-use Rattle.std.proofs.Common.{◌≡◌, ℕ, Bool, true, false, Some, None, List, [], slice_get, refl, sym, ap, ◌∙◌, subst}
-use Rattle.std.proofs.lemmas.Option.{same_Some}
-use Rattle.rb_base.specs.Nodes.{Side, other}
-use Rattle.rb_base.specs.Nodes.Side.{Biu, Rmu}
-use Rattle.rb_rules.specs.Book.{Each, of_kind}
-use Rattle.rb_rules.specs.Goodness.{Scenario, is_good}
-use Rattle.rb_rules.specs.Hearing.{Coming, Span}
-use Rattle.rb_rules.specs.Links.{name_of}
-use Rattle.rb_rules.specs.WorldStep.{Site, World, await, enter, proceed, says_in, span_from, stop}
+use Rattle.std.proofs.{Common.{◌≡◌, ℕ, Bool, true, false, Some, None, List, [], slice_get, refl, sym, ap, ◌∙◌, subst}, lemmas.Option.same_Some}
+use Rattle.rb_base.specs.{Nodes.{Side, other}, Nodes.Side.{Biu, Rmu}}
+use Rattle.rb_rules.specs.{Book.{Each, of_kind}, Goodness.{Scenario, is_good}, Hearing.{Coming, Span}, Links.name_of, WorldStep.{Site, World, await, enter, proceed, says_in, span_from, stop}}
 use Rattle.rb_queue.specs.Waiting.{Held, with_lane}
-use Rattle.rb_world.specs.Sites.{KeptSite}
-use Rattle.rb_world.proofs.Standing.{awaits, stops}
-use Rattle.rb_world.specs.declared.scene.Scene.{Scene}
-use Rattle.rb_world.specs.Steps.{IsAt, Proceeds, moved}
-use Rattle.rb_world.specs.Worlds.{IsNode, Surrounds}
-use Rattle.rb_world.proofs.Sites.{at-same}
+use Rattle.rb_world.specs.{Sites.KeptSite, declared.scene.Scene.Scene, Steps.{IsAt, Proceeds, moved}, Worlds.{IsNode, Surrounds}}
+use Rattle.rb_world.proofs.{Standing.{awaits, stops}, Sites.at-same}
 
 -- What it does.
 

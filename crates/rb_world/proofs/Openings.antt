@@ -1,21 +1,12 @@
 -- What there is before any node begins.
-use Rattle.std.proofs.Common.{◌≡◌, ℕ, zero, suc, ◌+◌, ◌<◌, ◌⊎◌, Some, List, [], ◌∷◌, ◌++◌, length, map, slice_get, refl, sym, ap, ◌∙◌, subst, arith, inl, inr, length-append}
+use Rattle.std.proofs.{Common.{◌≡◌, ℕ, zero, suc, ◌+◌, ◌<◌, ◌⊎◌, Some, List, [], ◌∷◌, ◌++◌, length, map, slice_get, refl, sym, ap, ◌∙◌, subst, arith, inl, inr, length-append}, lemmas.Option.{same_Some, slice_get_within}, lemmas.Option.slice_get-map, lemmas.List.FromFn.length-map-range_with_len}
 use Rattle.std.specs.Prelude.{get_or, option_map}
-use Rattle.std.proofs.lemmas.Option.{same_Some, slice_get_within}
-use Rattle.rb_base.specs.Counting.{numbers}
-use Rattle.rb_base.specs.Nodes.{Side}
+use Rattle.rb_base.specs.{Counting.numbers, Nodes.Side}
 use Rattle.rb_base.proofs.Plain.{none_not_some}
-use Rattle.rb_rules.specs.Goodness.{Scenario}
-use Rattle.rb_rules.specs.Hearing.{port_at}
-use Rattle.rb_rules.specs.Ports.{fresh_port}
-use Rattle.rb_rules.specs.Slots.{count_of}
+use Rattle.rb_rules.specs.{Goodness.Scenario, Hearing.port_at, Ports.fresh_port, Slots.count_of}
 use Rattle.rb_rules.proofs.WindowNumbers.{get-number}
-use Rattle.std.proofs.lemmas.Option.{slice_get-map}
-use Rattle.std.proofs.lemmas.List.FromFn.{length-map-range_with_len}
 use Rattle.rb_port.specs.Keeping.{HoldsPort, KeptPort}
-use Rattle.rb_world.specs.Sites.{KeptSite}
-use Rattle.rb_world.specs.Openings.{AreFresh, IsFresh}
-use Rattle.rb_world.specs.Worlds.{HoldsPorts}
+use Rattle.rb_world.specs.{Sites.KeptSite, Openings.{AreFresh, IsFresh}, Worlds.HoldsPorts}
 
 -- an item of a list with one more was there, or is the new one
 pushed : {X : Type 0} (xs : List X) (y : X) (i : ℕ) (x : X) → slice_get (xs ++ y ∷ []) i ≡ Some x → (slice_get xs i ≡ Some x) ⊎ ((i ≡ length xs) × (x ≡ y))

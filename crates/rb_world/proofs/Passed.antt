@@ -1,12 +1,7 @@
 -- The next tick that is not quiet, when ticks pass up to it.
-use Rattle.std.proofs.Common.{◌≡◌, ℕ, zero, suc, ◌+◌, ◌-◌, ◌<◌, ◌≤◌, ◌^◌, Bool, true, false, Some, None, Option, refl, sym, ap, ◌∙◌, arith, inl, inr}
-use Rattle.std.proofs.lemmas.Bool.{cases_lt, true≢false}
-use Rattle.rb_base.specs.Nodes.{Side}
-use Rattle.rb_base.specs.Sizes.{Sizes}
-use Rattle.rb_rules.specs.Core.{Core, busy_among, is_busy, next_tick, pass_to}
-use Rattle.rb_rules.specs.Goodness.{Scenario}
-use Rattle.rb_rules.specs.NodeState.{NodeState}
-use Rattle.rb_rules.specs.declared.plan.Plan.{Plan}
+use Rattle.std.proofs.{Common.{◌≡◌, ℕ, zero, suc, ◌+◌, ◌-◌, ◌<◌, ◌≤◌, ◌^◌, Bool, true, false, Some, None, Option, refl, sym, ap, ◌∙◌, arith, inl, inr}, lemmas.Bool.{cases_lt, true≢false}}
+use Rattle.rb_base.specs.{Nodes.Side, Sizes.Sizes}
+use Rattle.rb_rules.specs.{Core.{Core, busy_among, is_busy, next_tick, pass_to}, Goodness.Scenario, NodeState.NodeState, declared.plan.Plan.Plan}
 use Rattle.rb_rules.proofs.QuietTicks.{IsNext, next-is, passed-next}
 
 -- the search finds the first that is not quiet

@@ -1,58 +1,19 @@
 -- A node that has taken in unstamped what came to it up to its tick may take that tick.
-use Rattle.std.proofs.Common.{◌≡◌, ℕ, true, ◌+◌, ◌^◌, ◌<◌, ◌≤◌, ◌++◌, Some, List, [], ◌∷◌, filter, map, slice_get, refl, sym, ap, ◌∙◌, subst, arith}
+use Rattle.std.proofs.{Common.{◌≡◌, ℕ, true, ◌+◌, ◌^◌, ◌<◌, ◌≤◌, ◌++◌, Some, List, [], ◌∷◌, filter, map, slice_get, refl, sym, ap, ◌∙◌, subst, arith}, lemmas.List.Elements.{All-append, All-cons, All-nil}, lemmas.Option.same_Some}
 use Rattle.std.specs.Prelude.{All, nat_le, nat_lt, slice_set}
-use Rattle.std.proofs.lemmas.List.Elements.{All-append, All-cons, All-nil}
-use Rattle.std.proofs.lemmas.Option.{same_Some}
-use Rattle.rb_base.specs.Nodes.{Side, other}
-use Rattle.rb_base.specs.Sizes.{Sizes, sync_slot_of}
-use Rattle.rb_base.specs.declared.node.NodeName.{NodeName}
-use Rattle.rb_rules.specs.declared.plan.Plan.{Plan}
-use Rattle.rb_rules.specs.Book.{Each, of_kind}
-use Rattle.rb_rules.specs.Clock.{time_of}
-use Rattle.rb_rules.specs.Core.{Core, is_last, next_tick, of_source, state_at, window_here}
-use Rattle.rb_rules.specs.Goodness.{Scenario, clock_of}
-use Rattle.rb_rules.specs.Hearing.{Coming}
-use Rattle.rb_rules.specs.Links.{name_of}
-use Rattle.rb_rules.specs.NodeState.{NodeState}
-use Rattle.rb_rules.specs.Slots.{count_of}
-use Rattle.rb_rules.specs.Sense.{Arrival}
-use Rattle.rb_rules.specs.WorldStep.{Site, Timed, World, after_arrival, at_node, coming_from, happens, pass_and_tick}
-use Rattle.rb_rules.specs.WorldStep.Pending.{Tick}
+use Rattle.rb_base.specs.{Nodes.{Side, other}, Sizes.{Sizes, sync_slot_of}, declared.node.NodeName.NodeName}
+use Rattle.rb_rules.specs.{declared.plan.Plan.Plan, Book.{Each, of_kind}, Clock.time_of, Core.{Core, is_last, next_tick, of_source, state_at, window_here}, Goodness.{Scenario, clock_of}, Hearing.Coming, Links.name_of, NodeState.NodeState, Slots.count_of, Sense.Arrival, WorldStep.{Site, Timed, World, after_arrival, at_node, coming_from, happens, pass_and_tick}, WorldStep.Pending.Tick}
 use Rattle.rb_laws_synchrony.proofs.Times.{stamp_to}
-use Rattle.rb_laws_events.proofs.SameHeard.{Every}
+use Rattle.rb_laws_events.proofs.{SameHeard.Every, BreakPorts.arrival-had, DueEvents.every-weaker, Receiving.{every-stands, every-without}}
 use Rattle.rb_queue.specs.Waiting.{HasLane, Held, lane_of, with_lane, without_before, without_tick}
 use Rattle.rb_world_agenda.specs.Holding.{HoldsSite, HoldsSites}
-use Rattle.rb_world_agenda.proofs.Changes.{holds-at}
-use Rattle.rb_world_agenda.proofs.Keeping.{has-with}
-use Rattle.rb_node.specs.Cores.{next_of}
-use Rattle.rb_node.specs.Ends.{EndsExactWindow}
+use Rattle.rb_world_agenda.proofs.{Changes.holds-at, Keeping.has-with}
+use Rattle.rb_node.specs.{Cores.next_of, Ends.EndsExactWindow}
 use Rattle.rb_slot.specs.Engines.{Seated}
-use Rattle.rb_world.specs.Sites.{AreAlike, IsHeardAlike, KeptSite, Stands as StandsFor, number_of}
-use Rattle.rb_world.specs.Sites.AreAlike.{Nothing, Several, Single}
-use Rattle.rb_world.proofs.SitesAlike.{heard-alike}
-use Rattle.rb_laws_sweeps.specs.Brought.{Brings, CameTogether, IsHeardIfDue, due_from}
-use Rattle.rb_laws_sweeps.specs.Stamps.{stamped_anew}
-use Rattle.rb_laws_sweeps.specs.Sweeping.{swept}
-use Rattle.rb_laws_sweeps.proofs.Bringing.{sweeps-bring}
-use Rattle.rb_laws_sweeps.proofs.Firsts.{first-stands}
-use Rattle.rb_laws_sweeps.proofs.SentLater.{node-moves}
-use Rattle.rb_laws_sweeps.proofs.StampsOff.{stamps-make-no-difference}
-use Rattle.rb_laws_sweeps.proofs.Sweeps.{all-every, every-all, sweep-of, sweep-stays, sweep-takes}
-use Rattle.rb_laws_events.proofs.BreakPorts.{arrival-had}
-use Rattle.rb_laws_events.proofs.DueEvents.{every-weaker}
-use Rattle.rb_laws_events.proofs.Receiving.{every-stands, every-without}
-use Rattle.rb_world.specs.declared.scene.Scene.{Scene}
-use Rattle.rb_world.specs.Buses.{HaveRooms}
-use Rattle.rb_world.specs.Steps.{MayTick, Ticks, moved}
-use Rattle.rb_world.specs.Trailing.{BehindTick, TakesFirst, alone, bare}
-use Rattle.rb_world.specs.Unstamped.{EndsExactly, MayTakeExactly, TakenUp, bare_with, due_before, taken_all}
-use Rattle.rb_world.specs.Worlds.{AreNodes, IsNode}
-use Rattle.rb_world.proofs.Behind.{in-time, node-of}
-use Rattle.rb_world.proofs.Lanes.{has-lane, lane-holds, node-named, rooms-with}
-use Rattle.rb_world.proofs.Ready.{next-due}
-use Rattle.rb_world.proofs.TakenIn.{ShowAlike, Taken, due-node, every-filter, first_stamp, restamped-source, restamped-sources, shows-alike, sole-alike, stamped, stamps_in, taken, with_stamp}
-use Rattle.rb_world.proofs.TakenIn.ShowAlike.{many, none, one}
-use Rattle.rb_world.proofs.Unstamped.{Readied, may-tick-with, takes-with}
+use Rattle.rb_world.specs.{Sites.{AreAlike, IsHeardAlike, KeptSite, Stands as StandsFor, number_of}, Sites.AreAlike.{Nothing, Several, Single}, declared.scene.Scene.Scene, Buses.HaveRooms, Steps.{MayTick, Ticks, moved}, Trailing.{BehindTick, TakesFirst, alone, bare}, Unstamped.{EndsExactly, MayTakeExactly, TakenUp, bare_with, due_before, taken_all}, Worlds.{AreNodes, IsNode}}
+use Rattle.rb_world.proofs.{SitesAlike.heard-alike, Behind.{in-time, node-of}, Lanes.{has-lane, lane-holds, node-named, rooms-with}, Ready.next-due, TakenIn.{ShowAlike, Taken, due-node, every-filter, first_stamp, restamped-source, restamped-sources, shows-alike, sole-alike, stamped, stamps_in, taken, with_stamp}, TakenIn.ShowAlike.{many, none, one}, Unstamped.{Readied, may-tick-with, takes-with}}
+use Rattle.rb_laws_sweeps.specs.{Brought.{Brings, CameTogether, IsHeardIfDue, due_from}, Stamps.stamped_anew, Sweeping.swept}
+use Rattle.rb_laws_sweeps.proofs.{Bringing.sweeps-bring, Firsts.first-stands, SentLater.node-moves, StampsOff.stamps-make-no-difference, Sweeps.{all-every, every-all, sweep-of, sweep-stays, sweep-takes}}
 
 -- What a sweep does not lessen.
 

@@ -1,41 +1,19 @@
 -- A tick that is due may be taken.
-use Rattle.std.proofs.Common.{◌≡◌, ℕ, zero, suc, ◌+◌, ◌-◌, ◌<◌, ◌≤◌, ◌^◌, Bool, true, false, Some, None, Option, List, [], ◌∷◌, ◌++◌, length, map, slice_get, refl, sym, ap, ◌∙◌, subst, arith, inl, inr, length-append}
+use Rattle.std.proofs.{Common.{◌≡◌, ℕ, zero, suc, ◌+◌, ◌-◌, ◌<◌, ◌≤◌, ◌^◌, Bool, true, false, Some, None, Option, List, [], ◌∷◌, ◌++◌, length, map, slice_get, refl, sym, ap, ◌∙◌, subst, arith, inl, inr, length-append}, lemmas.Bool.cases_lt}
 use Rattle.std.specs.Prelude.{option_map, option_to_list}
-use Rattle.std.proofs.lemmas.Bool.{cases_lt}
-use Rattle.rb_base.specs.Nodes.{Side, other}
-use Rattle.rb_base.specs.declared.event.Event.{Event}
-use Rattle.rb_base.specs.declared.event.EventKind.{EventKind}
-use Rattle.rb_base.specs.declared.event.EventKind.TheVariants as kind
-use Rattle.rb_base.specs.declared.node.NodeName.{NodeName}
-use Rattle.rb_rules.specs.Book.{Each, of_kind}
-use Rattle.rb_rules.specs.Clock.{time_of}
-use Rattle.rb_rules.specs.Core.{busy_among, next_tick}
-use Rattle.rb_rules.specs.Goodness.{Scenario, clock_of}
-use Rattle.rb_rules.specs.Hearing.{Coming}
-use Rattle.rb_rules.specs.Lawful.{kind_of}
-use Rattle.rb_rules.specs.Links.{name_of}
-use Rattle.rb_rules.specs.Slots.{count_of}
-use Rattle.rb_rules.specs.WorldStep.{Due, Pending as Waits, Site, Timed, World, due_of, pass_and_tick, times_of}
-use Rattle.rb_rules.specs.WorldStep.Pending.{Tick, Arrival}
+use Rattle.rb_base.specs.{Nodes.{Side, other}, declared.event.Event.Event, declared.event.EventKind.EventKind, declared.node.NodeName.NodeName}
+use Rattle.rb_rules.specs.{Book.{Each, of_kind}, Clock.time_of, Core.{busy_among, next_tick}, Goodness.{Scenario, clock_of}, Hearing.Coming, Lawful.kind_of, Links.name_of, Slots.count_of, WorldStep.{Due, Pending as Waits, Site, Timed, World, due_of, pass_and_tick, times_of}, WorldStep.Pending.{Tick, Arrival}}
 use Rattle.rb_rules.proofs.QuietTicks.{IsNext, next-is}
 use Rattle.rb_world_agenda.specs.Holding.{Shows, without_waiting}
 use Rattle.rb_world_agenda.proofs.Which.{has-item}
-use Rattle.rb_laws_events.proofs.DueEvents.{IsDue, due-is}
-use Rattle.rb_laws_events.proofs.WorldNodes.{worlds-known}
+use Rattle.rb_laws_events.proofs.{DueEvents.{IsDue, due-is}, WorldNodes.worlds-known, WorldStands.not-other, SameHeard.Every}
 use Rattle.rb_laws_events.specs.PendingEvents.{most_pending}
-use Rattle.rb_laws_events.proofs.WorldStands.{not-other}
 use Rattle.rb_queue.specs.Waiting.{lane_of, spare_of}
-use Rattle.rb_laws_events.proofs.SameHeard.{Every}
-use Rattle.rb_world.specs.Sites.{KeptSite, number_of as number_of_kept}
+use Rattle.rb_world.specs.{Sites.{KeptSite, number_of as number_of_kept}, declared.scene.Scene.Scene, Steps.{MayHappen, MayTick, moved}, Worlds.{Awaits, IsReached, Surrounds}}
 use Rattle.rb_world_traffic.specs.Arriving.{number_of}
 use Rattle.rb_world_traffic.proofs.Says.{number-of}
-use Rattle.rb_world.specs.declared.scene.Scene.{Scene}
-use Rattle.rb_world.specs.Steps.{MayHappen, MayTick, moved}
-use Rattle.rb_world.specs.Worlds.{Awaits, IsReached, Surrounds}
-use Rattle.rb_world.proofs.Lanes.{has-lane, kind-named, node-named, spare-at}
-use Rattle.rb_world.proofs.Entering.{changed-there}
-use Rattle.rb_world.proofs.Room.{fits-reached, spans-reached}
-use Rattle.rb_world.proofs.Sites.{counts-one, from-map, was-there}
+use Rattle.rb_world.proofs.{Lanes.{has-lane, kind-named, node-named, spare-at}, Entering.changed-there, Room.{fits-reached, spans-reached}, Sites.{counts-one, from-map, was-there}}
+use Rattle.rb_base.specs.declared.event.EventKind.TheVariants as kind
 
 -- an event that is shown as a tick is a tick
 tick-shown : (p : Waits) (k : EventKind) (word : ℕ) (wanted : Bool) → Shows p k → k ≡ kind.Tick word wanted → (n : ℕ) × (p ≡ Tick n)

@@ -1,27 +1,12 @@
 -- Room for what is pending, and for windows that start: the laws, at the worlds that some choices
 -- lead to.
-use Rattle.std.proofs.Common.{◌≡◌, ℕ, ◌+◌, ◌^◌, ◌<◌, ◌≤◌, sym, ◌∙◌, ap, subst, arith, List}
-use Rattle.std.proofs.lemmas.Option.{same_Some}
+use Rattle.std.proofs.{Common.{◌≡◌, ℕ, ◌+◌, ◌^◌, ◌<◌, ◌≤◌, sym, ◌∙◌, ap, subst, arith, List}, lemmas.Option.same_Some}
 use Rattle.rb_base.specs.Nodes.{Side}
-use Rattle.rb_rules.specs.Core.{Act, pass_to}
-use Rattle.rb_rules.specs.Entries.{IsListed}
-use Rattle.rb_rules.specs.Goodness.{Scenario}
-use Rattle.rb_rules.specs.Lawful.{IsLawful}
-use Rattle.rb_rules.specs.WorldStep.{Choice, Due, Site, World, pass_and_tick, world_after}
-use Rattle.rb_rules.specs.WorldStep.Pending.{Tick}
-use Rattle.rb_laws_events.proofs.DueEvents.{IsDue}
-use Rattle.rb_laws_events.proofs.EventsHold.{any, ticks-left}
-use Rattle.rb_laws_events.proofs.EveryWorld.{due-going}
-use Rattle.rb_laws_events.proofs.FewPending.{pending-few}
-use Rattle.rb_laws_events.proofs.OneEvent.{all-pend}
-use Rattle.rb_laws_events.proofs.RunsEnd.{HasTicksLeft}
-use Rattle.rb_laws_events.proofs.Takes.{tick-had}
-use Rattle.rb_laws_events.proofs.WorldNodes.{events-due}
-use Rattle.rb_laws_events.proofs.WorldStands.{AllPend}
+use Rattle.rb_rules.specs.{Core.{Act, pass_to}, Entries.IsListed, Goodness.Scenario, Lawful.IsLawful, WorldStep.{Choice, Due, Site, World, pass_and_tick, world_after}, WorldStep.Pending.Tick}
+use Rattle.rb_laws_events.proofs.{DueEvents.IsDue, EventsHold.{any, ticks-left}, EveryWorld.due-going, FewPending.pending-few, OneEvent.all-pend, RunsEnd.HasTicksLeft, Takes.tick-had, WorldNodes.events-due, WorldStands.AllPend}
 use Rattle.rb_laws_events.specs.PendingEvents.{EventsFit, TakesTick}
 use Rattle.rb_world.proofs.Spans.{spans-by}
-use Rattle.rb_world.specs.Steps.{SpansFit}
-use Rattle.rb_world.specs.Worlds.{IsReached}
+use Rattle.rb_world.specs.{Steps.SpansFit, Worlds.IsReached}
 
 pub fits : (sc : Scenario) → IsLawful sc → IsListed sc → (choices : List Choice) → EventsFit sc (world_after sc choices)
 fits = pending-few

@@ -1,40 +1,15 @@
 -- A run from tick to tick, as it is done in parts.
 use Rattle.std.proofs.Common.{◌≡◌, ℕ, ◌^◌, ◌<◌, ◌||◌, true, false, Some, None, Option, List, is_some, length, refl, sym, ap, ◌∙◌, subst, arith}
-use Rattle.rb_base.specs.Nodes.{Side}
-use Rattle.rb_base.specs.Nodes.Side.{Biu, Rmu}
-use Rattle.rb_base.specs.Sizes.{Sizes}
-use Rattle.rb_base.specs.declared.node.NodeName.{NodeName}
-use Rattle.rb_base.specs.declared.node.NodeName.TheVariants as node
-use Rattle.rb_rules.specs.Book.{Each, Record, of_kind}
-use Rattle.rb_rules.specs.Entries.{IsListed}
-use Rattle.rb_rules.specs.Goodness.{Scenario}
-use Rattle.rb_rules.specs.Lawful.{IsLawful, kind_of}
-use Rattle.rb_rules.specs.Links.{name_of}
-use Rattle.rb_rules.specs.WorldStep.{Site, Timed, World, happens, needs_no_event}
-use Rattle.rb_rules.specs.WorldStep.Pending.{Tick}
-use Rattle.rb_rules.specs.WorldStep.Way.{ByAnEvent}
-use Rattle.rb_world_agenda.specs.Agenda.{IsFirstAhead}
-use Rattle.rb_world_agenda.specs.Holding.{HoldsSites}
-use Rattle.rb_world_book.specs.Records.{record_of}
-use Rattle.rb_world_book.specs.Settling.{Settles}
-use Rattle.rb_world_book.specs.declared.book.Book.{Book as KeptBook}
-use Rattle.rb_world_book.specs.declared.turn.Turn.{Turn}
-use Rattle.rb_world.specs.Sites.{KeptSite}
+use Rattle.rb_base.specs.{Nodes.Side, Nodes.Side.{Biu, Rmu}, Sizes.Sizes, declared.node.NodeName.NodeName}
+use Rattle.rb_rules.specs.{Book.{Each, Record, of_kind}, Entries.IsListed, Goodness.Scenario, Lawful.{IsLawful, kind_of}, Links.name_of, WorldStep.{Site, Timed, World, happens, needs_no_event}, WorldStep.Pending.Tick, WorldStep.Way.ByAnEvent}
+use Rattle.rb_world_agenda.specs.{Agenda.IsFirstAhead, Holding.HoldsSites}
+use Rattle.rb_world_book.specs.{Records.record_of, Settling.Settles, declared.book.Book.Book as KeptBook, declared.turn.Turn.Turn}
+use Rattle.rb_world.specs.{Sites.KeptSite, declared.scene.Scene.Scene, declared.last.Last.Last, declared.ties.Ties.TheVariants.First, Nexts.{RunsOn, Standing, after_steps, is_last}, Worlds.{AreNodes, IsReached, KeptWorld, Stands, last_of}, Trailing.{Along, BehindTick, Comes, ComesToRecord, GoesToTick, HasCaughtUp, MayRun, HappensFirst, MayTakeFirst, MayTickFirst, TakesFirst, TakesFirstAt, alone, until_from}}
 use Rattle.rb_laws_sweeps.specs.AheadOf.{until_tick}
 use Rattle.rb_world_traffic.specs.Arriving.{number_of as number_in}
 use Rattle.rb_queue.specs.Waiting.{Held}
-use Rattle.rb_world.specs.declared.scene.Scene.{Scene}
-use Rattle.rb_world.specs.declared.last.Last.{Last}
-use Rattle.rb_world.specs.declared.ties.Ties.TheVariants.{First}
-use Rattle.rb_world.specs.Nexts.{RunsOn, Standing, after_steps, is_last}
-use Rattle.rb_world.specs.Worlds.{AreNodes, IsReached, KeptWorld, Stands, last_of}
-use Rattle.rb_world.specs.Trailing.{Along, BehindTick, Comes, ComesToRecord, GoesToTick, HasCaughtUp, MayRun, HappensFirst, MayTakeFirst, MayTickFirst, TakesFirst, TakesFirstAt, alone, until_from}
-use Rattle.rb_world.proofs.Along.{along-begins, comes-by-tick, comes-next, going}
-use Rattle.rb_world.proofs.Behind.{first-ahead, node-of, some-first}
-use Rattle.rb_world.proofs.GoneOn.{goes-to-tick, trails-first}
-use Rattle.rb_world.proofs.GoingOn.{ended-stays}
-use Rattle.rb_world.proofs.LastTurn.{reached-ends}
-use Rattle.rb_world.proofs.Steps.{few-steps}
+use Rattle.rb_world.proofs.{Along.{along-begins, comes-by-tick, comes-next, going}, Behind.{first-ahead, node-of, some-first}, GoneOn.{goes-to-tick, trails-first}, GoingOn.ended-stays, LastTurn.reached-ends, Steps.few-steps}
+use Rattle.rb_base.specs.declared.node.NodeName.TheVariants as node
 
 -- Names.
 

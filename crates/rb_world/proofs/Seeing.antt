@@ -1,30 +1,7 @@
 -- A node sees nothing of nodes that are not there.
-use Rattle.std.proofs.Common.{◌≡◌, ℕ, ◌+◌, ◌<◌, ◌≤◌, ◌==◌, ◌&&◌, Bool, true, false, Some, None, Option, All, List, [], ◌∷◌, cond, filter, length, map, get_or, refl, ap, ◌∙◌, subst, arith, inl, inr, if◌then◌else◌}
-use Rattle.std.proofs.lemmas.Bool.{cases_lt}
-use Rattle.std.proofs.lemmas.Bool.Decides.{nat_tests}
-use Rattle.std.proofs.lemmas.List.FromFn.{get_or-map-range_with_len, length-range_with_len}
-use Rattle.std.proofs.lemmas.List.{get_or_past, length-map}
-use Rattle.std.proofs.lemmas.List.Elements.{All-head, All-tail}
-use Rattle.std.proofs.lemmas.Option.{same_Some}
-use Rattle.rb_base.specs.Counting.{numbers}
-use Rattle.rb_base.specs.Nodes.{Side}
-use Rattle.rb_base.specs.Sizes.{Sizes, sync_slot_of}
-use Rattle.rb_base.specs.declared.values.See.{See}
-use Rattle.rb_base.specs.declared.values.See.TheVariants.{Nothing}
-use Rattle.rb_rules.specs.declared.closing.Closed.{Closed}
-use Rattle.rb_rules.specs.declared.message.Message.{Message}
-use Rattle.rb_rules.specs.declared.plan.Plan.{Plan}
-use Rattle.rb_rules.specs.declared.plan.Window.{Window}
-use Rattle.rb_rules.specs.declared.sense.Sense.{Sense}
-use Rattle.rb_rules.specs.Core.{Act, Core, act_at, act_on, epoch_at, is_last, is_spent, of_source, tick, window_here}
-use Rattle.rb_rules.specs.ExactStage.{Outcome, close_exact, each_node, outcome_of, see_value}
-use Rattle.rb_rules.specs.Hearing.{Coming, close_window}
-use Rattle.rb_rules.specs.NodeState.{NodeState, sender_at}
-use Rattle.rb_rules.specs.NodeSteps.{expect_of}
-use Rattle.rb_rules.specs.Sense.{Arrival, sense_of, stamp_in, value_in}
-use Rattle.rb_rules.specs.Slots.{expects, role_of}
-use Rattle.rb_rules.specs.Standing.{Standing, is_eligible, taken_of}
-use Rattle.rb_rules.specs.SyncStage.{close_sync, expects_call, see_time, sync_outcome_of}
+use Rattle.std.proofs.{Common.{◌≡◌, ℕ, ◌+◌, ◌<◌, ◌≤◌, ◌==◌, ◌&&◌, Bool, true, false, Some, None, Option, All, List, [], ◌∷◌, cond, filter, length, map, get_or, refl, ap, ◌∙◌, subst, arith, inl, inr, if◌then◌else◌}, lemmas.Bool.cases_lt, lemmas.Bool.Decides.nat_tests, lemmas.List.FromFn.{get_or-map-range_with_len, length-range_with_len}, lemmas.List.{get_or_past, length-map}, lemmas.List.Elements.{All-head, All-tail}, lemmas.Option.same_Some}
+use Rattle.rb_base.specs.{Counting.numbers, Nodes.Side, Sizes.{Sizes, sync_slot_of}, declared.values.See.See, declared.values.See.TheVariants.Nothing}
+use Rattle.rb_rules.specs.{declared.closing.Closed.Closed, declared.message.Message.Message, declared.plan.Plan.Plan, declared.plan.Window.Window, declared.sense.Sense.Sense, Core.{Act, Core, act_at, act_on, epoch_at, is_last, is_spent, of_source, tick, window_here}, ExactStage.{Outcome, close_exact, each_node, outcome_of, see_value}, Hearing.{Coming, close_window}, NodeState.{NodeState, sender_at}, NodeSteps.expect_of, Sense.{Arrival, sense_of, stamp_in, value_in}, Slots.{expects, role_of}, Standing.{Standing, is_eligible, taken_of}, SyncStage.{close_sync, expects_call, see_time, sync_outcome_of}}
 use Rattle.rb_world.specs.Sites.{ComeTogether}
 
 -- Nothing is accepted from a source from which nothing came.

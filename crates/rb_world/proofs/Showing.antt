@@ -1,41 +1,18 @@
 -- What is due may be shown.
-use Rattle.std.proofs.Common.{◌≡◌, ◌<◌, ◌≤◌, ◌^◌, ◌==◌, ℕ, Bool, true, List, Option, Some, length, slice_get, refl, sym, ap, ◌∙◌, subst, arith}
+use Rattle.std.proofs.{Common.{◌≡◌, ◌<◌, ◌≤◌, ◌^◌, ◌==◌, ℕ, Bool, true, List, Option, Some, length, slice_get, refl, sym, ap, ◌∙◌, subst, arith}, lemmas.Bool.Decides.nat_tests, lemmas.Option.same_Some}
 use Rattle.std.specs.Prelude.{option_and_then, option_map, unwrap_or}
-use Rattle.std.proofs.lemmas.Bool.Decides.{nat_tests}
-use Rattle.std.proofs.lemmas.Option.{same_Some}
 use Rattle.arrayvec.specs.ArrayVec.{ArrayVec}
-use Rattle.rb_base.specs.Nodes.{Side}
-use Rattle.rb_base.specs.declared.event.Event.{Event}
-use Rattle.rb_base.specs.declared.event.EventKind.{EventKind}
-use Rattle.rb_base.specs.declared.event.EventKind.TheVariants as kind
-use Rattle.rb_base.specs.declared.node.NodeName.{NodeName}
-use Rattle.rb_rules.specs.Book.{Each, of_kind}
-use Rattle.rb_rules.specs.Clock.{ComesBy}
-use Rattle.rb_rules.specs.Goodness.{Scenario, clock_of}
-use Rattle.rb_rules.specs.Hearing.{Coming}
-use Rattle.rb_rules.specs.Links.{name_of}
-use Rattle.rb_rules.specs.Ports.{PortState}
-use Rattle.rb_rules.specs.WorldStep.{Due, Pending, Site, Timed, World, at_node, due_of, event_at, event_of}
-use Rattle.rb_rules.specs.WorldStep.Pending.{Tick, Arrival}
-use Rattle.rb_queue.specs.Waiting.{HasLane, Held as Lane, Ready, event_with, lane_of, ready_event, ready_of, with_lane, without_ready}
-use Rattle.rb_queue.specs.Waiting.Ready.{Comes, Ticks}
-use Rattle.rb_world_agenda.specs.Agenda.{IsAtTime, IsDue, StandsAt, Takes, TakesDue, first_time, key_of}
-use Rattle.rb_world_agenda.specs.Holding.{HoldsSite, HoldsSites, Shows, coming_with, due_with, waits_with, without_waiting}
-use Rattle.rb_world_agenda.proofs.Changes.{holds-at}
-use Rattle.rb_world_agenda.proofs.Places.{IsAtHead, IsOf, holds-without, ready-at}
-use Rattle.rb_world_agenda.proofs.Taking.{shows-own}
-use Rattle.rb_world_agenda.proofs.Which.{has-item}
+use Rattle.rb_base.specs.{Nodes.Side, declared.event.Event.Event, declared.event.EventKind.EventKind, declared.node.NodeName.NodeName}
+use Rattle.rb_rules.specs.{Book.{Each, of_kind}, Clock.ComesBy, Goodness.{Scenario, clock_of}, Hearing.Coming, Links.name_of, Ports.PortState, WorldStep.{Due, Pending, Site, Timed, World, at_node, due_of, event_at, event_of}, WorldStep.Pending.{Tick, Arrival}}
+use Rattle.rb_queue.specs.{Waiting.{HasLane, Held as Lane, Ready, event_with, lane_of, ready_event, ready_of, with_lane, without_ready}, Waiting.Ready.{Comes, Ticks}}
+use Rattle.rb_world_agenda.specs.{Agenda.{IsAtTime, IsDue, StandsAt, Takes, TakesDue, first_time, key_of}, Holding.{HoldsSite, HoldsSites, Shows, coming_with, due_with, waits_with, without_waiting}}
+use Rattle.rb_world_agenda.proofs.{Changes.holds-at, Places.{IsAtHead, IsOf, holds-without, ready-at}, Taking.shows-own, Which.has-item}
 use Rattle.rb_node.specs.Cores.{passing_end}
 use Rattle.rb_laws_events.proofs.DueEvents.{IsDue as IsPending}
 use Rattle.rb_port.specs.Keeping.{KeptPort}
-use Rattle.rb_world.specs.Sites.{KeptSite, number_of}
-use Rattle.rb_world.proofs.Standing.{passing-most}
-use Rattle.rb_world.specs.Showing.{IsInTime, IsShownAt, MayShow, MayShowArrival, MayShowTick}
-use Rattle.rb_world.specs.Steps.{MayHappen}
-use Rattle.rb_world.specs.Worlds.{KeptWorld, Stands, due_in}
-use Rattle.rb_world.proofs.Arrivals.{arrival-ready, in-time}
-use Rattle.rb_world.proofs.Chosen.{may-happen}
-use Rattle.rb_world.proofs.Ready.{due-reached, next-due, node-there, tick-of}
+use Rattle.rb_world.specs.{Sites.{KeptSite, number_of}, Showing.{IsInTime, IsShownAt, MayShow, MayShowArrival, MayShowTick}, Steps.MayHappen, Worlds.{KeptWorld, Stands, due_in}}
+use Rattle.rb_world.proofs.{Standing.passing-most, Arrivals.{arrival-ready, in-time}, Chosen.may-happen, Ready.{due-reached, next-due, node-there, tick-of}}
+use Rattle.rb_base.specs.declared.event.EventKind.TheVariants as kind
 
 pub event-same : (a b : NodeName) (m n : ℕ) (x y : EventKind) → a ≡ b → m ≡ n → x ≡ y
     → ◌≡◌ {A = Event} (record { node = a; quiet = m; kind = x }) (record { node = b; quiet = n; kind = y })

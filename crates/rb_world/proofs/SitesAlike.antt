@@ -2,17 +2,11 @@
 -- taken in leaves the next tick.
 use Rattle.std.proofs.Common.{◌≡◌, ℕ, ◌<◌, ◌∙◌, Bool, true, false, List, [], ◌∷◌, length, sym, ap, subst, arith, inr}
 use Rattle.rb_base.specs.Nodes.{Side, has}
-use Rattle.rb_rules.specs.Core.{next_tick, of_source}
-use Rattle.rb_rules.specs.Goodness.{Scenario}
-use Rattle.rb_rules.specs.Sense.{Arrival}
-use Rattle.rb_rules.specs.WorldStep.{Site}
-use Rattle.rb_eligible.specs.Inboxes.{IsKept, KeptArrivals, arrivals_of, sole_at}
-use Rattle.rb_eligible.specs.declared.reading.Sole.{Sole}
-use Rattle.rb_node.specs.Cores.{passing_end, received_of}
-use Rattle.rb_node.specs.Ends.{EndsExactWindow}
+use Rattle.rb_rules.specs.{Core.{next_tick, of_source}, Goodness.Scenario, Sense.Arrival, WorldStep.Site}
+use Rattle.rb_eligible.specs.{Inboxes.{IsKept, KeptArrivals, arrivals_of, sole_at}, declared.reading.Sole.Sole}
+use Rattle.rb_node.specs.{Cores.{passing_end, received_of}, Ends.EndsExactWindow}
 use Rattle.rb_node.proofs.Cores.{arrivals-are}
-use Rattle.rb_world.specs.Sites.{AreAlike, IsHeardAlike, KeptSite, Stands, number_of}
-use Rattle.rb_world.specs.Sites.AreAlike.{Nothing, Single, Several}
+use Rattle.rb_world.specs.{Sites.{AreAlike, IsHeardAlike, KeptSite, Stands, number_of}, Sites.AreAlike.{Nothing, Single, Several}}
 
 -- What an inbox keeps of one source.
 

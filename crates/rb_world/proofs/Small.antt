@@ -1,14 +1,8 @@
 -- The times of ticks that a node may have are small.
-use Rattle.std.proofs.Common.{ℕ, ◌+◌, ◌*◌, ◌^◌, ◌<◌, ◌≤◌, ◌≡◌, [], length, arith, subst}
-use Rattle.std.proofs.Math.Nat.{mul-le-mul_left}
+use Rattle.std.proofs.{Common.{ℕ, ◌+◌, ◌*◌, ◌^◌, ◌<◌, ◌≤◌, ◌≡◌, [], length, arith, subst}, Math.Nat.mul-le-mul_left}
 use Rattle.rb_base.specs.Nodes.{Side}
-use Rattle.rb_rules.specs.Clock.{IsClock, time_of}
-use Rattle.rb_rules.specs.Goodness.{Scenario, clock_of, clock_place}
-use Rattle.rb_rules.specs.Lawful.{IsLawful}
-use Rattle.rb_rules.specs.Plan.{longest_of, shortest_of}
-use Rattle.rb_rules.specs.Slots.{count_of}
-use Rattle.rb_rules.proofs.Drift.{drift, has_lengths}
-use Rattle.rb_rules.proofs.Slots.{place-within}
+use Rattle.rb_rules.specs.{Clock.{IsClock, time_of}, Goodness.{Scenario, clock_of, clock_place}, Lawful.IsLawful, Plan.{longest_of, shortest_of}, Slots.count_of}
+use Rattle.rb_rules.proofs.{Drift.{drift, has_lengths}, Slots.place-within}
 
 pub small-time : (sc : Scenario) → IsLawful sc → (me : Side) (i k : ℕ) → i < count_of me sc.sizes → k < 2 ^ 31 → time_of (clock_of sc me i) k < 18446744073709551615
 small-time sc lawful me i k within small =

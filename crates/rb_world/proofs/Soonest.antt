@@ -1,31 +1,15 @@
 -- What comes first at a node, by its lane.
-use Rattle.std.proofs.Common.{◌≡◌, ℕ, ◌+◌, ◌<◌, ◌≤◌, ◌==◌, ◌⊎◌, min, Bool, true, false, Some, None, Option, All, List, [], ◌∷◌, ◌++◌, length, map, slice_get, refl, sym, ap, ◌∙◌, subst, arith, inl, inr}
+use Rattle.std.proofs.{Common.{◌≡◌, ℕ, ◌+◌, ◌<◌, ◌≤◌, ◌==◌, ◌⊎◌, min, Bool, true, false, Some, None, Option, All, List, [], ◌∷◌, ◌++◌, length, map, slice_get, refl, sym, ap, ◌∙◌, subst, arith, inl, inr}, lemmas.Bool.{cases_lt, eq-eqb, eqb-true}, lemmas.Option.{same_Some, slice_get-map}}
 use Rattle.std.specs.Prelude.{option_map, option_to_list, unwrap_or}
-use Rattle.std.proofs.lemmas.Bool.{cases_lt, eq-eqb, eqb-true}
-use Rattle.std.proofs.lemmas.Option.{same_Some, slice_get-map}
-use Rattle.rb_base.specs.Nodes.{Side, other}
-use Rattle.rb_base.specs.Sizes.{Sizes}
-use Rattle.rb_base.specs.declared.event.Event.{Event}
-use Rattle.rb_base.specs.declared.event.EventKind.{EventKind}
-use Rattle.rb_rules.specs.Hearing.{Coming}
-use Rattle.rb_rules.specs.Slots.{count_of}
-use Rattle.rb_rules.specs.WorldStep.{Due, Pending as Waits, Site, Timed, least, ready_at, tick_at, times_of}
-use Rattle.rb_rules.specs.WorldStep.Pending.{Tick, Arrival}
-use Rattle.rb_base.specs.declared.node.NodeName.{NodeName}
-use Rattle.rb_queue.specs.Waiting.{Held, Ready, event_with, head_of, kind_with, ready_event, ready_from, ready_of, without_ready}
-use Rattle.rb_queue.specs.Waiting.Ready.{Comes, Ticks}
-use Rattle.rb_world_agenda.specs.Agenda.{key_of}
-use Rattle.rb_world_agenda.specs.Holding.{HoldsSite, coming_with, due_with, waits_with, without_waiting}
-use Rattle.rb_world_agenda.proofs.Heads.{head-is}
-use Rattle.rb_world_agenda.proofs.OneNode.{ready-is}
-use Rattle.rb_world_agenda.proofs.Places.{IsAtHead, IsOf, holds-without, ready-at}
-use Rattle.rb_laws_events.proofs.DueEvents.{least-none, least-of}
-use Rattle.rb_laws_events.proofs.NodeEvents.{all-after, tick-after}
-use Rattle.rb_laws_events.proofs.SameHeard.{Every}
+use Rattle.rb_base.specs.{Nodes.{Side, other}, Sizes.Sizes, declared.event.Event.Event, declared.event.EventKind.EventKind, declared.node.NodeName.NodeName}
+use Rattle.rb_rules.specs.{Hearing.Coming, Slots.count_of, WorldStep.{Due, Pending as Waits, Site, Timed, least, ready_at, tick_at, times_of}, WorldStep.Pending.{Tick, Arrival}}
+use Rattle.rb_queue.specs.{Waiting.{Held, Ready, event_with, head_of, kind_with, ready_event, ready_from, ready_of, without_ready}, Waiting.Ready.{Comes, Ticks}}
+use Rattle.rb_world_agenda.specs.{Agenda.key_of, Holding.{HoldsSite, coming_with, due_with, waits_with, without_waiting}}
+use Rattle.rb_world_agenda.proofs.{Heads.head-is, OneNode.ready-is, Places.{IsAtHead, IsOf, holds-without, ready-at}}
+use Rattle.rb_laws_events.proofs.{DueEvents.{least-none, least-of}, NodeEvents.{all-after, tick-after}, SameHeard.Every}
 use Rattle.rb_laws_sweeps.specs.Sweeping.{Placed, first_of}
 use Rattle.rb_world.specs.Trailing.{NoneBefore}
-use Rattle.rb_laws_sweeps.proofs.ReadyFirst.{Begins, ReadyFirst, ready-first}
-use Rattle.rb_laws_sweeps.proofs.Sweeps.{all-every, every-all}
+use Rattle.rb_laws_sweeps.proofs.{ReadyFirst.{Begins, ReadyFirst, ready-first}, Sweeps.{all-every, every-all}}
 
 -- Times.
 

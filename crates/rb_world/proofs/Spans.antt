@@ -1,19 +1,8 @@
 -- A window that begins with a tick begins in time.
-use Rattle.std.proofs.Common.{◌≡◌, ℕ, ◌+◌, ◌-◌, ◌*◌, ◌^◌, ◌≤◌, ◌==◌, Bool, true, false, Some, None, Option, sym, ap, refl, subst, arith, List, [], ◌∷◌, ◌++◌, map}
-use Rattle.std.specs.Prelude.{cond, find, unwrap_or}
-use Rattle.std.specs.List.{range_with_len}
-use Rattle.std.proofs.lemmas.Bool.{eqb-true}
-use Rattle.std.proofs.lemmas.Option.{same_Some}
-use Rattle.rb_base.specs.Nodes.{Side}
-use Rattle.rb_base.specs.Sizes.{Sizes, sync_slot_of}
-use Rattle.rb_rules.specs.declared.plan.Plan.{Plan}
-use Rattle.rb_rules.specs.declared.plan.Window.{Window}
-use Rattle.rb_rules.specs.Core.{Core, state_at, window_here}
-use Rattle.rb_rules.specs.Goodness.{Scenario}
-use Rattle.rb_rules.specs.Hearing.{Span, span_of, tail_at}
-use Rattle.rb_rules.specs.NodeState.{NodeState}
-use Rattle.rb_rules.specs.Plan.{f0_of}
-use Rattle.rb_rules.specs.Windows.{exact_window, holds_offset, sync_windows, window_at, window_of}
+use Rattle.std.proofs.{Common.{◌≡◌, ℕ, ◌+◌, ◌-◌, ◌*◌, ◌^◌, ◌≤◌, ◌==◌, Bool, true, false, Some, None, Option, sym, ap, refl, subst, arith, List, [], ◌∷◌, ◌++◌, map}, lemmas.Bool.eqb-true, lemmas.Option.same_Some}
+use Rattle.std.specs.{Prelude.{cond, find, unwrap_or}, List.range_with_len}
+use Rattle.rb_base.specs.{Nodes.Side, Sizes.{Sizes, sync_slot_of}}
+use Rattle.rb_rules.specs.{declared.plan.Plan.Plan, declared.plan.Window.Window, Core.{Core, state_at, window_here}, Goodness.Scenario, Hearing.{Span, span_of, tail_at}, NodeState.NodeState, Plan.f0_of, Windows.{exact_window, holds_offset, sync_windows, window_at, window_of}}
 use Rattle.rb_world.specs.Steps.{SpansFit}
 
 -- The window of a tick.

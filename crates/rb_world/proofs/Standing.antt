@@ -1,36 +1,14 @@
 -- What is kept stands for the site after each step.
-use Rattle.std.proofs.Common.{◌≡◌, ℕ, ◌-◌, ◌<◌, ◌≤◌, ◌^◌, ◌==◌, max, unwrap_or, Bool, true, false, not, Option, Some, None, IfSome, List, [], ◌∷◌, ◌++◌, map, length, refl, sym, ◌∙◌, ap, subst, arith, inl, inr, if◌then◌else◌}
+use Rattle.std.proofs.{Common.{◌≡◌, ℕ, ◌-◌, ◌<◌, ◌≤◌, ◌^◌, ◌==◌, max, unwrap_or, Bool, true, false, not, Option, Some, None, IfSome, List, [], ◌∷◌, ◌++◌, map, length, refl, sym, ◌∙◌, ap, subst, arith, inl, inr, if◌then◌else◌}, lemmas.Bool.cases_lt, lemmas.Bool.Decides.nat_tests}
 use Rattle.std.specs.Prelude.{option_map, slice_set}
-use Rattle.std.proofs.lemmas.Bool.{cases_lt}
-use Rattle.std.proofs.lemmas.Bool.Decides.{nat_tests}
-use Rattle.rb_base.specs.Nodes.{Side, other}
-use Rattle.rb_base.specs.Sizes.{Sizes}
-use Rattle.rb_base.specs.declared.values.See.{See}
-use Rattle.rb_rules.specs.declared.closing.Closed.{Closed}
-use Rattle.rb_rules.specs.declared.message.Message.{Message}
-use Rattle.rb_rules.specs.declared.plan.Plan.{Plan}
-use Rattle.rb_rules.specs.declared.record.Epoch.{Epoch}
-use Rattle.rb_rules.specs.Book.{Row}
-use Rattle.rb_rules.specs.Clock.{stamp_of}
-use Rattle.rb_rules.specs.Core.{Act, Core, act_at, act_on, arrive, busy_among, epoch_at, is_last, next_tick, of_source, pass_to, state_at, tick}
-use Rattle.rb_rules.specs.Goodness.{Scenario, clock_of}
-use Rattle.rb_rules.specs.Hearing.{Coming, Span, epoch_of, row_of}
-use Rattle.rb_rules.specs.NodeState.{NodeState, trusted_of}
-use Rattle.rb_rules.specs.Ports.{PortState}
-use Rattle.rb_rules.specs.Sense.{Arrival}
-use Rattle.rb_rules.specs.Slots.{count_of}
-use Rattle.rb_rules.specs.WorldStep.{Site, after_arrival, await, coming_from, enter, pass_and_tick, proceed, says_in, span_from, stop, wants_in, with_close, with_epoch, word_of}
+use Rattle.rb_base.specs.{Nodes.{Side, other}, Sizes.Sizes, declared.values.See.See}
+use Rattle.rb_rules.specs.{declared.closing.Closed.Closed, declared.message.Message.Message, declared.plan.Plan.Plan, declared.record.Epoch.Epoch, Book.Row, Clock.stamp_of, Core.{Act, Core, act_at, act_on, arrive, busy_among, epoch_at, is_last, next_tick, of_source, pass_to, state_at, tick}, Goodness.{Scenario, clock_of}, Hearing.{Coming, Span, epoch_of, row_of}, NodeState.{NodeState, trusted_of}, Ports.PortState, Sense.Arrival, Slots.count_of, WorldStep.{Site, after_arrival, await, coming_from, enter, pass_and_tick, proceed, says_in, span_from, stop, wants_in, with_close, with_epoch, word_of}}
 use Rattle.rb_rules.proofs.QuietTicks.{next-is}
 use Rattle.rb_slot.specs.Engines.{Seated}
-use Rattle.rb_node.specs.Acts.{IsAct}
-use Rattle.rb_node.specs.Cores.{IsCore, IsSameNode, Running, bare_core, next_of, passing_end, tick_of}
-use Rattle.rb_node.specs.declared.act.Step.{Step}
-use Rattle.rb_node.proofs.Between.{arrive-spent, arrive-takes}
-use Rattle.rb_node.proofs.Cores.{tick-now, tick-spent}
-use Rattle.rb_world.specs.Sites.{ComeTogether, HoldsTimes, KeptSite, Stands, goes_on, number_of, taken_in}
-use Rattle.rb_world.specs.Tells.{IsTicked, begun_after, row_after, row_at}
-use Rattle.rb_world.proofs.Closing.{Leaves, ShowsTime, tick-leaves}
-use Rattle.rb_world.proofs.Coming.{sees-same, times-more, together-more}
+use Rattle.rb_node.specs.{Acts.IsAct, Cores.{IsCore, IsSameNode, Running, bare_core, next_of, passing_end, tick_of}, declared.act.Step.Step}
+use Rattle.rb_node.proofs.{Between.{arrive-spent, arrive-takes}, Cores.{tick-now, tick-spent}}
+use Rattle.rb_world.specs.{Sites.{ComeTogether, HoldsTimes, KeptSite, Stands, goes_on, number_of, taken_in}, Tells.{IsTicked, begun_after, row_after, row_at}}
+use Rattle.rb_world.proofs.{Closing.{Leaves, ShowsTime, tick-leaves}, Coming.{sees-same, times-more, together-more}}
 
 -- Arrivals.
 

@@ -1,25 +1,11 @@
 -- How many steps lead to the next record.
-use Rattle.std.proofs.Common.{◌≡◌, ℕ, zero, suc, ◌+◌, ◌*◌, ◌^◌, ◌<◌, ◌≤◌, ◌≢◌, Bool, true, false, Option, Some, None, List, [], ◌∷◌, ◌++◌, length, refl, sym, ap, ◌∙◌, subst, arith}
-use Rattle.std.proofs.lemmas.Nat.{mod_below, mul-le}
-use Rattle.rb_laws_events.proofs.EventsHold.{due-holds, ends-hold}
-use Rattle.rb_laws_events.proofs.RoundNodes.{item-at}
-use Rattle.rb_rules.specs.Book.{Record}
-use Rattle.rb_rules.specs.Entries.{IsListed}
-use Rattle.rb_rules.specs.Goodness.{Scenario}
-use Rattle.rb_rules.specs.Lawful.{IsLawful}
-use Rattle.rb_rules.specs.WorldStep.{Choice, World, due_of, first_world, go_on, needs_no_event, take, world_after}
-use Rattle.rb_rules.specs.WorldStep.Choice.{Take}
-use Rattle.rb_laws_events.proofs.EveryWorld.{after-more}
-use Rattle.rb_laws_events.proofs.GivenAlone.{given-alone}
-use Rattle.rb_laws_events.proofs.RunsEnd.{takes-append}
+use Rattle.std.proofs.{Common.{◌≡◌, ℕ, zero, suc, ◌+◌, ◌*◌, ◌^◌, ◌<◌, ◌≤◌, ◌≢◌, Bool, true, false, Option, Some, None, List, [], ◌∷◌, ◌++◌, length, refl, sym, ap, ◌∙◌, subst, arith}, lemmas.Nat.{mod_below, mul-le}}
+use Rattle.rb_laws_events.proofs.{EventsHold.{due-holds, ends-hold}, RoundNodes.item-at, EveryWorld.after-more, GivenAlone.given-alone, RunsEnd.takes-append}
+use Rattle.rb_rules.specs.{Book.Record, Entries.IsListed, Goodness.Scenario, Lawful.IsLawful, WorldStep.{Choice, World, due_of, first_world, go_on, needs_no_event, take, world_after}, WorldStep.Choice.Take}
 use Rattle.rb_laws_events.specs.Laws.{EveryRunEnds, SomethingIsDue, most_at_once, most_takes, nodes_of, taken_by, takes_from}
 use Rattle.rb_gen.specs.Draws.{number_of}
-use Rattle.rb_world.specs.Nexts.{Standing, after_steps, drawn, is_last, place_among, step, step_among}
-use Rattle.rb_world.specs.declared.ties.Ties.{Ties}
-use Rattle.rb_world.specs.declared.ties.Ties.TheVariants.{First, Last, Seeded}
-use Rattle.rb_world.specs.Worlds.{IsReached, KeptWorld, NeedsEvent, Stands}
-use Rattle.rb_world.proofs.GoingOn.{ended-stays}
-use Rattle.rb_world.proofs.LastTurn.{reached-ends}
+use Rattle.rb_world.specs.{Nexts.{Standing, after_steps, drawn, is_last, place_among, step, step_among}, declared.ties.Ties.Ties, declared.ties.Ties.TheVariants.{First, Last, Seeded}, Worlds.{IsReached, KeptWorld, NeedsEvent, Stands}}
+use Rattle.rb_world.proofs.{GoingOn.ended-stays, LastTurn.reached-ends}
 
 -- The laws of runs.
 

@@ -1,41 +1,19 @@
 -- A node is swept, one arrival after another.
-use Rattle.std.proofs.Common.{◌≡◌, ℕ, ◌+◌, ◌^◌, ◌<◌, ◌≤◌, Bool, true, false, Some, None, Option, List, [], ◌∷◌, slice_get, refl, sym, ap, ◌∙◌, subst, arith}
+use Rattle.std.proofs.{Common.{◌≡◌, ℕ, ◌+◌, ◌^◌, ◌<◌, ◌≤◌, Bool, true, false, Some, None, Option, List, [], ◌∷◌, slice_get, refl, sym, ap, ◌∙◌, subst, arith}, lemmas.Bool.{le-ltb, lt-ltb}, lemmas.List.Elements.{All-append, All-cons, All-nil}, lemmas.Option.same_Some}
 use Rattle.std.specs.Prelude.{option_map, unwrap_or}
-use Rattle.std.proofs.lemmas.Bool.{le-ltb, lt-ltb}
-use Rattle.std.proofs.lemmas.List.Elements.{All-append, All-cons, All-nil}
-use Rattle.std.proofs.lemmas.Option.{same_Some}
-use Rattle.rb_base.specs.Nodes.{Side, other}
-use Rattle.rb_base.specs.Nodes.Side.{Biu, Rmu}
-use Rattle.rb_base.specs.declared.node.NodeName.{NodeName}
-use Rattle.rb_rules.specs.Book.{Each, of_kind}
-use Rattle.rb_rules.specs.Clock.{ComesBy, stamp_of, time_of}
-use Rattle.rb_rules.specs.Core.{Core, arrive, next_tick, pass_to}
-use Rattle.rb_rules.specs.Entries.{IsListed}
-use Rattle.rb_rules.specs.Goodness.{Scenario, clock_of}
-use Rattle.rb_rules.specs.Hearing.{Coming}
-use Rattle.rb_rules.specs.Lawful.{IsLawful, kind_of}
-use Rattle.rb_rules.specs.Links.{name_of}
-use Rattle.rb_rules.specs.Slots.{count_of}
-use Rattle.rb_rules.specs.WorldStep.{Site, Timed, after_arrival, at_node, first_world}
-use Rattle.rb_rules.specs.WorldStep.Pending.{Tick, Arrival}
+use Rattle.rb_base.specs.{Nodes.{Side, other}, Nodes.Side.{Biu, Rmu}, declared.node.NodeName.NodeName}
+use Rattle.rb_rules.specs.{Book.{Each, of_kind}, Clock.{ComesBy, stamp_of, time_of}, Core.{Core, arrive, next_tick, pass_to}, Entries.IsListed, Goodness.{Scenario, clock_of}, Hearing.Coming, Lawful.{IsLawful, kind_of}, Links.name_of, Slots.count_of, WorldStep.{Site, Timed, after_arrival, at_node, first_world}, WorldStep.Pending.{Tick, Arrival}}
 use Rattle.rb_rules.proofs.QuietTicks.{arrive-next}
 use Rattle.rb_laws_synchrony.proofs.Times.{stamp_to}
 use Rattle.rb_laws_events.proofs.SameHeard.{Every}
 use Rattle.rb_queue.specs.Waiting.{HasLane, Held}
 use Rattle.rb_world_agenda.specs.Holding.{HoldsSites, without_waiting}
 use Rattle.rb_node.specs.Cores.{passing_end}
-use Rattle.rb_world.proofs.Standing.{passing-next}
-use Rattle.rb_world.specs.Sites.{KeptSite, Stands as StandsFor, number_of}
+use Rattle.rb_world.proofs.{Standing.passing-next, Entering.changed-there, Sites.{at-id, at-same, at-twice, holds-one}, Passed.passed-same}
+use Rattle.rb_world.specs.{Sites.{KeptSite, Stands as StandsFor, number_of}, Buses.HaveRooms, Worlds.IsNode, Trailing.{IsReachable, MaySweep, NoneBefore, Sweeps, TakesArrival, TakesTick, cleared, tick_from}}
 use Rattle.rb_laws_sweeps.specs.Sweeping.{Placed, first_of, swept}
-use Rattle.rb_laws_sweeps.proofs.SentLater.{node-moves}
-use Rattle.rb_laws_sweeps.proofs.Sweeps.{all-every, sweep-stays, sweep-takes}
+use Rattle.rb_laws_sweeps.proofs.{SentLater.node-moves, Sweeps.{all-every, sweep-stays, sweep-takes}}
 use Rattle.rb_world_traffic.specs.Arriving.{number_of as number_in}
-use Rattle.rb_world.specs.Buses.{HaveRooms}
-use Rattle.rb_world.specs.Worlds.{IsNode}
-use Rattle.rb_world.proofs.Entering.{changed-there}
-use Rattle.rb_world.proofs.Sites.{at-id, at-same, at-twice, holds-one}
-use Rattle.rb_world.proofs.Passed.{passed-same}
-use Rattle.rb_world.specs.Trailing.{IsReachable, MaySweep, NoneBefore, Sweeps, TakesArrival, TakesTick, cleared, tick_from}
 
 -- One arrival.
 

@@ -1,37 +1,14 @@
 -- A node is swept, and each arrival is told before it is taken.
-use Rattle.std.proofs.Common.{◌≡◌, ℕ, ◌+◌, ◌<◌, ◌≤◌, ◌⊎◌, None, List, [], ◌∷◌, ◌++◌, append_assoc, refl, sym, ap, ◌∙◌, subst, arith, inl, inr}
-use Rattle.std.proofs.lemmas.Bool.{cases_lt}
-use Rattle.std.proofs.lemmas.List.{append-nil}
-use Rattle.std.proofs.lemmas.Option.{same_Some}
-use Rattle.rb_base.specs.Nodes.{Side, other}
-use Rattle.rb_base.specs.declared.node.NodeName.{NodeName}
-use Rattle.rb_rules.specs.Book.{Each}
-use Rattle.rb_rules.specs.Goodness.{Scenario}
-use Rattle.rb_rules.specs.Hearing.{Coming}
-use Rattle.rb_rules.specs.Links.{name_of}
-use Rattle.rb_rules.specs.Slots.{count_of}
-use Rattle.rb_rules.specs.WorldStep.{Site, after_arrival, at_node}
-use Rattle.rb_rules.specs.WorldStep.Pending.{Arrival}
-use Rattle.rb_laws_events.proofs.SameHeard.{Every}
-use Rattle.rb_queue.specs.Waiting.{HasLane, Held, IsFirstBefore, IsReadyBefore, event_with, lane_of, tick_time_of, with_lane, without_place, without_ready}
-use Rattle.rb_queue.specs.Waiting.Ready.{Comes, Ticks}
-use Rattle.rb_world_agenda.specs.Agenda.{key_of}
-use Rattle.rb_world_agenda.specs.Holding.{HoldsSites}
-use Rattle.rb_world.specs.Sites.{KeptSite, Stands as StandsFor, number_of}
-use Rattle.rb_laws_sweeps.specs.Sweeping.{swept}
-use Rattle.rb_laws_sweeps.specs.Told.{Told, heard, telling}
-use Rattle.rb_laws_sweeps.proofs.Hearing.{hears-first, hears-none}
-use Rattle.rb_laws_sweeps.proofs.Sweeps.{all-every}
-use Rattle.rb_laws_events.proofs.DueEvents.{every-weaker}
-use Rattle.rb_world.specs.Observing.{WasTold}
-use Rattle.rb_world.specs.Steps.{CanHear}
-use Rattle.rb_world.specs.Trailing.{MaySweep, NoneBefore, Sweeps, TakesArrival, TakesTick, cleared, tick_from}
-use Rattle.rb_world.specs.Worlds.{IsNode}
-use Rattle.rb_world.proofs.Observed.{was-more}
-use Rattle.rb_world.proofs.OneTaken.{ComesFirst, comes-first, first-dropped, none-first, takes-arrival, takes-tick, tick-first, tick-is, ticks-first}
-use Rattle.rb_world.proofs.Sites.{at-same, at-twice}
-use Rattle.rb_world.proofs.Swept.{SweepsOn, comes-in-time, may-come, sweep-begins, sweep-goes}
-use Rattle.rb_world.proofs.Taken.{lanes-taken, nothing-next, rooms-taken}
+use Rattle.std.proofs.{Common.{◌≡◌, ℕ, ◌+◌, ◌<◌, ◌≤◌, ◌⊎◌, None, List, [], ◌∷◌, ◌++◌, append_assoc, refl, sym, ap, ◌∙◌, subst, arith, inl, inr}, lemmas.Bool.cases_lt, lemmas.List.append-nil, lemmas.Option.same_Some}
+use Rattle.rb_base.specs.{Nodes.{Side, other}, declared.node.NodeName.NodeName}
+use Rattle.rb_rules.specs.{Book.Each, Goodness.Scenario, Hearing.Coming, Links.name_of, Slots.count_of, WorldStep.{Site, after_arrival, at_node}, WorldStep.Pending.Arrival}
+use Rattle.rb_laws_events.proofs.{SameHeard.Every, DueEvents.every-weaker}
+use Rattle.rb_queue.specs.{Waiting.{HasLane, Held, IsFirstBefore, IsReadyBefore, event_with, lane_of, tick_time_of, with_lane, without_place, without_ready}, Waiting.Ready.{Comes, Ticks}}
+use Rattle.rb_world_agenda.specs.{Agenda.key_of, Holding.HoldsSites}
+use Rattle.rb_world.specs.{Sites.{KeptSite, Stands as StandsFor, number_of}, Observing.WasTold, Steps.CanHear, Trailing.{MaySweep, NoneBefore, Sweeps, TakesArrival, TakesTick, cleared, tick_from}, Worlds.IsNode}
+use Rattle.rb_laws_sweeps.specs.{Sweeping.swept, Told.{Told, heard, telling}}
+use Rattle.rb_laws_sweeps.proofs.{Hearing.{hears-first, hears-none}, Sweeps.all-every}
+use Rattle.rb_world.proofs.{Observed.was-more, OneTaken.{ComesFirst, comes-first, first-dropped, none-first, takes-arrival, takes-tick, tick-first, tick-is, ticks-first}, Sites.{at-same, at-twice}, Swept.{SweepsOn, comes-in-time, may-come, sweep-begins, sweep-goes}, Taken.{lanes-taken, nothing-next, rooms-taken}}
 
 -- One arrival.
 

@@ -1,34 +1,16 @@
 -- What comes first at a node is taken.
-use Rattle.std.proofs.Common.{◌≡◌, ℕ, zero, suc, List, [], ◌∷◌, remove, ◌+◌, ◌<◌, ◌≤◌, ◌⊎◌, Some, None, Option, All, length, slice_get, refl, sym, ap, ◌∙◌, subst, arith, inl, inr}
+use Rattle.std.proofs.{Common.{◌≡◌, ℕ, zero, suc, List, [], ◌∷◌, remove, ◌+◌, ◌<◌, ◌≤◌, ◌⊎◌, Some, None, Option, All, length, slice_get, refl, sym, ap, ◌∙◌, subst, arith, inl, inr}, lemmas.Option.same_Some}
 use Rattle.std.specs.Prelude.{unwrap_or}
-use Rattle.std.proofs.lemmas.Option.{same_Some}
-use Rattle.rb_base.specs.Nodes.{Side, other}
-use Rattle.rb_base.specs.Nodes.Side.{Biu, Rmu}
-use Rattle.rb_base.specs.Sizes.{IsShape, Sizes}
-use Rattle.rb_base.specs.declared.event.Event.{Event}
-use Rattle.rb_base.specs.declared.node.NodeName.{NodeName}
-use Rattle.rb_rules.specs.Goodness.{Scenario}
-use Rattle.rb_rules.specs.Book.{Each, of_kind}
-use Rattle.rb_rules.specs.Hearing.{Coming}
-use Rattle.rb_rules.specs.Links.{name_of}
-use Rattle.rb_rules.specs.Slots.{count_of}
-use Rattle.rb_rules.specs.WorldStep.{Site, at_node}
-use Rattle.rb_rules.specs.WorldStep.Pending.{Tick, Arrival}
+use Rattle.rb_base.specs.{Nodes.{Side, other}, Nodes.Side.{Biu, Rmu}, Sizes.{IsShape, Sizes}, declared.event.Event.Event, declared.node.NodeName.NodeName}
+use Rattle.rb_rules.specs.{Goodness.Scenario, Book.{Each, of_kind}, Hearing.Coming, Links.name_of, Slots.count_of, WorldStep.{Site, at_node}, WorldStep.Pending.{Tick, Arrival}}
 use Rattle.rb_queue.specs.Waiting.{HasLane, Held, head_of, lane_of, ready_event, with_lane, without_place, without_ready}
-use Rattle.rb_world_agenda.specs.Agenda.{key_of}
-use Rattle.rb_world_agenda.specs.Holding.{HoldsSite, HoldsSites, coming_with, without_waiting}
-use Rattle.rb_world_agenda.proofs.Changes.{holds-at}
-use Rattle.rb_world_agenda.proofs.Keeping.{has-with, lane-with}
+use Rattle.rb_world_agenda.specs.{Agenda.key_of, Holding.{HoldsSite, HoldsSites, coming_with, without_waiting}}
+use Rattle.rb_world_agenda.proofs.{Changes.holds-at, Keeping.{has-with, lane-with}}
 use Rattle.rb_laws_sweeps.specs.Sweeping.{Placed}
-use Rattle.rb_laws_sweeps.proofs.Firsts.{first-stands}
-use Rattle.rb_laws_sweeps.proofs.Sweeps.{all-every}
+use Rattle.rb_laws_sweeps.proofs.{Firsts.first-stands, Sweeps.all-every}
 use Rattle.rb_laws_events.proofs.Receiving.{every-stands}
-use Rattle.rb_world.specs.Buses.{HaveRooms}
-use Rattle.rb_world.proofs.Lanes.{lane-holds, rooms-with}
-use Rattle.rb_world.specs.Sweeping.{IsPending}
-use Rattle.rb_world.specs.Trailing.{NoneBefore, TakesArrival, TakesTick}
-use Rattle.rb_world.proofs.Chosen.{room-left}
-use Rattle.rb_world.proofs.Soonest.{ArrivalNext, TickNext, none-before, what-next}
+use Rattle.rb_world.specs.{Buses.HaveRooms, Sweeping.IsPending, Trailing.{NoneBefore, TakesArrival, TakesTick}}
+use Rattle.rb_world.proofs.{Lanes.{lane-holds, rooms-with}, Chosen.room-left, Soonest.{ArrivalNext, TickNext, none-before, what-next}}
 
 few-others : (sizes : Sizes) (me : Side) → IsShape sizes → count_of (other me) sizes ≤ 256
 few-others sizes Biu shape = let most = shape.most_rmus in omega (arith, most)

@@ -1,24 +1,13 @@
 -- What a node has taken in unstamped shows the same, source by source, as what a sweep brings to
 -- it.
-use Rattle.std.proofs.Common.{◌≡◌, ℕ, zero, suc, ◌+◌, ◌^◌, ◌<◌, ◌==◌, ◌&&◌, Bool, true, false, cond, not, List, [], ◌∷◌, ◌++◌, filter, get_or, length, map, take, refl, sym, ap, ◌∙◌, subst, arith}
+use Rattle.std.proofs.{Common.{◌≡◌, ℕ, zero, suc, ◌+◌, ◌^◌, ◌<◌, ◌==◌, ◌&&◌, Bool, true, false, cond, not, List, [], ◌∷◌, ◌++◌, filter, get_or, length, map, take, refl, sym, ap, ◌∙◌, subst, arith}, lemmas.Bool.Decides.nat_tests, lemmas.List.{append-nil, take_more}, lemmas.List.Elements.filter-append}
 use Rattle.std.specs.Prelude.{nat_le, nat_lt}
-use Rattle.std.proofs.lemmas.Bool.Decides.{nat_tests}
-use Rattle.std.proofs.lemmas.List.{append-nil, take_more}
-use Rattle.std.proofs.lemmas.List.Elements.{filter-append}
 use Rattle.rb_base.specs.Nodes.{Side, other}
-use Rattle.rb_rules.specs.Core.{Core, arrive, of_source}
-use Rattle.rb_rules.specs.Goodness.{Scenario}
-use Rattle.rb_rules.specs.Hearing.{Coming}
-use Rattle.rb_rules.specs.Sense.{Arrival}
-use Rattle.rb_rules.specs.Slots.{count_of}
-use Rattle.rb_rules.specs.WorldStep.{Site, coming_from}
+use Rattle.rb_rules.specs.{Core.{Core, arrive, of_source}, Goodness.Scenario, Hearing.Coming, Sense.Arrival, Slots.count_of, WorldStep.{Site, coming_from}}
 use Rattle.rb_rules.proofs.Slots.{source-append}
-use Rattle.rb_laws_events.proofs.SameHeard.{Every}
-use Rattle.rb_world.specs.Sites.{taken_in}
-use Rattle.rb_laws_sweeps.specs.Brought.{BringsArrivals, BringsComings, due_from}
-use Rattle.rb_laws_sweeps.specs.Stamps.{restamped}
-use Rattle.rb_laws_events.proofs.FewThere.{length-mapped}
-use Rattle.rb_world.specs.Unstamped.{due_before, taken_all}
+use Rattle.rb_laws_events.proofs.{SameHeard.Every, FewThere.length-mapped}
+use Rattle.rb_world.specs.{Sites.taken_in, Unstamped.{due_before, taken_all}}
+use Rattle.rb_laws_sweeps.specs.{Brought.{BringsArrivals, BringsComings, due_from}, Stamps.restamped}
 
 -- an arrival with this stamp
 abbrev pub stamped : ℕ → Coming → Arrival

@@ -1,38 +1,15 @@
 -- What a node tells, and what it delivers.
-use Rattle.std.proofs.Common.{◌≡◌, ℕ, zero, suc, ◌<◌, ◌==◌, Bool, true, false, Some, None, Option, List, [], ◌∷◌, length, slice_get, get_or, refl, sym, ap, ◌∙◌, subst, arith, if◌then◌else◌}
+use Rattle.std.proofs.{Common.{◌≡◌, ℕ, zero, suc, ◌<◌, ◌==◌, Bool, true, false, Some, None, Option, List, [], ◌∷◌, length, slice_get, get_or, refl, sym, ap, ◌∙◌, subst, arith, if◌then◌else◌}, lemmas.Bool.Decides.nat_tests, lemmas.List.length-set, lemmas.Option.slice_get-get_or}
 use Rattle.std.specs.Prelude.{slice_set, unwrap_or}
-use Rattle.std.proofs.lemmas.Bool.Decides.{nat_tests}
-use Rattle.std.proofs.lemmas.List.{length-set}
-use Rattle.std.proofs.lemmas.Option.{slice_get-get_or}
-use Rattle.rb_base.specs.Nodes.{Side}
-use Rattle.rb_base.specs.Nodes.Side.{Biu, Rmu}
-use Rattle.rb_base.specs.declared.node.NodeName.{NodeName}
-use Rattle.rb_base.specs.declared.node.NodeName.TheVariants as node
-use Rattle.rb_rules.specs.declared.closing.Closed.{Closed}
-use Rattle.rb_base.specs.declared.values.Delivery.{Delivery}
-use Rattle.rb_rules.specs.declared.record.Epoch.{Epoch}
-use Rattle.rb_rules.specs.declared.record.PortLine.{PortLine}
-use Rattle.rb_rules.specs.Book.{Begun, Each, Row}
-use Rattle.rb_rules.specs.Clock.{time_of}
-use Rattle.rb_rules.specs.Goodness.{Scenario, clock_of}
-use Rattle.rb_rules.specs.Hearing.{begun_of, port_at, port_line}
-use Rattle.rb_rules.specs.Lawful.{kind_of}
-use Rattle.rb_rules.specs.Links.{name_of}
-use Rattle.rb_rules.specs.NodeState.{NodeState, trusted_of}
-use Rattle.rb_world.specs.Tells.{row_at}
-use Rattle.rb_rules.specs.Ports.{PortState, delivered_to, fresh_port, losses_of}
-use Rattle.rb_rules.specs.WorldStep.{Site, World, with_delivery, with_epoch}
-use Rattle.rb_world_book.specs.Changing.{changed_at, number_in, row_shown, with_begun, with_row}
-use Rattle.rb_world_book.specs.Holding.{Holds}
-use Rattle.rb_world_book.specs.declared.book.Book.{Book as KeptBook}
+use Rattle.rb_base.specs.{Nodes.Side, Nodes.Side.{Biu, Rmu}, declared.node.NodeName.NodeName, declared.values.Delivery.Delivery}
+use Rattle.rb_rules.specs.{declared.closing.Closed.Closed, declared.record.Epoch.Epoch, declared.record.PortLine.PortLine, Book.{Begun, Each, Row}, Clock.time_of, Goodness.{Scenario, clock_of}, Hearing.{begun_of, port_at, port_line}, Lawful.kind_of, Links.name_of, NodeState.{NodeState, trusted_of}, Ports.{PortState, delivered_to, fresh_port, losses_of}, WorldStep.{Site, World, with_delivery, with_epoch}}
+use Rattle.rb_world.specs.{Tells.row_at, declared.scene.Scene.Scene, Steps.{closed_at, closed_if, moved}, Worlds.{HoldsPorts, Surrounds}}
+use Rattle.rb_world_book.specs.{Changing.{changed_at, number_in, row_shown, with_begun, with_row}, Holding.Holds, declared.book.Book.Book as KeptBook}
 use Rattle.rb_port.specs.Keeping.{HoldsPort, KeptPort}
 use Rattle.rb_world_traffic.specs.Arriving.{number_of}
 use Rattle.rb_laws_agreement.proofs.Exchanges.{trusted-either}
-use Rattle.rb_world.specs.declared.scene.Scene.{Scene}
-use Rattle.rb_world.specs.Steps.{closed_at, closed_if, moved}
-use Rattle.rb_world.specs.Worlds.{HoldsPorts, Surrounds}
-use Rattle.rb_world.proofs.Around.{Tells, ports-more, told-more}
-use Rattle.rb_world.proofs.Sites.{at-id}
+use Rattle.rb_world.proofs.{Around.{Tells, ports-more, told-more}, Sites.at-id}
+use Rattle.rb_base.specs.declared.node.NodeName.TheVariants as node
 
 -- The start of a frame.
 

@@ -1,48 +1,16 @@
 -- What an observer is told when a run goes from tick to tick.
-use Rattle.std.proofs.Common.{◌≡◌, ℕ, zero, suc, ◌+◌, ◌≤◌, ◌||◌, Bool, true, false, List, [], ◌∷◌, ◌++◌, append_assoc, refl, sym, ap, ◌∙◌, subst, arith, Option, Some, None, flat_map, is_some, option_and_then, option_map, slice_get, if◌then◌else◌}
-use Rattle.std.proofs.lemmas.Bool.Decides.{nat_tests}
-use Rattle.std.proofs.lemmas.List.{append-nil}
-use Rattle.rb_base.specs.Nodes.{Side}
-use Rattle.rb_base.specs.Nodes.Side.{Biu, Rmu}
-use Rattle.rb_base.specs.declared.node.NodeName.{NodeName}
-use Rattle.rb_base.specs.declared.node.NodeName.TheVariants as node
-use Rattle.rb_rules.specs.Book.{Each, in_order, of_kind}
-use Rattle.rb_rules.specs.Goodness.{Scenario}
-use Rattle.rb_rules.specs.Lawful.{IsNodeOf, kind_of}
-use Rattle.rb_rules.specs.Links.{name_of, same_node}
-use Rattle.rb_rules.specs.WorldStep.{Due, Site, Timed, World, due_at, due_of, event_at, event_of, go_on, least, needs_no_event, times_of}
-use Rattle.rb_rules.specs.WorldStep.Pending.{Tick}
-use Rattle.rb_rules.specs.WorldStep.Way.{ByItself}
+use Rattle.std.proofs.{Common.{◌≡◌, ℕ, zero, suc, ◌+◌, ◌≤◌, ◌||◌, Bool, true, false, List, [], ◌∷◌, ◌++◌, append_assoc, refl, sym, ap, ◌∙◌, subst, arith, Option, Some, None, flat_map, is_some, option_and_then, option_map, slice_get, if◌then◌else◌}, lemmas.Bool.Decides.nat_tests, lemmas.List.append-nil}
+use Rattle.rb_base.specs.{Nodes.Side, Nodes.Side.{Biu, Rmu}, declared.node.NodeName.NodeName}
+use Rattle.rb_rules.specs.{Book.{Each, in_order, of_kind}, Goodness.Scenario, Lawful.{IsNodeOf, kind_of}, Links.{name_of, same_node}, WorldStep.{Due, Site, Timed, World, due_at, due_of, event_at, event_of, go_on, least, needs_no_event, times_of}, WorldStep.Pending.Tick, WorldStep.Way.ByItself}
 use Rattle.rb_world_agenda.proofs.Which.{has-item}
-use Rattle.rb_world_book.specs.Records.{record_of}
-use Rattle.rb_world_book.specs.Settling.{Settles}
-use Rattle.rb_world_book.specs.declared.book.Book.{Book as KeptBook}
-use Rattle.rb_world_book.specs.declared.turn.Turn.{Turn}
-use Rattle.rb_laws_events.proofs.WorldNodes.{settle-sites}
-use Rattle.rb_world.specs.Sites.{KeptSite, number_of as number_at}
-use Rattle.rb_laws_sweeps.specs.AheadOf.{TellsAhead, after_takes, ahead_of, tick_alone, told_in, until_tick}
-use Rattle.rb_laws_sweeps.specs.Told.{Told, heard, if_told, told_alone, told_next, telling}
-use Rattle.rb_laws_sweeps.specs.Sweeping.{swept}
-use Rattle.rb_laws_sweeps.proofs.Calls.{at-any-time}
-use Rattle.rb_laws_sweeps.proofs.Hearing.{hears-none}
-use Rattle.rb_laws_sweeps.proofs.Telling.{named-itself}
+use Rattle.rb_world_book.specs.{Records.record_of, Settling.Settles, declared.book.Book.Book as KeptBook, declared.turn.Turn.Turn}
+use Rattle.rb_laws_events.proofs.{WorldNodes.settle-sites, GivenAlone.go-on-is}
+use Rattle.rb_world.specs.{Sites.{KeptSite, number_of as number_at}, declared.scene.Scene.Scene, declared.last.Last.Last, declared.ties.Seeding.Seeding, declared.ties.Ties.TheVariants.First, Nexts.{Standing, after_steps}, Observing.{AlongTold, ComesTold, RunsTold, TellsToNext, ToldToRecord, WasTold, alone_at, alone_for, left_at, left_for, told_by, told_to}, Showing.MayShowTick, Steps.MayTick, Trailing.{GoesToTick, HasCaughtUp, MayRun, bare, until_from}, Worlds.{KeptWorld, Stands, Surrounds, last_of}}
+use Rattle.rb_laws_sweeps.specs.{AheadOf.{TellsAhead, after_takes, ahead_of, tick_alone, told_in, until_tick}, Told.{Told, heard, if_told, told_alone, told_next, telling}, Sweeping.swept}
+use Rattle.rb_laws_sweeps.proofs.{Calls.at-any-time, Hearing.hears-none, Telling.named-itself}
 use Rattle.rb_world_traffic.specs.Arriving.{number_of}
-use Rattle.rb_laws_events.proofs.GivenAlone.{go-on-is}
-use Rattle.rb_world.specs.declared.scene.Scene.{Scene}
-use Rattle.rb_world.specs.declared.last.Last.{Last}
-use Rattle.rb_world.specs.declared.ties.Seeding.{Seeding}
-use Rattle.rb_world.specs.declared.ties.Ties.TheVariants.{First}
-use Rattle.rb_world.specs.Nexts.{Standing, after_steps}
-use Rattle.rb_world.specs.Observing.{AlongTold, ComesTold, RunsTold, TellsToNext, ToldToRecord, WasTold, alone_at, alone_for, left_at, left_for, told_by, told_to}
-use Rattle.rb_world.specs.Showing.{MayShowTick}
-use Rattle.rb_world.specs.Steps.{MayTick}
-use Rattle.rb_world.specs.Trailing.{GoesToTick, HasCaughtUp, MayRun, bare, until_from}
-use Rattle.rb_world.specs.Worlds.{KeptWorld, Stands, Surrounds, last_of}
-use Rattle.rb_world.proofs.Along.{along-begins, comes-by-itself, comes-by-tick, comes-next, comes-quiet, steps-on, takes-on}
-use Rattle.rb_world.proofs.Observed.{was-both}
-use Rattle.rb_world.proofs.Running.{along-first, comes-to, run-ended, run-to, until-named}
-use Rattle.rb_world.proofs.NextRecord.{goes-on}
-use Rattle.rb_world.proofs.Going.{name-is}
+use Rattle.rb_world.proofs.{Along.{along-begins, comes-by-itself, comes-by-tick, comes-next, comes-quiet, steps-on, takes-on}, Observed.was-both, Running.{along-first, comes-to, run-ended, run-to, until-named}, NextRecord.goes-on, Going.name-is}
+use Rattle.rb_base.specs.declared.node.NodeName.TheVariants as node
 
 -- Names.
 

@@ -1,33 +1,12 @@
 -- What is due is settled, and a turn is given.
 use Rattle.std.proofs.Common.{◌≡◌, ℕ, ◌<◌, ◌||◌, true, false, Some, List, [], ◌∷◌, ◌++◌, length, slice_get, refl, sym, ap, ◌∙◌, subst}
-use Rattle.rb_base.specs.Nodes.{Side, has}
-use Rattle.rb_base.specs.Nodes.Side.{Biu, Rmu}
-use Rattle.rb_rules.specs.Book.{Each, of_kind}
-use Rattle.rb_rules.specs.Entries.{IsListed}
-use Rattle.rb_rules.specs.Goodness.{Scenario}
-use Rattle.rb_rules.specs.Lawful.{IsLawful}
-use Rattle.rb_rules.specs.Slots.{count_of}
-use Rattle.rb_rules.specs.WorldStep.{Choice, Due, World, choose, due_of, happens, needs_no_event, settle, take, take_if_due}
-use Rattle.rb_rules.specs.WorldStep.Choice.{Take}
-use Rattle.rb_rules.specs.WorldStep.{Way}
-use Rattle.rb_world_agenda.specs.Agenda.{due_now}
-use Rattle.rb_world_agenda.specs.Holding.{HoldsSites}
-use Rattle.rb_world_book.specs.Records.{record_of}
-use Rattle.rb_world_book.specs.Settling.{Settles}
-use Rattle.rb_world_book.specs.declared.book.Book.{Book as KeptBook}
-use Rattle.rb_world_book.specs.declared.turn.Turn.{Turn}
-use Rattle.rb_laws_events.proofs.EveryWorld.{after-more}
-use Rattle.rb_laws_events.proofs.OneTake.{settle-ports}
-use Rattle.rb_laws_events.proofs.WorldNodes.{settle-sites}
-use Rattle.rb_world.specs.Sites.{KeptSite}
+use Rattle.rb_base.specs.{Nodes.{Side, has}, Nodes.Side.{Biu, Rmu}}
+use Rattle.rb_rules.specs.{Book.{Each, of_kind}, Entries.IsListed, Goodness.Scenario, Lawful.IsLawful, Slots.count_of, WorldStep.{Choice, Due, World, choose, due_of, happens, needs_no_event, settle, take, take_if_due}, WorldStep.Choice.Take, WorldStep.Way}
+use Rattle.rb_world_agenda.specs.{Agenda.due_now, Holding.HoldsSites}
+use Rattle.rb_world_book.specs.{Records.record_of, Settling.Settles, declared.book.Book.Book as KeptBook, declared.turn.Turn.Turn}
+use Rattle.rb_laws_events.proofs.{EveryWorld.after-more, OneTake.settle-ports, WorldNodes.settle-sites}
+use Rattle.rb_world.specs.{Sites.KeptSite, declared.last.Last.Last, declared.scene.Scene.Scene, declared.ties.Seeding.Seeding, Steps.Happens, Turning.Gives, Buses.listed_by, Worlds.{AreNodes, HoldsPorts, IsReached, Surrounds, last_of, running_of}}
 use Rattle.rb_world_traffic.specs.Arriving.{AreRunning}
-use Rattle.rb_world.specs.declared.last.Last.{Last}
-use Rattle.rb_world.specs.declared.scene.Scene.{Scene}
-use Rattle.rb_world.specs.declared.ties.Seeding.{Seeding}
-use Rattle.rb_world.specs.Steps.{Happens}
-use Rattle.rb_world.specs.Turning.{Gives}
-use Rattle.rb_world.specs.Buses.{listed_by}
-use Rattle.rb_world.specs.Worlds.{AreNodes, HoldsPorts, IsReached, Surrounds, last_of, running_of}
 
 -- a world with one more choice is reached
 pub reached-more : (sc : Scenario) (w : World) (c : Choice) → IsReached sc w → IsReached sc (choose sc w c)

@@ -3,40 +3,16 @@
 use Rattle.std.proofs.Common.{◌≡◌, ℕ, ◌+◌, ◌-◌, ◌^◌, ◌<◌, ◌≤◌, true, false, Some, None, Option, List, slice_get, refl, sym, ap, ◌∙◌, subst, arith}
 use Rattle.std.specs.Prelude.{All, length, slice_set}
 use Rattle.rb_base.specs.Nodes.{Side, other}
-use Rattle.rb_rules.specs.declared.closing.Closed.{Closed}
-use Rattle.rb_rules.specs.declared.record.Epoch.{Epoch}
-use Rattle.rb_rules.specs.Book.{Each, of_kind}
-use Rattle.rb_rules.specs.Core.{Act, Core, busy_among, next_tick}
-use Rattle.rb_rules.specs.Goodness.{Scenario}
-use Rattle.rb_rules.specs.Hearing.{Coming}
-use Rattle.rb_rules.specs.Links.{name_of}
-use Rattle.rb_rules.specs.Ports.{PortState}
-use Rattle.rb_rules.specs.Slots.{count_of}
-use Rattle.rb_rules.specs.WorldStep.{Due, Site, Timed, World, after_act, at_node, happens, pass_and_tick, proceed, times_of, with_act, with_close, with_epoch, with_message}
-use Rattle.rb_rules.specs.WorldStep.Pending.{Tick}
+use Rattle.rb_rules.specs.{declared.closing.Closed.Closed, declared.record.Epoch.Epoch, Book.{Each, of_kind}, Core.{Act, Core, busy_among, next_tick}, Goodness.Scenario, Hearing.Coming, Links.name_of, Ports.PortState, Slots.count_of, WorldStep.{Due, Site, Timed, World, after_act, at_node, happens, pass_and_tick, proceed, times_of, with_act, with_close, with_epoch, with_message}, WorldStep.Pending.Tick}
 use Rattle.rb_queue.specs.Waiting.{HasLane, Held, lane_of, spare_of}
 use Rattle.rb_world_agenda.specs.Holding.{HoldsSites}
 use Rattle.rb_world_agenda.proofs.Which.{has-item}
 use Rattle.rb_laws_events.specs.PendingEvents.{most_pending}
 use Rattle.rb_laws_events.proofs.WorldStands.{not-other}
-use Rattle.rb_world.specs.Sites.{KeptSite, Stands as StandsFor, after_tick, number_of}
+use Rattle.rb_world.specs.{Sites.{KeptSite, Stands as StandsFor, after_tick, number_of}, declared.scene.Scene.Scene, Buses.HaveRooms, Steps.{MayTick, SpansFit, Ticks, moved}, Trailing.{BehindTick, alone, bare}, Unstamped.bare_with, Worlds.{AreNodes, IsNode, Surrounds}}
 use Rattle.rb_laws_sweeps.specs.Sweeping.{swept}
-use Rattle.rb_laws_sweeps.proofs.AfterTick.{TicksNow, act-had}
-use Rattle.rb_laws_sweeps.proofs.Sweeps.{sweeps-keep}
-use Rattle.rb_world.specs.declared.scene.Scene.{Scene}
-use Rattle.rb_world.specs.Buses.{HaveRooms}
-use Rattle.rb_world.specs.Steps.{MayTick, SpansFit, Ticks, moved}
-use Rattle.rb_world.specs.Trailing.{BehindTick, alone, bare}
-use Rattle.rb_world.specs.Unstamped.{bare_with}
-use Rattle.rb_world.specs.Worlds.{AreNodes, IsNode, Surrounds}
-use Rattle.rb_world.proofs.Around.{Pends, pends-more}
-use Rattle.rb_world.proofs.Behind.{bare-few, bare-pends, few, node-of, ticks-there}
-use Rattle.rb_world.proofs.Entering.{changed-there}
-use Rattle.rb_world.proofs.Happening.{Acts, after-act-same, happens-tick, nodes-other, nodes-own, sent-nodes}
-use Rattle.rb_world.proofs.Lanes.{has-lane, node-named, spare-at}
-use Rattle.rb_world.proofs.Ready.{next-due}
-use Rattle.rb_world.proofs.Sites.{at-same, at-twice, holds-one, was-there}
-use Rattle.rb_world.proofs.Spans.{spans-by}
+use Rattle.rb_laws_sweeps.proofs.{AfterTick.{TicksNow, act-had}, Sweeps.sweeps-keep}
+use Rattle.rb_world.proofs.{Around.{Pends, pends-more}, Behind.{bare-few, bare-pends, few, node-of, ticks-there}, Entering.changed-there, Happening.{Acts, after-act-same, happens-tick, nodes-other, nodes-own, sent-nodes}, Lanes.{has-lane, node-named, spare-at}, Ready.next-due, Sites.{at-same, at-twice, holds-one, was-there}, Spans.spans-by}
 
 -- A node may take the tick with another core, if that does at the tick what its own does.
 

@@ -1,44 +1,15 @@
 -- A tick as a whole.
-use Rattle.std.proofs.Common.{◌≡◌, ℕ, ◌+◌, ◌<◌, ◌≤◌, ◌^◌, ◌==◌, ◌&&◌, not, Bool, true, false, Some, None, Option, All, List, [], get_or, slice_get, refl, sym, ap, ◌∙◌, subst, arith, if◌then◌else◌}
+use Rattle.std.proofs.{Common.{◌≡◌, ℕ, ◌+◌, ◌<◌, ◌≤◌, ◌^◌, ◌==◌, ◌&&◌, not, Bool, true, false, Some, None, Option, All, List, [], get_or, slice_get, refl, sym, ap, ◌∙◌, subst, arith, if◌then◌else◌}, lemmas.Bool.Decides.nat_tests, lemmas.List.Elements.All-nil, lemmas.Option.same_Some}
 use Rattle.std.specs.Prelude.{IfSome, length, unwrap_or}
-use Rattle.std.proofs.lemmas.Bool.Decides.{nat_tests}
-use Rattle.std.proofs.lemmas.List.Elements.{All-nil}
-use Rattle.std.proofs.lemmas.Option.{same_Some}
-use Rattle.rb_base.specs.Nodes.{Side, other}
-use Rattle.rb_base.specs.Nodes.Side.{Biu, Rmu}
-use Rattle.rb_base.specs.Sizes.{Sizes}
-use Rattle.rb_base.specs.declared.node.NodeName.{NodeName}
-use Rattle.rb_rules.specs.declared.closing.Closed.{Closed}
-use Rattle.rb_rules.specs.declared.plan.Plan.{Plan}
-use Rattle.rb_rules.specs.declared.record.Epoch.{Epoch}
-use Rattle.rb_rules.specs.Book.{Row, of_kind}
-use Rattle.rb_rules.specs.Core.{Act, Core, act_at, epoch_at, is_spent, of_source, pass_to, tick}
-use Rattle.rb_rules.specs.Goodness.{Scenario}
-use Rattle.rb_rules.specs.Hearing.{Coming, row_of}
-use Rattle.rb_rules.specs.Lawful.{kind_of}
-use Rattle.rb_rules.specs.Links.{name_of}
-use Rattle.rb_rules.specs.NodeState.{NodeState}
-use Rattle.rb_rules.specs.Ports.{PortState}
-use Rattle.rb_rules.specs.Slots.{count_of}
-use Rattle.rb_rules.specs.WorldStep.{Site, World, after_act, coming_from, pass_and_tick, proceed, wants_in, with_close, with_epoch, with_message, word_of}
+use Rattle.rb_base.specs.{Nodes.{Side, other}, Nodes.Side.{Biu, Rmu}, Sizes.Sizes, declared.node.NodeName.NodeName, declared.values.See.TheVariants.Nothing}
+use Rattle.rb_rules.specs.{declared.closing.Closed.Closed, declared.plan.Plan.Plan, declared.record.Epoch.Epoch, Book.{Row, of_kind}, Core.{Act, Core, act_at, epoch_at, is_spent, of_source, pass_to, tick}, Goodness.Scenario, Hearing.{Coming, row_of}, Lawful.kind_of, Links.name_of, NodeState.NodeState, Ports.PortState, Slots.count_of, WorldStep.{Site, World, after_act, coming_from, pass_and_tick, proceed, wants_in, with_close, with_epoch, with_message, word_of}, Hearing.epoch_of}
 use Rattle.rb_queue.specs.Waiting.{Held, empty_lane, lane_of, spare_of}
-use Rattle.rb_node.specs.Acts.{IsAct}
-use Rattle.rb_node.specs.declared.act.Step.{Step}
-use Rattle.rb_world.specs.Sites.{KeptSite, after_tick, number_of}
-use Rattle.rb_world.specs.Tells.{IsTicked, row_after, row_at}
+use Rattle.rb_node.specs.{Acts.IsAct, declared.act.Step.Step}
+use Rattle.rb_world.specs.{Sites.{KeptSite, after_tick, number_of}, Tells.{IsTicked, row_after, row_at}, declared.scene.Scene.Scene, Steps.{HasRoomFor, MayProceed, MayTick, OthersStay, Proceeds, SeesOnlyNodes, SpansFit, Ticks, closed_if, moved}, Worlds.{IsNode, Surrounds}}
 use Rattle.rb_world_traffic.specs.Arriving.{number_of as number_in}
 use Rattle.rb_world_traffic.proofs.Says.{number-of}
-use Rattle.rb_world.specs.declared.scene.Scene.{Scene}
-use Rattle.rb_world.specs.Steps.{HasRoomFor, MayProceed, MayTick, OthersStay, Proceeds, SeesOnlyNodes, SpansFit, Ticks, closed_if, moved}
-use Rattle.rb_base.specs.declared.values.See.TheVariants.{Nothing}
-use Rattle.rb_rules.specs.Hearing.{epoch_of}
 use Rattle.rb_laws_events.proofs.ToldSoFar.{proceed-core}
-use Rattle.rb_world.specs.Worlds.{IsNode, Surrounds}
-use Rattle.rb_world.proofs.Acting.{act-is, told-around, told_in}
-use Rattle.rb_world.proofs.Entering.{changed-there}
-use Rattle.rb_world.proofs.Lanes.{kind-named}
-use Rattle.rb_world.proofs.Seeing.{none-came, tick-sees}
-use Rattle.rb_world.proofs.Standing.{on-epoch}
+use Rattle.rb_world.proofs.{Acting.{act-is, told-around, told_in}, Entering.changed-there, Lanes.kind-named, Seeing.{none-came, tick-sees}, Standing.on-epoch}
 
 -- What a site keeps.
 

@@ -1,35 +1,13 @@
 -- What a node wants for its tick, and the word that it is handed.
-use Rattle.std.proofs.Common.{◌≡◌, ℕ, ◌-◌, ◌<◌, ◌^◌, ◌==◌, ◌&&◌, nat_lt, Bool, true, false, Some, None, Option, List, refl, sym, ap, ◌∙◌, subst, arith, inl, inr, if◌then◌else◌}
-use Rattle.std.specs.Prelude.{option_and_then, option_map}
-use Rattle.std.specs.Option.{option_or}
-use Rattle.std.proofs.lemmas.Bool.{and_parts, cases_lt}
-use Rattle.std.proofs.lemmas.Bool.Decides.{nat_tests}
-use Rattle.std.proofs.lemmas.Option.{none-some}
-use Rattle.rb_base.specs.Nodes.{Side}
-use Rattle.rb_base.specs.Nodes.Side.{Biu, Rmu}
-use Rattle.rb_base.specs.Sizes.{Sizes, sync_slot_of}
-use Rattle.rb_rules.specs.declared.message.Message.{Message}
-use Rattle.rb_rules.specs.declared.plan.Plan.{Plan}
-use Rattle.rb_rules.specs.declared.role.Role.{Role}
-use Rattle.rb_rules.specs.declared.role.Role.TheVariants.{Schedule, Data, DiagBiu, DiagRmu, Sync}
-use Rattle.rb_rules.specs.Core.{Act, Core, act_at, if_at, said_at, slot_wanted, state_at, state_kept, tick, wants, window_here}
-use Rattle.rb_rules.specs.ExactStage.{message_of, says, says_of}
-use Rattle.rb_rules.specs.Goodness.{Scenario}
-use Rattle.rb_rules.specs.Hearing.{Sending, port_at, sending, word_for}
-use Rattle.rb_rules.specs.NodeState.{NodeState, sender_at}
-use Rattle.rb_rules.specs.NodeSteps.{message_said}
-use Rattle.rb_rules.specs.Ports.{PortState, offered_at}
-use Rattle.rb_rules.specs.Slots.{Sender, count_of, first_diagnosis_of, listens, role_of}
-use Rattle.rb_rules.specs.Slots.Sender.{Nobody, Node, EachTrusted}
-use Rattle.rb_rules.specs.SyncStage.{calls, send_tick_of}
-use Rattle.rb_rules.specs.WorldStep.{word_of}
+use Rattle.std.proofs.{Common.{◌≡◌, ℕ, ◌-◌, ◌<◌, ◌^◌, ◌==◌, ◌&&◌, nat_lt, Bool, true, false, Some, None, Option, List, refl, sym, ap, ◌∙◌, subst, arith, inl, inr, if◌then◌else◌}, lemmas.Bool.{and_parts, cases_lt}, lemmas.Bool.Decides.nat_tests, lemmas.Option.none-some}
+use Rattle.std.specs.{Prelude.{option_and_then, option_map}, Option.option_or}
+use Rattle.rb_base.specs.{Nodes.Side, Nodes.Side.{Biu, Rmu}, Sizes.{Sizes, sync_slot_of}}
+use Rattle.rb_rules.specs.{declared.message.Message.Message, declared.plan.Plan.Plan, declared.role.Role.Role, declared.role.Role.TheVariants.{Schedule, Data, DiagBiu, DiagRmu, Sync}, Core.{Act, Core, act_at, if_at, said_at, slot_wanted, state_at, state_kept, tick, wants, window_here}, ExactStage.{message_of, says, says_of}, Goodness.Scenario, Hearing.{Sending, port_at, sending, word_for}, NodeState.{NodeState, sender_at}, NodeSteps.message_said, Ports.{PortState, offered_at}, Slots.{Sender, count_of, first_diagnosis_of, listens, role_of}, Slots.Sender.{Nobody, Node, EachTrusted}, SyncStage.{calls, send_tick_of}, WorldStep.word_of}
 use Rattle.rb_node.specs.Wants.{want_for}
-use Rattle.rb_node.specs.declared.act.Want.TheVariants as want
 use Rattle.rb_node.proofs.Cores.{tick-now, tick-spent}
-use Rattle.rb_laws_events.proofs.NodeTicks.{sent-place}
-use Rattle.rb_laws_events.proofs.NodeWords.{HasPlace}
-use Rattle.rb_laws_events.proofs.NodeActs.{act-message}
+use Rattle.rb_laws_events.proofs.{NodeTicks.sent-place, NodeWords.HasPlace, NodeActs.act-message}
 use Rattle.rb_world.specs.Steps.{CanWant, IsWordSlot}
+use Rattle.rb_node.specs.declared.act.Want.TheVariants as want
 
 -- RMUs want nothing.
 

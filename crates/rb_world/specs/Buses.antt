@@ -1,30 +1,15 @@
 -- Nodes of a bus by their names, and how much may be pending at them.
 use Rattle.std.specs.Prelude.{ℕ, ◌≡◌, ◌+◌, ◌≤◌, All, List, Option, length}
-use Rattle.rb_base.specs.Nodes.{Side}
-use Rattle.rb_base.specs.Nodes.Side.{Biu, Rmu}
-use Rattle.rb_base.specs.Sizes.{Sizes}
-use Rattle.rb_base.specs.declared.node.NodeName.{NodeName}
-use Rattle.rb_rules.specs.declared.plan.Plan.{Plan}
-use Rattle.rb_rules.specs.declared.say.Say.{Say}
-use Rattle.rb_rules.specs.Behavior.{Behavior}
-use Rattle.rb_rules.specs.Book.{Each}
-use Rattle.rb_rules.specs.Entries.{IsListed, listed}
-use Rattle.rb_rules.specs.Goodness.{Scenario, clock_among}
-use Rattle.rb_rules.specs.Clock.{Timeline}
-use Rattle.rb_rules.specs.Lawful.{IsLawful, kind_of}
-use Rattle.rb_rules.specs.Links.{DelayRules}
-use Rattle.rb_rules.specs.WorldStep.{Site, at_node, says_in}
+use Rattle.rb_base.specs.{Nodes.Side, Nodes.Side.{Biu, Rmu}, Sizes.Sizes, declared.node.NodeName.NodeName}
+use Rattle.rb_rules.specs.{declared.plan.Plan.Plan, declared.say.Say.Say, Behavior.Behavior, Book.Each, Entries.{IsListed, listed}, Goodness.{Scenario, clock_among}, Clock.Timeline, Lawful.{IsLawful, kind_of}, Links.DelayRules, WorldStep.{Site, at_node, says_in}}
 use Rattle.rb_world_onset.specs.Faults.{Faults, faults_of}
-use Rattle.rb_node.specs.Acts.{span_in}
-use Rattle.rb_node.specs.declared.act.Span.{Span}
+use Rattle.rb_node.specs.{Acts.span_in, declared.act.Span.Span}
 use Rattle.rb_plan.specs.Timetable.{Timetable}
 use Rattle.rb_world_agenda.specs.Holding.{HoldsSites}
-use Rattle.rb_world_traffic.specs.Arriving.{number_of}
-use Rattle.rb_world_traffic.specs.Saying.{KeptSayings, hears, kept_of, with_arrivals}
+use Rattle.rb_world_traffic.specs.{Arriving.number_of, Saying.{KeptSayings, hears, kept_of, with_arrivals}}
 use Rattle.rb_laws_events.specs.PendingEvents.{most_pending}
 use Rattle.rb_queue.specs.Waiting.{Held, lane_of, with_lane}
-use Rattle.rb_world.specs.Calm.{AreRestless}
-use Rattle.rb_world.specs.declared.calm.Restless.{Restless}
+use Rattle.rb_world.specs.{Calm.AreRestless, declared.calm.Restless.Restless}
 
 -- what is kept of a scenario: all but what faulty nodes do, which is what the entries list
 pub record KeptBus : Type 0 where

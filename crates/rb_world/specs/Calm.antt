@@ -1,8 +1,7 @@
 -- Nodes to which nothing new comes for some frames.
 use Rattle.std.specs.Prelude.{ℕ, ◌≡◌, ◌+◌, ◌<◌, ◌||◌, min, nat_lt, Bool, List, Option, Some, None, get_or}
 use Rattle.rb_base.specs.Nodes.{Side}
-use Rattle.rb_rules.specs.Goodness.{Scenario, onsets_of}
-use Rattle.rb_rules.specs.Links.{name_of}
+use Rattle.rb_rules.specs.{Goodness.{Scenario, onsets_of}, Links.name_of}
 use Rattle.rb_world_traffic.specs.Saying.{KeptSayings, entries_for, first_frame, kept_of, last_frame}
 use Rattle.rb_world.specs.declared.calm.Restless.{Restless}
 

@@ -1,15 +1,10 @@
 -- What drives give, and what they tell.
 use Rattle.std.specs.Prelude.{⊤, ℕ, ◌≡◌, ◌<◌, ◌≤◌, Bool, false, List, [], ◌∷◌, ◌++◌, length, map, Option, Some, None, if◌then◌else◌}
 use Rattle.rb_base.specs.declared.values.Heard.TheVariants.{Fault}
-use Rattle.rb_rules.specs.declared.record.NodeLine.{NodeLine}
-use Rattle.rb_rules.specs.declared.record.PortLine.{PortLine}
-use Rattle.rb_rules.specs.declared.record.SlotLine.{SlotLine}
-use Rattle.rb_rules.specs.WorldStep.{World}
+use Rattle.rb_rules.specs.{declared.record.NodeLine.NodeLine, declared.record.PortLine.PortLine, declared.record.SlotLine.SlotLine, WorldStep.World}
 use Rattle.rb_world_book.specs.declared.turn.Turn.{Turn}
+use Rattle.rb_world.specs.{declared.ties.Ties.TheVariants.First, Nexts.GoesToNext, Worlds.KeptWorld}
 use Rattle.rb_world_book.specs.declared.turn.Turn.TheVariants as turn
-use Rattle.rb_world.specs.declared.ties.Ties.TheVariants.{First}
-use Rattle.rb_world.specs.Nexts.{GoesToNext}
-use Rattle.rb_world.specs.Worlds.{KeptWorld}
 
 -- Turns.
 

@@ -1,16 +1,8 @@
 -- What callers see of a world.
 use Rattle.std.specs.Prelude.{◌≡◌, refl}
+use Rattle.rb_rules.specs.{Behavior.Behavior, Book.Each}
+use Rattle.rb_world.specs.{Buses.{KeptBus, listed_by, scenario_of}, Runs.nodes_of, Sites.KeptSite, Worlds.KeptWorld, declared.last.Last.Last, declared.scene.Scene.Scene, declared.ties.Seeding.Seeding, declared.world.World.TheInside.Inside}
 use mathlib.Core.Path.{path_j}
-use Rattle.rb_rules.specs.Behavior.{Behavior}
-use Rattle.rb_rules.specs.Book.{Each}
-use Rattle.rb_world.specs.Buses.{KeptBus, listed_by, scenario_of}
-use Rattle.rb_world.specs.Runs.{nodes_of}
-use Rattle.rb_world.specs.Sites.{KeptSite}
-use Rattle.rb_world.specs.Worlds.{KeptWorld}
-use Rattle.rb_world.specs.declared.last.Last.{Last}
-use Rattle.rb_world.specs.declared.scene.Scene.{Scene}
-use Rattle.rb_world.specs.declared.ties.Seeding.{Seeding}
-use Rattle.rb_world.specs.declared.world.World.TheInside.{Inside}
 
 -- the bus, the nodes and what surrounds them, the draws, and which turn came last
 abbrev pub kept_of : Inside → KeptWorld

@@ -1,15 +1,9 @@
 -- How a run comes to its next record.
 use Rattle.std.specs.Prelude.{ℕ, zero, suc, ◌≡◌, ◌≤◌, ◌-◌, ◌%◌, ◌==◌, Bool, true, false, Option, Some, None, is_some, length}
-use Rattle.rb_rules.specs.Book.{Record}
-use Rattle.rb_rules.specs.Goodness.{Scenario}
-use Rattle.rb_rules.specs.WorldStep.{World, due_of, go_on, take}
+use Rattle.rb_rules.specs.{Book.Record, Goodness.Scenario, WorldStep.{World, due_of, go_on, take}}
 use Rattle.rb_gen.specs.Draws.{next_state, number_of}
 use Rattle.rb_world_book.specs.declared.turn.Turn.{Turn}
-use Rattle.rb_world.specs.declared.ties.Seeding.{Seeding}
-use Rattle.rb_world.specs.declared.ties.Ties.{Ties}
-use Rattle.rb_world.specs.declared.ties.Ties.TheVariants.{First, Last, Seeded}
-use Rattle.rb_world.specs.Turning.{Gives}
-use Rattle.rb_world.specs.Worlds.{KeptWorld, Stands}
+use Rattle.rb_world.specs.{declared.ties.Seeding.Seeding, declared.ties.Ties.Ties, declared.ties.Ties.TheVariants.{First, Last, Seeded}, Turning.Gives, Worlds.{KeptWorld, Stands}}
 
 -- Which of the events that are due is taken.
 

@@ -1,29 +1,13 @@
 -- What an observer of one node is told while a run goes on by first choices.
 use Rattle.std.specs.Prelude.{ℕ, zero, suc, ◌≡◌, ◌&&◌, nat_lt, if◌then◌else◌, Option, Some, None, List, [], ◌∷◌, ◌++◌, slice_get}
-use Rattle.rb_base.specs.Nodes.{Side}
-use Rattle.rb_base.specs.declared.node.NodeName.{NodeName}
-use Rattle.rb_rules.specs.Book.{Each, of_kind}
-use Rattle.rb_rules.specs.Goodness.{Scenario}
-use Rattle.rb_rules.specs.Lawful.{kind_of, IsNodeOf}
-use Rattle.rb_rules.specs.Slots.{same_side, count_of}
-use Rattle.rb_rules.specs.WorldStep.{Site, Timed, World}
+use Rattle.rb_base.specs.{Nodes.Side, declared.node.NodeName.NodeName}
+use Rattle.rb_rules.specs.{Book.{Each, of_kind}, Goodness.Scenario, Lawful.{kind_of, IsNodeOf}, Slots.{same_side, count_of}, WorldStep.{Site, Timed, World}, Links.{name_of, same_node}, Ports.PortState, WorldStep.Pending.Tick}
 use Rattle.rb_world_book.specs.declared.turn.Turn.{Turn}
-use Rattle.rb_world.specs.Sites.{KeptSite, number_of}
+use Rattle.rb_world.specs.{Sites.{KeptSite, number_of}, declared.scene.Scene.Scene, declared.ties.Ties.TheVariants.First, Nexts.{GoesToNext, RunsOn, Standing, after_steps, begun_with}, Trailing.{Along, Comes, ComesToRecord, BehindTick, HaveCaughtUp, MayCatchUp, MayRun, MaySweepAt, MayTakeFirst, Trails, until_from}, Worlds.{KeptWorld, Stands}, Runs.nodes_of, Showing.MayShowTick, declared.run.Run.Run}
 use Rattle.rb_laws_sweeps.specs.Told.{Told, heard, told_alone, told_next, telling}
 use Rattle.rb_world_traffic.specs.Arriving.{number_of as number_in}
-use Rattle.rb_world.specs.declared.scene.Scene.{Scene}
-use Rattle.rb_world.specs.declared.ties.Ties.TheVariants.{First}
-use Rattle.rb_world.specs.Nexts.{GoesToNext, RunsOn, Standing, after_steps, begun_with}
-use Rattle.rb_world.specs.Trailing.{Along, Comes, ComesToRecord, BehindTick, HaveCaughtUp, MayCatchUp, MayRun, MaySweepAt, MayTakeFirst, Trails, until_from}
-use Rattle.rb_world.specs.Worlds.{KeptWorld, Stands}
-use Rattle.rb_rules.specs.Links.{name_of, same_node}
-use Rattle.rb_rules.specs.Ports.{PortState}
-use Rattle.rb_rules.specs.WorldStep.Pending.{Tick}
 use Rattle.rb_port.specs.Keeping.{KeptPort}
 use Rattle.rb_queue.specs.Waiting.{Held}
-use Rattle.rb_world.specs.Runs.{nodes_of}
-use Rattle.rb_world.specs.Showing.{MayShowTick}
-use Rattle.rb_world.specs.declared.run.Run.{Run}
 
 -- Observers.
 

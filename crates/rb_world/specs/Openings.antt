@@ -1,16 +1,8 @@
 -- How a run begins: node by node.
 use Rattle.std.specs.Prelude.{ℕ, zero, suc, ◌≡◌, ◌<◌, ◌≤◌, Some, List, length, slice_get}
 use Rattle.rb_base.specs.Nodes.{Side}
-use Rattle.rb_rules.specs.Book.{each_of, of_kind}
-use Rattle.rb_rules.specs.Entries.{IsListed}
-use Rattle.rb_rules.specs.Goodness.{Scenario}
-use Rattle.rb_rules.specs.Lawful.{IsLawful}
-use Rattle.rb_rules.specs.Slots.{count_of}
-use Rattle.rb_rules.specs.WorldStep.{World, first_world, fresh_site, proceed}
-use Rattle.rb_world.specs.Sites.{KeptSite, Stands as StandsFor, number_of}
-use Rattle.rb_world.specs.declared.scene.Scene.{Scene}
-use Rattle.rb_world.specs.Steps.{moved}
-use Rattle.rb_world.specs.Worlds.{IsNode, Surrounds}
+use Rattle.rb_rules.specs.{Book.{each_of, of_kind}, Entries.IsListed, Goodness.Scenario, Lawful.IsLawful, Slots.count_of, WorldStep.{World, first_world, fresh_site, proceed}}
+use Rattle.rb_world.specs.{Sites.{KeptSite, Stands as StandsFor, number_of}, declared.scene.Scene.Scene, Steps.moved, Worlds.{IsNode, Surrounds}}
 
 -- the world before any node has begun
 abbrev pub before_all : Scenario → World

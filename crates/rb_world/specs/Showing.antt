@@ -1,21 +1,10 @@
 -- When what is due may be shown.
 use Rattle.std.specs.Prelude.{ℕ, ◌≡◌, ◌<◌, ◌^◌, Some, List}
-use Rattle.rb_base.specs.Nodes.{Side}
-use Rattle.rb_base.specs.declared.event.Event.{Event}
-use Rattle.rb_base.specs.declared.node.NodeName.{NodeName}
-use Rattle.rb_rules.specs.Clock.{ComesBy}
-use Rattle.rb_rules.specs.Core.{Core, next_tick}
-use Rattle.rb_rules.specs.Goodness.{Scenario, clock_of}
-use Rattle.rb_rules.specs.Links.{name_of}
-use Rattle.rb_rules.specs.Ports.{PortState}
-use Rattle.rb_rules.specs.Slots.{count_of}
-use Rattle.rb_rules.specs.WorldStep.{Pending, Site}
-use Rattle.rb_rules.specs.WorldStep.Pending.{Tick, Arrival}
-use Rattle.rb_world_agenda.specs.Agenda.{IsAtTime}
-use Rattle.rb_world_agenda.specs.Holding.{Shows}
+use Rattle.rb_base.specs.{Nodes.Side, declared.event.Event.Event, declared.node.NodeName.NodeName}
+use Rattle.rb_rules.specs.{Clock.ComesBy, Core.{Core, next_tick}, Goodness.{Scenario, clock_of}, Links.name_of, Ports.PortState, Slots.count_of, WorldStep.{Pending, Site}, WorldStep.Pending.{Tick, Arrival}}
+use Rattle.rb_world_agenda.specs.{Agenda.IsAtTime, Holding.Shows}
 use Rattle.rb_port.specs.Keeping.{KeptPort}
-use Rattle.rb_world.specs.Sites.{KeptSite, Stands as StandsFor, number_of}
-use Rattle.rb_world.specs.Worlds.{HoldsPorts}
+use Rattle.rb_world.specs.{Sites.{KeptSite, Stands as StandsFor, number_of}, Worlds.HoldsPorts}
 
 -- node i of kind me has this name, and what is kept of it stands for this site
 pub record IsShownAt (sc : Scenario) (me : Side) (i : ℕ) (site : KeptSite) (name : NodeName) (s : Site) : Type 0 where

@@ -1,12 +1,7 @@
 -- Which site of a world is stood for.
 use Rattle.std.specs.Prelude.{ℕ, ◌≡◌, ◌<◌, ◌^◌, Bool, true, Option, Some, None, List, [], ◌∷◌, ◌++◌, length, map, slice_index}
 use Rattle.rb_base.specs.Nodes.{Side}
-use Rattle.rb_rules.specs.Core.{Act, arrive, of_source}
-use Rattle.rb_rules.specs.Goodness.{Scenario, is_good}
-use Rattle.rb_rules.specs.Hearing.{Coming, Span}
-use Rattle.rb_rules.specs.Ports.{PortState}
-use Rattle.rb_rules.specs.Sense.{Arrival}
-use Rattle.rb_rules.specs.WorldStep.{Site, coming_from, with_close, with_epoch}
+use Rattle.rb_rules.specs.{Core.{Act, arrive, of_source}, Goodness.{Scenario, is_good}, Hearing.{Coming, Span}, Ports.PortState, Sense.Arrival, WorldStep.{Site, coming_from, with_close, with_epoch}}
 use Rattle.rb_node.specs.Cores.{IsCore, Running}
 
 -- what is kept of a site: the node, whether it runs, and for each source the time of what came of

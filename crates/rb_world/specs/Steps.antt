@@ -1,36 +1,14 @@
 -- What happens at one node, as it is done in parts.
 use Rattle.std.specs.Prelude.{⊤, [], ℕ, ◌≡◌, ◌+◌, ◌<◌, ◌≤◌, ◌^◌, true, Option, Some, None, IfSome, All, get_or, length, slice_get, Bool, if◌then◌else◌}
-use Rattle.rb_base.specs.Nodes.{Side, other}
-use Rattle.rb_base.specs.Nodes.Side.{Biu}
-use Rattle.rb_base.specs.Sizes.{Sizes}
-use Rattle.rb_base.specs.declared.values.See.TheVariants.{Nothing}
-use Rattle.rb_rules.specs.declared.closing.Closed.{Closed}
-use Rattle.rb_rules.specs.declared.message.Message.{Message}
-use Rattle.rb_rules.specs.declared.record.Epoch.{Epoch}
-use Rattle.rb_base.specs.declared.event.Event.{Event}
-use Rattle.rb_base.specs.declared.node.NodeName.{NodeName}
-use Rattle.rb_rules.specs.Book.{Each, Row, of_kind}
-use Rattle.rb_rules.specs.Clock.{ComesBy}
-use Rattle.rb_rules.specs.Core.{Act, Core, next_tick, pass_to}
-use Rattle.rb_rules.specs.Entries.{IsListed}
-use Rattle.rb_rules.specs.Goodness.{Scenario, clock_of}
-use Rattle.rb_rules.specs.Hearing.{Coming, Span}
-use Rattle.rb_rules.specs.Lawful.{IsLawful, kind_of}
-use Rattle.rb_rules.specs.Links.{name_of}
-use Rattle.rb_rules.specs.Slots.{count_of, first_diagnosis_of}
-use Rattle.rb_rules.specs.WorldStep.{Due, Site, World, after_act, after_arrival, at_node, await, due_of, happens, pass_and_tick, proceed, span_from, wants_in, with_act, with_delivery, with_epoch, with_message, word_of}
-use Rattle.rb_world_agenda.specs.Agenda.{IsAtTime}
-use Rattle.rb_world_agenda.specs.Holding.{Shows, without_waiting}
-use Rattle.rb_node.specs.Cores.{IsCore, passing_end}
-use Rattle.rb_node.specs.declared.act.Want.{Want}
-use Rattle.rb_node.specs.declared.act.Want.TheVariants as want
+use Rattle.rb_base.specs.{Nodes.{Side, other}, Nodes.Side.Biu, Sizes.Sizes, declared.values.See.TheVariants.Nothing, declared.event.Event.Event, declared.node.NodeName.NodeName}
+use Rattle.rb_rules.specs.{declared.closing.Closed.Closed, declared.message.Message.Message, declared.record.Epoch.Epoch, Book.{Each, Row, of_kind}, Clock.ComesBy, Core.{Act, Core, next_tick, pass_to}, Entries.IsListed, Goodness.{Scenario, clock_of}, Hearing.{Coming, Span}, Lawful.{IsLawful, kind_of}, Links.name_of, Slots.{count_of, first_diagnosis_of}, WorldStep.{Due, Site, World, after_act, after_arrival, at_node, await, due_of, happens, pass_and_tick, proceed, span_from, wants_in, with_act, with_delivery, with_epoch, with_message, word_of}}
+use Rattle.rb_world_agenda.specs.{Agenda.IsAtTime, Holding.{Shows, without_waiting}}
+use Rattle.rb_node.specs.{Cores.{IsCore, passing_end}, declared.act.Want.Want}
 use Rattle.rb_world_book.specs.Changing.{with_row}
 use Rattle.rb_queue.specs.Waiting.{HasLane, Held, lane_of, spare_of}
-use Rattle.rb_world.specs.Sites.{KeptSite, Stands as StandsFor, number_of}
-use Rattle.rb_world.specs.Tells.{row_at}
+use Rattle.rb_world.specs.{Sites.{KeptSite, Stands as StandsFor, number_of}, Tells.row_at, declared.scene.Scene.Scene, Worlds.{AreNodes, IsNode, IsReached, Surrounds}}
 use Rattle.rb_world_traffic.specs.Arriving.{number_of as number_in}
-use Rattle.rb_world.specs.declared.scene.Scene.{Scene}
-use Rattle.rb_world.specs.Worlds.{AreNodes, IsNode, IsReached, Surrounds}
+use Rattle.rb_node.specs.declared.act.Want.TheVariants as want
 
 -- the world in which the site of node i of kind me has changed
 abbrev pub moved : Side → ℕ → (Site → Site) → World → World

@@ -1,11 +1,7 @@
 -- What is pending at a node.
 use Rattle.std.specs.Prelude.{ℕ, ◌≡◌, Some, slice_get}
-use Rattle.rb_base.specs.Nodes.{Side}
-use Rattle.rb_base.specs.Sizes.{Sizes}
-use Rattle.rb_base.specs.declared.node.NodeName.{NodeName}
-use Rattle.rb_rules.specs.Book.{Each, of_kind}
-use Rattle.rb_rules.specs.Links.{name_of}
-use Rattle.rb_rules.specs.WorldStep.{Site}
+use Rattle.rb_base.specs.{Nodes.Side, Sizes.Sizes, declared.node.NodeName.NodeName}
+use Rattle.rb_rules.specs.{Book.{Each, of_kind}, Links.name_of, WorldStep.Site}
 use Rattle.rb_queue.specs.Waiting.{Held}
 use Rattle.rb_world_agenda.specs.Holding.{HoldsSites}
 

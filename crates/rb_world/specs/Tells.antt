@@ -1,24 +1,8 @@
 -- What a node tells of itself, by what is kept.
 use Rattle.std.specs.Prelude.{ℕ, ◌≡◌, ◌==◌, ◌&&◌, not, false, Bool, Option, Some, None, List, option_map, get_or, slice_index, if◌then◌else◌}
-use Rattle.rb_base.specs.Nodes.{Side}
-use Rattle.rb_base.specs.declared.values.See.{See}
-use Rattle.rb_base.specs.declared.values.See.TheVariants.{Nothing}
-use Rattle.rb_rules.specs.declared.closing.Closed.{Closed}
-use Rattle.rb_rules.specs.declared.record.Epoch.{Epoch}
-use Rattle.rb_rules.specs.Book.{Begun, Row}
-use Rattle.rb_rules.specs.ExactStage.{each_node}
-use Rattle.rb_rules.specs.Clock.{Timeline}
-use Rattle.rb_rules.specs.Core.{is_tick, next_tick, pass_to, tick}
-use Rattle.rb_rules.specs.Goodness.{Scenario, clock_of}
-use Rattle.rb_rules.specs.Hearing.{Coming, begun_of, judged_see}
-use Rattle.rb_rules.specs.NodeState.{NodeState, trusted_of}
-use Rattle.rb_rules.specs.Ports.{PortState}
-use Rattle.rb_rules.specs.SyncStage.{new_epoch_of}
-use Rattle.rb_rules.specs.WorldStep.{Site, after_arrival, pass_and_tick, wants_in, word_of}
-use Rattle.rb_node.specs.Acts.{IsAct}
-use Rattle.rb_node.specs.Cores.{IsCore}
-use Rattle.rb_node.specs.Ends.{EndsExactWindow}
-use Rattle.rb_node.specs.declared.act.Step.{Step}
+use Rattle.rb_base.specs.{Nodes.Side, declared.values.See.See, declared.values.See.TheVariants.Nothing}
+use Rattle.rb_rules.specs.{declared.closing.Closed.Closed, declared.record.Epoch.Epoch, Book.{Begun, Row}, ExactStage.each_node, Clock.Timeline, Core.{is_tick, next_tick, pass_to, tick}, Goodness.{Scenario, clock_of}, Hearing.{Coming, begun_of, judged_see}, NodeState.{NodeState, trusted_of}, Ports.PortState, SyncStage.new_epoch_of, WorldStep.{Site, after_arrival, pass_and_tick, wants_in, word_of}}
+use Rattle.rb_node.specs.{Acts.IsAct, Cores.IsCore, Ends.EndsExactWindow, declared.act.Step.Step}
 use Rattle.rb_world.specs.Sites.{KeptSite, Stands, after_tick, number_of, taken_in}
 
 -- what was seen of each source, with the time kept in place of a stamp

@@ -1,35 +1,14 @@
 -- A run that goes from tick to tick: arrivals are left behind until a tick of their node comes, or
 -- a record.
 use Rattle.std.specs.Prelude.{ℕ, zero, suc, ◌≡◌, ◌+◌, ◌^◌, ◌<◌, ◌≤◌, nat_lt, All, true, false, Option, Some, None, List, length, slice_get}
-use Rattle.rb_base.specs.Nodes.{Side, other}
-use Rattle.rb_base.specs.Sizes.{Sizes}
-use Rattle.rb_rules.specs.Book.{Each, of_kind}
-use Rattle.rb_rules.specs.Clock.{time_of}
-use Rattle.rb_rules.specs.Entries.{IsListed}
-use Rattle.rb_rules.specs.Goodness.{Scenario, clock_of}
-use Rattle.rb_rules.specs.Hearing.{Coming}
-use Rattle.rb_base.specs.declared.node.NodeName.{NodeName}
-use Rattle.rb_world_book.specs.Records.{record_of}
-use Rattle.rb_world_book.specs.declared.turn.Turn.{Turn}
-use Rattle.rb_rules.specs.Lawful.{IsLawful, kind_of}
-use Rattle.rb_rules.specs.Links.{name_of}
-use Rattle.rb_rules.specs.Slots.{count_of}
-use Rattle.rb_rules.specs.WorldStep.{Site, Timed, World, at_node, happens}
-use Rattle.rb_rules.specs.WorldStep.Pending.{Tick, Arrival}
+use Rattle.rb_base.specs.{Nodes.{Side, other}, Sizes.Sizes, declared.node.NodeName.NodeName}
+use Rattle.rb_rules.specs.{Book.{Each, of_kind}, Clock.time_of, Entries.IsListed, Goodness.{Scenario, clock_of}, Hearing.Coming, Lawful.{IsLawful, kind_of}, Links.name_of, Slots.count_of, WorldStep.{Site, Timed, World, at_node, happens}, WorldStep.Pending.{Tick, Arrival}}
+use Rattle.rb_world_book.specs.{Records.record_of, declared.turn.Turn.Turn}
 use Rattle.rb_queue.specs.Waiting.{HasLane, Held}
 use Rattle.rb_world_agenda.specs.Holding.{HoldsSites, without_waiting}
-use Rattle.rb_world.specs.Sites.{KeptSite, number_of}
-use Rattle.rb_laws_sweeps.specs.AheadOf.{GoesOnAhead, IsFirstTick, ahead_of, tick_alone, until_tick}
-use Rattle.rb_laws_sweeps.specs.Laws.{NeedsEvent}
-use Rattle.rb_laws_sweeps.specs.Sweeping.{first_of, swept}
-use Rattle.rb_world.specs.declared.scene.Scene.{Scene}
+use Rattle.rb_world.specs.{Sites.{KeptSite, number_of}, declared.scene.Scene.Scene, declared.ties.Ties.TheVariants.First, Buses.HaveRooms, Nexts.{IsNext, after_steps}, Worlds.{AreNodes, IsNode, IsReached, Surrounds}, Runs.nodes_of, declared.run.Run.Run}
+use Rattle.rb_laws_sweeps.specs.{AheadOf.{GoesOnAhead, IsFirstTick, ahead_of, tick_alone, until_tick}, Laws.NeedsEvent, Sweeping.{first_of, swept}}
 use Rattle.rb_world_traffic.specs.Arriving.{number_of as number_in}
-use Rattle.rb_world.specs.declared.ties.Ties.TheVariants.{First}
-use Rattle.rb_world.specs.Buses.{HaveRooms}
-use Rattle.rb_world.specs.Nexts.{IsNext, after_steps}
-use Rattle.rb_world.specs.Worlds.{AreNodes, IsNode, IsReached, Surrounds}
-use Rattle.rb_world.specs.Runs.{nodes_of}
-use Rattle.rb_world.specs.declared.run.Run.{Run}
 
 -- What comes first at a node.
 

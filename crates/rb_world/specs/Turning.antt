@@ -1,8 +1,7 @@
 -- What a call makes of a world.
 use Rattle.std.specs.Prelude.{◌≡◌}
 use Rattle.rb_rules.specs.WorldStep.{World}
-use Rattle.rb_world_book.specs.Records.{record_of}
-use Rattle.rb_world_book.specs.declared.turn.Turn.{Turn}
+use Rattle.rb_world_book.specs.{Records.record_of, declared.turn.Turn.Turn}
 use Rattle.rb_world.specs.Worlds.{KeptWorld, Stands}
 
 -- what is kept stands afterwards for this world, and its turn is given

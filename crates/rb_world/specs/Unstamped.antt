@@ -1,21 +1,11 @@
 -- A node before a tick that ends a window of a slot before the sync slot. What comes to it until
 -- then is taken in unstamped, in any order.
 use Rattle.std.specs.Prelude.{ℕ, ◌≡◌, ◌+◌, ◌<◌, nat_lt, All, Some, List, [], ◌∷◌, filter, slice_get, slice_set}
-use Rattle.rb_base.specs.Nodes.{Side, other}
-use Rattle.rb_base.specs.declared.node.NodeName.{NodeName}
-use Rattle.rb_rules.specs.Book.{Each, of_kind}
-use Rattle.rb_rules.specs.Core.{Core}
-use Rattle.rb_rules.specs.Goodness.{Scenario}
-use Rattle.rb_rules.specs.Hearing.{Coming}
-use Rattle.rb_rules.specs.Links.{name_of}
-use Rattle.rb_rules.specs.Slots.{count_of}
-use Rattle.rb_rules.specs.WorldStep.{Site, Timed, World}
-use Rattle.rb_node.specs.Cores.{IsCore, Running, next_of}
-use Rattle.rb_node.specs.Ends.{EndsExactWindow}
+use Rattle.rb_base.specs.{Nodes.{Side, other}, declared.node.NodeName.NodeName}
+use Rattle.rb_rules.specs.{Book.{Each, of_kind}, Core.Core, Goodness.Scenario, Hearing.Coming, Links.name_of, Slots.count_of, WorldStep.{Site, Timed, World}}
+use Rattle.rb_node.specs.{Cores.{IsCore, Running, next_of}, Ends.EndsExactWindow}
 use Rattle.rb_queue.specs.Waiting.{Held, lane_of, with_lane, without_before, without_tick}
-use Rattle.rb_world.specs.Sites.{KeptSite, Stands as StandsFor, taken_in}
-use Rattle.rb_world.specs.Trailing.{MayTakeFirst, bare, TakesFirst}
-use Rattle.rb_world.specs.declared.scene.Scene.{Scene}
+use Rattle.rb_world.specs.{Sites.{KeptSite, Stands as StandsFor, taken_in}, Trailing.{MayTakeFirst, bare, TakesFirst}, declared.scene.Scene.Scene}
 
 -- what comes before a time, in the order of the list
 abbrev pub due_before : ℕ → List Coming → List Coming

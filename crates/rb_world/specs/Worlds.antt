@@ -1,28 +1,13 @@
 -- Which world of the definitions is stood for.
 use Rattle.std.specs.Prelude.{ℕ, ◌≡◌, ◌<◌, ◌||◌, true, false, Option, Some, None, option_map, All, List, [], length, slice_get}
-use Rattle.rb_base.specs.Nodes.{Side, has, other}
-use Rattle.rb_base.specs.Nodes.Side.{Biu, Rmu}
-use Rattle.rb_rules.specs.Book.{Each, Record, of_kind}
-use Rattle.rb_rules.specs.Clock.{time_of}
-use Rattle.rb_rules.specs.Core.{next_tick}
-use Rattle.rb_rules.specs.Entries.{IsListed}
-use Rattle.rb_rules.specs.Goodness.{Scenario, clock_of}
-use Rattle.rb_rules.specs.Lawful.{IsLawful}
-use Rattle.rb_rules.specs.Ports.{PortState}
-use Rattle.rb_rules.specs.Slots.{count_of}
-use Rattle.rb_rules.specs.WorldStep.{Choice, Site, World, needs_no_event, world_after}
-use Rattle.rb_world_agenda.specs.Agenda.{how_many}
-use Rattle.rb_world_agenda.specs.Holding.{HoldsSites}
-use Rattle.rb_world_book.specs.Holding.{Holds}
-use Rattle.rb_world_book.specs.Settling.{is_free}
+use Rattle.rb_base.specs.{Nodes.{Side, has, other}, Nodes.Side.{Biu, Rmu}}
+use Rattle.rb_rules.specs.{Book.{Each, Record, of_kind}, Clock.time_of, Core.next_tick, Entries.IsListed, Goodness.{Scenario, clock_of}, Lawful.IsLawful, Ports.PortState, Slots.count_of, WorldStep.{Choice, Site, World, needs_no_event, world_after}}
+use Rattle.rb_world_agenda.specs.{Agenda.how_many, Holding.HoldsSites}
+use Rattle.rb_world_book.specs.{Holding.Holds, Settling.is_free}
 use Rattle.rb_port.specs.Keeping.{HoldsPort, KeptPort}
-use Rattle.rb_world.specs.Sites.{KeptSite, Stands as StandsFor, number_of}
+use Rattle.rb_world.specs.{Sites.{KeptSite, Stands as StandsFor, number_of}, declared.last.Last.Last, declared.scene.Scene.Scene, declared.ties.Seeding.Seeding, Buses.{HaveRooms, listed_by}}
 use Rattle.rb_world_traffic.specs.Arriving.{AreRunning}
-use Rattle.rb_world.specs.declared.last.Last.{Last}
 use Rattle.rb_world.specs.declared.last.Last.TheVariants as last
-use Rattle.rb_world.specs.declared.scene.Scene.{Scene}
-use Rattle.rb_world.specs.declared.ties.Seeding.{Seeding}
-use Rattle.rb_world.specs.Buses.{HaveRooms, listed_by}
 
 -- what is kept of a run: the bus, whose faulty nodes do what its entries list, the nodes, what
 -- surrounds them, the draws among events that are due, and which turn came last

@@ -1,21 +1,11 @@
 -- What is due in all lanes is what is due in the world.
-use Rattle.std.proofs.Common.{◌≡◌, ℕ, ◌+◌, ◌≤◌, Option, Some, None, List, [], ◌∷◌, ◌++◌, length, map, refl, sym, ap, ◌∙◌, arith, length-append}
-use Rattle.std.specs.Prelude.{unwrap_or}
-use Rattle.std.specs.List.{flat_map}
-use Rattle.std.proofs.lemmas.Grind.{flat_map-append}
-use Rattle.std.proofs.lemmas.List.{length-map}
-use Rattle.rb_base.specs.Nodes.{Side, other}
-use Rattle.rb_base.specs.Nodes.Side.{Biu, Rmu}
-use Rattle.rb_base.specs.Sizes.{Sizes}
-use Rattle.rb_rules.specs.Book.{Each, in_order, map_from}
-use Rattle.rb_rules.specs.Goodness.{Scenario}
-use Rattle.rb_rules.specs.Slots.{count_of}
-use Rattle.rb_rules.specs.WorldStep.{Due, Site, World, due_at, ready_at}
+use Rattle.std.proofs.{Common.{◌≡◌, ℕ, ◌+◌, ◌≤◌, Option, Some, None, List, [], ◌∷◌, ◌++◌, length, map, refl, sym, ap, ◌∙◌, arith, length-append}, lemmas.Grind.flat_map-append, lemmas.List.length-map}
+use Rattle.std.specs.{Prelude.unwrap_or, List.flat_map}
+use Rattle.rb_base.specs.{Nodes.{Side, other}, Nodes.Side.{Biu, Rmu}, Sizes.Sizes}
+use Rattle.rb_rules.specs.{Book.{Each, in_order, map_from}, Goodness.Scenario, Slots.count_of, WorldStep.{Due, Site, World, due_at, ready_at}}
 use Rattle.rb_queue.specs.Waiting.{Held, head_of}
-use Rattle.rb_world_agenda.specs.Agenda.{due_count, due_in, due_now, first_time, how_many}
-use Rattle.rb_world_agenda.specs.Holding.{HoldsAll, HoldsSite, HoldsSites, due_with}
-use Rattle.rb_world_agenda.proofs.OneNode.{ready-is}
-use Rattle.rb_world_agenda.proofs.Heads.{AreLow, AreTimes, IsLow, IsTime, all-low, due-by, first-is, first-time, first_head, key-is, low-itself}
+use Rattle.rb_world_agenda.specs.{Agenda.{due_count, due_in, due_now, first_time, how_many}, Holding.{HoldsAll, HoldsSite, HoldsSites, due_with}}
+use Rattle.rb_world_agenda.proofs.{OneNode.ready-is, Heads.{AreLow, AreTimes, IsLow, IsTime, all-low, due-by, first-is, first-time, first_head, key-is, low-itself}}
 
 -- One kind.
 

@@ -1,11 +1,7 @@
 -- The least of 32 marks is read off the least of each four.
-use Rattle.std.proofs.Common.{◌≡◌, ℕ, ◌+◌, ◌*◌, ◌/◌, ◌<◌, ◌≤◌, min, List, length, get_or, inl, inr, sym, ap, ◌∙◌, subst, arith}
+use Rattle.std.proofs.{Common.{◌≡◌, ℕ, ◌+◌, ◌*◌, ◌/◌, ◌<◌, ◌≤◌, min, List, length, get_or, inl, inr, sym, ap, ◌∙◌, subst, arith}, Math.Path.ap₂, lemmas.Bool.{cases_eq, cases_lt}, lemmas.List.{length-set, get_or-set_same, get_or-set_other}}
 use Rattle.std.specs.Prelude.{slice_set}
-use Rattle.std.proofs.Math.Path.{ap₂}
-use Rattle.std.proofs.lemmas.Bool.{cases_eq, cases_lt}
-use Rattle.std.proofs.lemmas.List.{length-set, get_or-set_same, get_or-set_other}
-use Rattle.rb_world_agenda.specs.Agenda.{least_key}
-use Rattle.rb_world_agenda.specs.Fours.{AreFours, four_at}
+use Rattle.rb_world_agenda.specs.{Agenda.least_key, Fours.{AreFours, four_at}}
 use Rattle.rb_world_agenda.proofs.Fronts.{least-above, least-low, least-most}
 
 four-same : (xs ys : List ℕ) (i : ℕ) → get_or xs i 0 ≡ get_or ys i 0 → get_or xs (i + 1) 0 ≡ get_or ys (i + 1) 0 → get_or xs (i + 2) 0 ≡ get_or ys (i + 2) 0

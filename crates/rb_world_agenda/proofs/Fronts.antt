@@ -1,10 +1,6 @@
 -- The place of the least of the keys.
-use Rattle.std.proofs.Common.{◌≡◌, ℕ, zero, suc, ◌+◌, ◌<◌, ◌≤◌, nat_lt, Bool, true, false, List, [], ◌∷◌, length, take, get_or, if◌then◌else◌, refl, sym, ap, ◌∙◌, subst, arith, inl, inr}
-use Rattle.std.proofs.lemmas.Bool.{cases_lt}
-use Rattle.std.proofs.lemmas.Bool.Decides.{nat_tests}
-use Rattle.rb_world_agenda.specs.declared.scan.Front.{Front}
-use Rattle.rb_world_agenda.specs.Agenda.{least_key}
-use Rattle.rb_world_agenda.specs.Fronts.{IsFront}
+use Rattle.std.proofs.{Common.{◌≡◌, ℕ, zero, suc, ◌+◌, ◌<◌, ◌≤◌, nat_lt, Bool, true, false, List, [], ◌∷◌, length, take, get_or, if◌then◌else◌, refl, sym, ap, ◌∙◌, subst, arith, inl, inr}, lemmas.Bool.cases_lt, lemmas.Bool.Decides.nat_tests}
+use Rattle.rb_world_agenda.specs.{declared.scan.Front.Front, Agenda.least_key, Fronts.IsFront}
 use Rattle.rb_world_agenda.proofs.Scans.{least-more}
 
 -- ---- the least key

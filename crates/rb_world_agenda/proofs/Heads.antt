@@ -1,22 +1,11 @@
 -- The least time of all lanes is that of the world.
-use Rattle.std.proofs.Common.{◌≡◌, ℕ, ◌+◌, ◌<◌, ◌≤◌, ◌==◌, ◌&&◌, min, Bool, true, false, Option, Some, None, List, [], ◌∷◌, ◌++◌, map, refl, sym, ap, ◌∙◌, arith}
-use Rattle.std.specs.Prelude.{⊤, option_to_list, unwrap_or}
-use Rattle.std.specs.List.{flat_map}
-use Rattle.std.proofs.lemmas.Bool.Decides.{nat_tests}
-use Rattle.std.proofs.lemmas.Grind.{flat_map-append}
-use Rattle.rb_base.specs.Counting.{count_if}
-use Rattle.rb_base.specs.Nodes.{Side}
-use Rattle.rb_base.specs.Nodes.Side.{Biu, Rmu}
-use Rattle.rb_base.specs.Sizes.{Sizes}
-use Rattle.rb_rules.specs.Book.{Each, in_order}
-use Rattle.rb_rules.specs.Hearing.{Coming}
-use Rattle.rb_rules.specs.WorldStep.{Site, least, times_of}
-use Rattle.rb_queue.specs.Waiting.{Held, Ready, comes, head_of, ready_from}
-use Rattle.rb_queue.specs.Waiting.{ready_at as ready_in, unless_any as unless_some, arrivals_at as arrivals_of, tick_at as tick_in}
-use Rattle.rb_queue.specs.Waiting.Ready.{Ticks}
+use Rattle.std.proofs.{Common.{◌≡◌, ℕ, ◌+◌, ◌<◌, ◌≤◌, ◌==◌, ◌&&◌, min, Bool, true, false, Option, Some, None, List, [], ◌∷◌, ◌++◌, map, refl, sym, ap, ◌∙◌, arith}, lemmas.Bool.Decides.nat_tests, lemmas.Grind.flat_map-append}
+use Rattle.std.specs.{Prelude.{⊤, option_to_list, unwrap_or}, List.flat_map}
+use Rattle.rb_base.specs.{Counting.count_if, Nodes.Side, Nodes.Side.{Biu, Rmu}, Sizes.Sizes}
+use Rattle.rb_rules.specs.{Book.{Each, in_order}, Hearing.Coming, WorldStep.{Site, least, times_of}}
+use Rattle.rb_queue.specs.{Waiting.{Held, Ready, comes, head_of, ready_from}, Waiting.{ready_at as ready_in, unless_any as unless_some, arrivals_at as arrivals_of, tick_at as tick_in}, Waiting.Ready.Ticks}
 use Rattle.rb_queue.proofs.Sources.{arrivals_are, from_on, from_on-skip, from_on-zero}
-use Rattle.rb_world_agenda.specs.Agenda.{key_of, least_key}
-use Rattle.rb_world_agenda.specs.Holding.{HoldsAll, HoldsSite, HoldsSites}
+use Rattle.rb_world_agenda.specs.{Agenda.{key_of, least_key}, Holding.{HoldsAll, HoldsSite, HoldsSites}}
 
 -- The sooner of two times, each of which may be missing.
 abbrev pub sooner : Option ℕ → Option ℕ → Option ℕ

@@ -1,20 +1,12 @@
 -- How the least times are kept beside the lanes.
-use Rattle.std.proofs.Common.{◌≡◌, ℕ, zero, suc, ◌+◌, ◌-◌, ◌<◌, ◌≤◌, nat_lt, Bool, true, false, Option, Some, None, List, [], ◌∷◌, ◌++◌, All, length, map, slice_get, if◌then◌else◌, refl, sym, ap, ◌∙◌, subst, arith, length-append}
+use Rattle.std.proofs.{Common.{◌≡◌, ℕ, zero, suc, ◌+◌, ◌-◌, ◌<◌, ◌≤◌, nat_lt, Bool, true, false, Option, Some, None, List, [], ◌∷◌, ◌++◌, All, length, map, slice_get, if◌then◌else◌, refl, sym, ap, ◌∙◌, subst, arith, length-append}, Math.ListN.replicate, lemmas.Bool.Decides.nat_tests, lemmas.List.{length-map, length-set, map-append, set-append_left, set-append_right}, lemmas.List.Elements.{All-cons, All-nil, All-set, All-head, All-tail}, lemmas.List.FromFn.length-range_with_len}
 use Rattle.std.specs.Prelude.{unwrap_or, slice_set}
-use Rattle.std.proofs.Math.ListN.{replicate}
-use Rattle.std.proofs.lemmas.Bool.Decides.{nat_tests}
-use Rattle.std.proofs.lemmas.List.{length-map, length-set, map-append, set-append_left, set-append_right}
-use Rattle.std.proofs.lemmas.List.Elements.{All-cons, All-nil, All-set, All-head, All-tail}
-use Rattle.std.proofs.lemmas.List.FromFn.{length-range_with_len}
-use Rattle.rb_base.specs.Counting.{numbers}
-use Rattle.rb_base.specs.Sizes.{IsShape, Sizes}
-use Rattle.rb_base.specs.declared.node.NodeName.{NodeName}
-use Rattle.rb_base.specs.declared.node.NodeName.TheVariants as node
+use Rattle.rb_base.specs.{Counting.numbers, Sizes.{IsShape, Sizes}, declared.node.NodeName.NodeName}
 use Rattle.rb_rules.specs.Book.{Each, each_of, in_order}
-use Rattle.rb_queue.specs.Waiting.{HasLane, Held, Ready, empty_lane, head_of, lane_of, ready_of, with_lane, without_found, without_ready}
-use Rattle.rb_queue.specs.Waiting.Ready.{Comes, Ticks}
+use Rattle.rb_queue.specs.{Waiting.{HasLane, Held, Ready, empty_lane, head_of, lane_of, ready_of, with_lane, without_found, without_ready}, Waiting.Ready.{Comes, Ticks}}
 use Rattle.rb_world_agenda.specs.Agenda.{AreFew, key_of, keys_of, node_at, position_of}
 use Rattle.rb_world_agenda.proofs.Heads.{AreTimes, IsTime}
+use Rattle.rb_base.specs.declared.node.NodeName.TheVariants as node
 
 -- A lane changes.
 get-set : {X : Type 0} (xs : List X) (i : ℕ) (x : X) → i < length xs → slice_get (slice_set xs i x) i ≡ Some x

@@ -1,12 +1,7 @@
 -- The marks of ticks, and what is read off the least of them.
-use Rattle.std.proofs.Common.{◌≡◌, ℕ, zero, suc, ◌+◌, ◌-◌, ◌*◌, ◌/◌, ◌%◌, Bool, ◌<◌, ◌≤◌, nat_lt, true, false, if◌then◌else◌, List, [], ◌∷◌, ◌++◌, length, min, get_or, refl, sym, ap, ◌∙◌, subst, arith, inl, inr, length-append}
+use Rattle.std.proofs.{Common.{◌≡◌, ℕ, zero, suc, ◌+◌, ◌-◌, ◌*◌, ◌/◌, ◌%◌, Bool, ◌<◌, ◌≤◌, nat_lt, true, false, if◌then◌else◌, List, [], ◌∷◌, ◌++◌, length, min, get_or, refl, sym, ap, ◌∙◌, subst, arith, inl, inr, length-append}, Math.ListN.replicate, lemmas.Bool.cases_lt, lemmas.Bool.Decides.nat_tests, lemmas.List.{length-replicate, length-set, set-append_left}}
 use Rattle.std.specs.Prelude.{slice_set}
-use Rattle.std.proofs.Math.ListN.{replicate}
-use Rattle.std.proofs.lemmas.Bool.{cases_lt}
-use Rattle.std.proofs.lemmas.Bool.Decides.{nat_tests}
-use Rattle.std.proofs.lemmas.List.{length-replicate, length-set, set-append_left}
-use Rattle.rb_world_agenda.specs.Agenda.{filled, least_key, mark_of, marks_from}
-use Rattle.rb_world_agenda.specs.Fronts.{IsFront}
+use Rattle.rb_world_agenda.specs.{Agenda.{filled, least_key, mark_of, marks_from}, Fronts.IsFront}
 use Rattle.rb_world_agenda.proofs.Fronts.{least-above, least-low}
 
 -- Marks.

@@ -1,20 +1,9 @@
 -- What is ready in the lane of a node is what may be taken at its site.
-use Rattle.std.proofs.Common.{◌≡◌, ℕ, zero, suc, ◌+◌, ◌-◌, ◌<◌, ◌≤◌, ◌==◌, ◌&&◌, Bool, true, false, Option, Some, None, List, [], ◌∷◌, ◌++◌, All, map, refl, sym, ap, ◌∙◌, arith}
-use Rattle.std.specs.Prelude.{option_map, unwrap_or}
-use Rattle.std.specs.List.{flat_map, range_with_len}
-use Rattle.std.proofs.lemmas.Bool.Decides.{nat_tests}
-use Rattle.std.proofs.lemmas.List.{append-nil, map-append}
-use Rattle.std.proofs.lemmas.List.Elements.{All-head, All-tail}
-use Rattle.rb_base.specs.Counting.{count_if, numbers}
-use Rattle.rb_base.specs.Nodes.{Side, other}
-use Rattle.rb_base.specs.Sizes.{Sizes}
-use Rattle.rb_rules.specs.Hearing.{Coming}
-use Rattle.rb_rules.specs.Slots.{count_of}
-use Rattle.rb_rules.specs.WorldStep.{Due, Site, Timed, arrivals_at, ready_at, tick_at, unless_any}
-use Rattle.rb_rules.specs.WorldStep.Pending.{Tick, Arrival}
-use Rattle.rb_queue.specs.Waiting.{Held, Ready, comes, coming_at}
-use Rattle.rb_queue.specs.Waiting.{ready_at as ready_in, unless_any as unless_some, arrivals_at as arrivals_of, tick_at as tick_in}
-use Rattle.rb_queue.specs.Waiting.Ready.{Comes, Ticks}
+use Rattle.std.proofs.{Common.{◌≡◌, ℕ, zero, suc, ◌+◌, ◌-◌, ◌<◌, ◌≤◌, ◌==◌, ◌&&◌, Bool, true, false, Option, Some, None, List, [], ◌∷◌, ◌++◌, All, map, refl, sym, ap, ◌∙◌, arith}, lemmas.Bool.Decides.nat_tests, lemmas.List.{append-nil, map-append}, lemmas.List.Elements.{All-head, All-tail}}
+use Rattle.std.specs.{Prelude.{option_map, unwrap_or}, List.{flat_map, range_with_len}}
+use Rattle.rb_base.specs.{Counting.{count_if, numbers}, Nodes.{Side, other}, Sizes.Sizes}
+use Rattle.rb_rules.specs.{Hearing.Coming, Slots.count_of, WorldStep.{Due, Site, Timed, arrivals_at, ready_at, tick_at, unless_any}, WorldStep.Pending.{Tick, Arrival}}
+use Rattle.rb_queue.specs.{Waiting.{Held, Ready, comes, coming_at}, Waiting.{ready_at as ready_in, unless_any as unless_some, arrivals_at as arrivals_of, tick_at as tick_in}, Waiting.Ready.{Comes, Ticks}}
 use Rattle.rb_queue.proofs.Sources.{arrivals_are, from_on, from_on-skip, from_on-split, from_on-suc, from_on-zero}
 use Rattle.rb_world_agenda.specs.Holding.{HoldsSite, due_with}
 

@@ -1,18 +1,9 @@
 -- What is ready is of the least time; an arrival stands at its place, and is taken out there.
-use Rattle.std.proofs.Common.{◌≡◌, ℕ, zero, suc, ◌+◌, ◌<◌, ◌==◌, Bool, true, false, cond, Option, Some, None, List, [], ◌∷◌, ◌++◌, All, filter, map, slice_get, refl, sym, ap, ◌∙◌, subst, arith}
-use Rattle.std.specs.Prelude.{remove, unwrap_or}
-use Rattle.std.specs.List.{enumerate_from}
-use Rattle.std.proofs.lemmas.Bool.Decides.{nat_tests}
-use Rattle.std.proofs.lemmas.List.Elements.{All-cons, All-head, All-tail}
-use Rattle.std.proofs.lemmas.Option.{same_Some}
-use Rattle.rb_base.specs.Nodes.{Side, other}
-use Rattle.rb_base.specs.Sizes.{Sizes}
-use Rattle.rb_rules.specs.Hearing.{Coming}
-use Rattle.rb_rules.specs.Slots.{count_of}
-use Rattle.rb_rules.specs.WorldStep.{Site}
-use Rattle.rb_queue.specs.Waiting.{Held, Ready, comes, coming_at, head_of, ready_from, ready_of, without_found, without_ready}
-use Rattle.rb_queue.specs.Waiting.{unless_any as unless_some, arrivals_at as arrivals_of, tick_at as tick_in}
-use Rattle.rb_queue.specs.Waiting.Ready.{Comes, Ticks}
+use Rattle.std.proofs.{Common.{◌≡◌, ℕ, zero, suc, ◌+◌, ◌<◌, ◌==◌, Bool, true, false, cond, Option, Some, None, List, [], ◌∷◌, ◌++◌, All, filter, map, slice_get, refl, sym, ap, ◌∙◌, subst, arith}, lemmas.Bool.Decides.nat_tests, lemmas.List.Elements.{All-cons, All-head, All-tail}, lemmas.Option.same_Some}
+use Rattle.std.specs.{Prelude.{remove, unwrap_or}, List.enumerate_from}
+use Rattle.rb_base.specs.{Nodes.{Side, other}, Sizes.Sizes}
+use Rattle.rb_rules.specs.{Hearing.Coming, Slots.count_of, WorldStep.Site}
+use Rattle.rb_queue.specs.{Waiting.{Held, Ready, comes, coming_at, head_of, ready_from, ready_of, without_found, without_ready}, Waiting.{unless_any as unless_some, arrivals_at as arrivals_of, tick_at as tick_in}, Waiting.Ready.{Comes, Ticks}}
 use Rattle.rb_queue.proofs.Sources.{arrivals_are, from_on, from_on-suc, from_on-zero}
 use Rattle.rb_world_agenda.specs.Holding.{HoldsSite, waits_with, without_waiting}
 

@@ -1,14 +1,11 @@
 -- The least times are looked through, one node after the other.
-use Rattle.std.proofs.Common.{◌≡◌, ℕ, ◌+◌, ◌<◌, ◌≤◌, ◌==◌, min, Bool, true, false, Some, List, [], ◌∷◌, ◌++◌, length, take, get_or, slice_get, refl, sym, ap, ◌∙◌, arith, length-append}
+use Rattle.std.proofs.{Common.{◌≡◌, ℕ, ◌+◌, ◌<◌, ◌≤◌, ◌==◌, min, Bool, true, false, Some, List, [], ◌∷◌, ◌++◌, length, take, get_or, slice_get, refl, sym, ap, ◌∙◌, arith, length-append}, lemmas.List.{length-map, get_or-map, take_all, take_more}, lemmas.Option.unwrap_or-slice_get}
 use Rattle.std.specs.Prelude.{unwrap_or}
-use Rattle.std.proofs.lemmas.List.{length-map, get_or-map, take_all, take_more}
-use Rattle.std.proofs.lemmas.Option.{unwrap_or-slice_get}
 use Rattle.rb_base.specs.declared.node.NodeName.{NodeName}
 use Rattle.rb_rules.specs.Book.{Each, in_order}
 use Rattle.rb_queue.specs.Waiting.{HasLane, Held, Ready, empty_lane, lane_of, ready_of}
 use Rattle.rb_world_agenda.specs.Agenda.{AreFew, StandsAt, due_count, due_in, key_of, keys_of, least_key, node_at}
-use Rattle.rb_world_agenda.proofs.Dues.{count-append}
-use Rattle.rb_world_agenda.proofs.Keeping.{lane-at, room-of}
+use Rattle.rb_world_agenda.proofs.{Dues.count-append, Keeping.{lane-at, room-of}}
 
 -- The least.
 least-push : (ks : List ℕ) (k : ℕ) → least_key (ks ++ k ∷ []) ≡ min (least_key ks) k

@@ -1,22 +1,11 @@
 -- A due event is taken.
-use Rattle.std.proofs.Common.{◌≡◌, ℕ, ◌==◌, true, Option, Some, slice_get, refl, sym, ap, ◌∙◌, subst, arith}
-use Rattle.std.proofs.lemmas.Bool.Decides.{nat_tests}
-use Rattle.std.proofs.lemmas.Option.{same_Some}
+use Rattle.std.proofs.{Common.{◌≡◌, ℕ, ◌==◌, true, Option, Some, slice_get, refl, sym, ap, ◌∙◌, subst, arith}, lemmas.Bool.Decides.nat_tests, lemmas.Option.same_Some}
 use Rattle.std.specs.Prelude.{option_map, unwrap_or}
-use Rattle.rb_base.specs.declared.event.Event.{Event}
-use Rattle.rb_base.specs.declared.node.NodeName.{NodeName}
-use Rattle.rb_rules.specs.Book.{Each, in_order, of_kind}
-use Rattle.rb_rules.specs.Goodness.{Scenario}
-use Rattle.rb_rules.specs.Links.{name_of}
-use Rattle.rb_rules.specs.WorldStep.{Pending as Waits, Site, Timed, World, at_node}
-use Rattle.rb_queue.specs.Waiting.{HasLane, Held, Ready, event_with, kind_with, lane_of, ready_event, ready_of, with_lane, without_ready}
-use Rattle.rb_queue.specs.Waiting.Ready.{Comes, Ticks}
-use Rattle.rb_world_agenda.specs.Agenda.{IsAtTime, StandsAt, TakesDue, first_time, key_of}
-use Rattle.rb_world_agenda.specs.Holding.{HoldsSite, HoldsSites, Shows, due_with, waits_with, without_waiting}
-use Rattle.rb_world_agenda.proofs.Changes.{holds-at}
-use Rattle.rb_world_agenda.proofs.Heads.{AreTimes}
-use Rattle.rb_world_agenda.proofs.Places.{IsAtHead, IsOf, holds-without, ready-at}
-use Rattle.rb_world_agenda.proofs.Which.{is-due}
+use Rattle.rb_base.specs.{declared.event.Event.Event, declared.node.NodeName.NodeName}
+use Rattle.rb_rules.specs.{Book.{Each, in_order, of_kind}, Goodness.Scenario, Links.name_of, WorldStep.{Pending as Waits, Site, Timed, World, at_node}}
+use Rattle.rb_queue.specs.{Waiting.{HasLane, Held, Ready, event_with, kind_with, lane_of, ready_event, ready_of, with_lane, without_ready}, Waiting.Ready.{Comes, Ticks}}
+use Rattle.rb_world_agenda.specs.{Agenda.{IsAtTime, StandsAt, TakesDue, first_time, key_of}, Holding.{HoldsSite, HoldsSites, Shows, due_with, waits_with, without_waiting}}
+use Rattle.rb_world_agenda.proofs.{Changes.holds-at, Heads.AreTimes, Places.{IsAtHead, IsOf, holds-without, ready-at}, Which.is-due}
 
 -- an event shows what waits
 pub shows-own : (ahead : Option Timed) (r : Ready) → Shows (waits_with ahead r) (kind_with r)

@@ -1,34 +1,13 @@
 -- The first ticks of all nodes, kept beside the lanes.
-use Rattle.std.proofs.Common.{◌≡◌, ℕ, suc, ◌+◌, ◌-◌, ◌<◌, ◌≤◌, nat_lt, true, false, if◌then◌else◌, Option, Some, None, List, [], ◌∷◌, ◌++◌, length, map, slice_get, get_or, refl, sym, ap, ◌∙◌, subst, arith, inl, inr, length-append}
+use Rattle.std.proofs.{Common.{◌≡◌, ℕ, suc, ◌+◌, ◌-◌, ◌<◌, ◌≤◌, nat_lt, true, false, if◌then◌else◌, Option, Some, None, List, [], ◌∷◌, ◌++◌, length, map, slice_get, get_or, refl, sym, ap, ◌∙◌, subst, arith, inl, inr, length-append}, Math.ListN.replicate, lemmas.Bool.cases_lt, lemmas.Bool.Decides.nat_tests, lemmas.List.{get_or-map, get_or_append_left, length-map, length-replicate, map-append, map-set, replicate-append-replicate, set-get_or}, lemmas.List.FromFn.length-range_with_len, lemmas.Option.{same_Some, slice_get_within, unwrap_or-slice_get}}
 use Rattle.std.specs.Prelude.{option_map, slice_set, unwrap_or}
-use Rattle.std.proofs.Math.ListN.{replicate}
-use Rattle.std.proofs.lemmas.Bool.{cases_lt}
-use Rattle.std.proofs.lemmas.Bool.Decides.{nat_tests}
-use Rattle.std.proofs.lemmas.List.{get_or-map, get_or_append_left, length-map, length-replicate, map-append, map-set, replicate-append-replicate, set-get_or}
-use Rattle.std.proofs.lemmas.List.FromFn.{length-range_with_len}
-use Rattle.std.proofs.lemmas.Option.{same_Some, slice_get_within, unwrap_or-slice_get}
-use Rattle.rb_base.specs.Counting.{numbers}
-use Rattle.rb_base.specs.Nodes.{Side}
-use Rattle.rb_base.specs.Nodes.Side.{Biu, Rmu}
-use Rattle.rb_base.specs.Sizes.{Sizes}
-use Rattle.rb_base.specs.declared.event.Event.{Event}
-use Rattle.rb_base.specs.declared.node.NodeName.{NodeName}
-use Rattle.rb_base.specs.declared.node.NodeName.TheVariants as node
+use Rattle.rb_base.specs.{Counting.numbers, Nodes.Side, Nodes.Side.{Biu, Rmu}, Sizes.Sizes, declared.event.Event.Event, declared.node.NodeName.NodeName}
 use Rattle.rb_base.proofs.Plain.{slice_get-back, slice_get-front}
-use Rattle.rb_rules.specs.Book.{Each, each_of, in_order, of_kind}
-use Rattle.rb_rules.specs.Links.{name_of}
-use Rattle.rb_rules.specs.WorldStep.{Site, Timed}
-use Rattle.rb_queue.specs.Waiting.{HasLane, Held, Ready, empty_lane, event_with, kind_with, lane_of, ready_event, ready_of, tick_time_of, with_lane, without_events, without_found, without_ready}
-use Rattle.rb_queue.specs.Waiting.Ready.{Comes, Ticks}
-use Rattle.rb_world_agenda.specs.declared.scan.Front.{Front}
-use Rattle.rb_world_agenda.specs.Agenda.{AreFew, AreTicks, IsFirstAhead, filled, mark_of, marks_from, node_at, position_of, tick_times, ticks_after}
-use Rattle.rb_world_agenda.specs.Fronts.{IsFront}
-use Rattle.rb_world_agenda.specs.Holding.{HoldsAll, HoldsSite, HoldsSites}
-use Rattle.rb_world_agenda.proofs.Fronts.{least-low}
-use Rattle.rb_world_agenda.proofs.Keeping.{map-const, with-in-order}
-use Rattle.rb_world_agenda.proofs.Marks.{fill-set, length-marks, mark-at, marks-none, set-mark}
-use Rattle.rb_world_agenda.proofs.Scans.{few-here, many-few}
-use Rattle.rb_world_agenda.proofs.Which.{has-item}
+use Rattle.rb_rules.specs.{Book.{Each, each_of, in_order, of_kind}, Links.name_of, WorldStep.{Site, Timed}}
+use Rattle.rb_queue.specs.{Waiting.{HasLane, Held, Ready, empty_lane, event_with, kind_with, lane_of, ready_event, ready_of, tick_time_of, with_lane, without_events, without_found, without_ready}, Waiting.Ready.{Comes, Ticks}}
+use Rattle.rb_world_agenda.specs.{declared.scan.Front.Front, Agenda.{AreFew, AreTicks, IsFirstAhead, filled, mark_of, marks_from, node_at, position_of, tick_times, ticks_after}, Fronts.IsFront, Holding.{HoldsAll, HoldsSite, HoldsSites}}
+use Rattle.rb_world_agenda.proofs.{Fronts.least-low, Keeping.{map-const, with-in-order}, Marks.{fill-set, length-marks, mark-at, marks-none, set-mark}, Scans.{few-here, many-few}, Which.has-item}
+use Rattle.rb_base.specs.declared.node.NodeName.TheVariants as node
 
 -- A lane changes.
 

@@ -1,24 +1,13 @@
 -- Which event is the i-th that is due.
-use Rattle.std.proofs.Common.{◌≡◌, ℕ, zero, suc, ◌+◌, ◌-◌, ◌<◌, ◌≤◌, ◌==◌, nat_lt, Bool, true, false, Option, Some, None, List, [], ◌∷◌, ◌++◌, length, map, take, slice_get, if◌then◌else◌, refl, sym, ap, ◌∙◌, subst, arith, length-append}
+use Rattle.std.proofs.{Common.{◌≡◌, ℕ, zero, suc, ◌+◌, ◌-◌, ◌<◌, ◌≤◌, ◌==◌, nat_lt, Bool, true, false, Option, Some, None, List, [], ◌∷◌, ◌++◌, length, map, take, slice_get, if◌then◌else◌, refl, sym, ap, ◌∙◌, subst, arith, length-append}, lemmas.Bool.Decides.nat_tests, Math.Seq.take-append-add, lemmas.List.{length-map, take-append-le}, lemmas.Option.{same_Some, slice_get-map, slice_get_within}}
 use Rattle.std.specs.Prelude.{option_map, unwrap_or}
-use Rattle.std.proofs.lemmas.Bool.Decides.{nat_tests}
-use Rattle.std.proofs.Math.Seq.{take-append-add}
-use Rattle.std.proofs.lemmas.List.{length-map, take-append-le}
-use Rattle.std.proofs.lemmas.Option.{same_Some, slice_get-map, slice_get_within}
-use Rattle.rb_base.specs.Nodes.{Side}
-use Rattle.rb_base.specs.Nodes.Side.{Biu, Rmu}
-use Rattle.rb_base.specs.Sizes.{Sizes}
-use Rattle.rb_base.specs.declared.node.NodeName.{NodeName}
-use Rattle.rb_base.specs.declared.node.NodeName.TheVariants as node
+use Rattle.rb_base.specs.{Nodes.Side, Nodes.Side.{Biu, Rmu}, Sizes.Sizes, declared.node.NodeName.NodeName}
 use Rattle.rb_base.proofs.Plain.{slice_get-back, slice_get-front}
-use Rattle.rb_rules.specs.Book.{Each, in_order}
-use Rattle.rb_rules.specs.Goodness.{Scenario}
-use Rattle.rb_rules.specs.WorldStep.{Due, Site, World}
+use Rattle.rb_rules.specs.{Book.{Each, in_order}, Goodness.Scenario, WorldStep.{Due, Site, World}}
 use Rattle.rb_queue.specs.Waiting.{Held, Ready, empty_lane, lane_of, ready_of}
-use Rattle.rb_world_agenda.specs.Agenda.{IsDue, StandsAt, due_count, due_in, first_time, key_of}
-use Rattle.rb_world_agenda.specs.Holding.{HoldsAll, HoldsSites, due_with}
-use Rattle.rb_world_agenda.proofs.Dues.{count-append, due-lanes, dues_from, length-dues}
-use Rattle.rb_world_agenda.proofs.Heads.{AreTimes}
+use Rattle.rb_world_agenda.specs.{Agenda.{IsDue, StandsAt, due_count, due_in, first_time, key_of}, Holding.{HoldsAll, HoldsSites, due_with}}
+use Rattle.rb_world_agenda.proofs.{Dues.{count-append, due-lanes, dues_from, length-dues}, Heads.AreTimes}
+use Rattle.rb_base.specs.declared.node.NodeName.TheVariants as node
 
 -- Lists.
 pub record HasItem {X : Type 0} (xs : List X) (i : ℕ) : Type 0 where

@@ -1,19 +1,12 @@
 -- What is due among all lanes: the events of the least time, node by node.
 use Rattle.std.specs.Prelude.{⊤, ◌≡◌, ℕ, suc, ◌*◌, option_map, ◌+◌, ◌-◌, ◌<◌, ◌≤◌, ◌==◌, nat_lt, min, true, false, if◌then◌else◌, unwrap_or, Bool, Some, List, [], ◌∷◌, ◌++◌, All, flat_map, length, map, slice_get, slice_set, take}
 use Rattle.std.proofs.Math.ListN.{replicate}
-use Rattle.rb_base.specs.declared.event.Event.{Event}
-use Rattle.rb_base.specs.declared.node.NodeName.{NodeName}
-use Rattle.rb_base.specs.declared.node.NodeName.TheVariants as node
-use Rattle.rb_base.specs.Nodes.{Side}
-use Rattle.rb_rules.specs.Book.{Each, in_order, of_kind}
-use Rattle.rb_rules.specs.Goodness.{Scenario}
-use Rattle.rb_rules.specs.Links.{name_of}
-use Rattle.rb_rules.specs.WorldStep.{Due, Pending as Waits, Site, Timed, World, at_node, due_at, least, times_of}
-use Rattle.rb_rules.specs.WorldStep.Pending.{Tick, Arrival}
-use Rattle.rb_base.specs.declared.event.EventKind.{EventKind}
-use Rattle.rb_base.specs.declared.event.EventKind.TheVariants as kind
+use Rattle.rb_base.specs.{declared.event.Event.Event, declared.node.NodeName.NodeName, Nodes.Side, declared.event.EventKind.EventKind}
+use Rattle.rb_rules.specs.{Book.{Each, in_order, of_kind}, Goodness.Scenario, Links.name_of, WorldStep.{Due, Pending as Waits, Site, Timed, World, at_node, due_at, least, times_of}, WorldStep.Pending.{Tick, Arrival}}
 use Rattle.rb_queue.specs.Waiting.{Held, HasLane, Ready, head_of, lane_of, ready_event, ready_of, tick_time_of, with_lane, without_ready}
 use Rattle.rb_world_agenda.specs.Holding.{HoldsSites, Shows, due_with, without_waiting}
+use Rattle.rb_base.specs.declared.node.NodeName.TheVariants as node
+use Rattle.rb_base.specs.declared.event.EventKind.TheVariants as kind
 
 -- the least time of a lane. If it holds nothing, it is the last time that there is
 abbrev pub key_of : Held → ℕ

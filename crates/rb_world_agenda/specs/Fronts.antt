@@ -1,7 +1,6 @@
 -- At which place the least of the keys stands.
 use Rattle.std.specs.Prelude.{ℕ, ◌≡◌, ◌<◌, length, List, get_or}
-use Rattle.rb_world_agenda.specs.declared.scan.Front.{Front}
-use Rattle.rb_world_agenda.specs.Agenda.{least_key}
+use Rattle.rb_world_agenda.specs.{declared.scan.Front.Front, Agenda.least_key}
 
 -- `front.least` is the least of the keys. If it is not the last time that there is, it is at place
 -- `front.first`. No key before that place is as low

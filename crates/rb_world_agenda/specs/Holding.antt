@@ -1,17 +1,9 @@
 -- What lanes hold of a world: at each node what comes to it and its tick.
 use Rattle.std.specs.Prelude.{⊤, ◌≡◌, ℕ, ◌<◌, Option, Some, None, option_map, unwrap_or, List, [], ◌∷◌, All, remove}
-use Rattle.rb_base.specs.Nodes.{Side, other}
-use Rattle.rb_base.specs.Nodes.Side.{Biu, Rmu}
-use Rattle.rb_base.specs.Sizes.{IsShape, Sizes}
-use Rattle.rb_base.specs.declared.event.EventKind.{EventKind}
+use Rattle.rb_base.specs.{Nodes.{Side, other}, Nodes.Side.{Biu, Rmu}, Sizes.{IsShape, Sizes}, declared.event.EventKind.EventKind}
+use Rattle.rb_rules.specs.{Book.Each, Hearing.Coming, Slots.count_of, WorldStep.{Due, Pending as Waits, Site, Timed}, WorldStep.Pending.{Tick, Arrival}}
+use Rattle.rb_queue.specs.{Waiting.{Held, Ready}, Waiting.Ready.{Comes, Ticks}}
 use Rattle.rb_base.specs.declared.event.EventKind.TheVariants as kind
-use Rattle.rb_rules.specs.Book.{Each}
-use Rattle.rb_rules.specs.Hearing.{Coming}
-use Rattle.rb_rules.specs.Slots.{count_of}
-use Rattle.rb_rules.specs.WorldStep.{Due, Pending as Waits, Site, Timed}
-use Rattle.rb_rules.specs.WorldStep.Pending.{Tick, Arrival}
-use Rattle.rb_queue.specs.Waiting.{Held, Ready}
-use Rattle.rb_queue.specs.Waiting.Ready.{Comes, Ticks}
 
 -- What a lane holds.
 

@@ -1,34 +1,12 @@
 -- A node closes a stage: what is kept of it stands for the world in which it has told of it.
-use Rattle.std.proofs.Common.{◌≡◌, ℕ, ◌<◌, ◌≤◌, ◌==◌, ◌&&◌, not, nat_lt, Bool, true, false, List, get_or, refl, sym, ◌∙◌, ap, subst, arith}
+use Rattle.std.proofs.{Common.{◌≡◌, ℕ, ◌<◌, ◌≤◌, ◌==◌, ◌&&◌, not, nat_lt, Bool, true, false, List, get_or, refl, sym, ◌∙◌, ap, subst, arith}, lemmas.Bool.ltb-true, lemmas.Bool.Decides.nat_tests}
 use Rattle.std.specs.Prelude.{Some, slice_index}
-use Rattle.std.proofs.lemmas.Bool.{ltb-true}
-use Rattle.std.proofs.lemmas.Bool.Decides.{nat_tests}
-use Rattle.rb_base.specs.Nodes.{Side, has, set_of}
-use Rattle.rb_base.specs.Nodes.Side.{Biu, Rmu}
-use Rattle.rb_base.specs.Sizes.{Sizes}
-use Rattle.rb_base.specs.declared.kind.Biu.{Biu as BiuKind}
-use Rattle.rb_base.specs.declared.kind.Rmu.{Rmu as RmuKind}
-use Rattle.rb_base.specs.declared.node.NodeName.TheVariants as node
-use Rattle.rb_base.specs.declared.values.Place.{Place}
-use Rattle.rb_base.specs.declared.values.See.{See}
-use Rattle.rb_base.specs.declared.values.See.TheVariants.{Nothing}
+use Rattle.rb_base.specs.{Nodes.{Side, has, set_of}, Nodes.Side.{Biu, Rmu}, Sizes.Sizes, declared.kind.Biu.Biu as BiuKind, declared.kind.Rmu.Rmu as RmuKind, declared.values.Place.Place, declared.values.See.See, declared.values.See.TheVariants.Nothing}
 use Rattle.rb_base.proofs.Sets.{has-is}
-use Rattle.rb_rules.specs.declared.closing.Closed.{Closed}
-use Rattle.rb_rules.specs.Book.{Each, Row}
-use Rattle.rb_rules.specs.Goodness.{Scenario}
-use Rattle.rb_rules.specs.Hearing.{judged_see}
-use Rattle.rb_rules.specs.Slots.{count_of}
-use Rattle.rb_rules.specs.WorldStep.{Site, World}
-use Rattle.rb_world_book.specs.declared.group.Group.{Group}
-use Rattle.rb_world_book.specs.declared.book.Book.{Book as KeptBook}
-use Rattle.rb_world_book.specs.declared.milestone.Milestone.{Milestone}
-use Rattle.rb_world_book.specs.declared.milestone.Milestone.TheVariants.{Begin, Stage, End}
-use Rattle.rb_world_book.specs.Changing.{changed_at, line_from, row_shown, with_row}
-use Rattle.rb_world_book.specs.Grouping.{IsNoted}
-use Rattle.rb_world_book.specs.Holding.{Holds, HoldsKind, Lasts, OthersLast}
-use Rattle.rb_world_book.specs.Telling.{is_at, told_at, told_closed}
-use Rattle.rb_world_book.proofs.Counted.{first_counted}
-use Rattle.rb_world_book.proofs.Noting.{none-seen, other-kind, row-noted, sees-kept, with-bius, with-rmus}
+use Rattle.rb_rules.specs.{declared.closing.Closed.Closed, Book.{Each, Row}, Goodness.Scenario, Hearing.judged_see, Slots.count_of, WorldStep.{Site, World}}
+use Rattle.rb_world_book.specs.{declared.group.Group.Group, declared.book.Book.Book as KeptBook, declared.milestone.Milestone.Milestone, declared.milestone.Milestone.TheVariants.{Begin, Stage, End}, Changing.{changed_at, line_from, row_shown, with_row}, Grouping.IsNoted, Holding.{Holds, HoldsKind, Lasts, OthersLast}, Telling.{is_at, told_at, told_closed}}
+use Rattle.rb_world_book.proofs.{Counted.first_counted, Noting.{none-seen, other-kind, row-noted, sees-kept, with-bius, with-rmus}}
+use Rattle.rb_base.specs.declared.node.NodeName.TheVariants as node
 
 -- The sources of which a node counts what was seen.
 

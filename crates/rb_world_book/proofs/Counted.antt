@@ -1,7 +1,6 @@
 -- The sources of which a node counts what was seen.
-use Rattle.std.proofs.Common.{◌≡◌, ℕ, ◌<◌, ◌≤◌, ◌&&◌, not, nat_lt, true, ◌∙◌, ap, arith}
+use Rattle.std.proofs.{Common.{◌≡◌, ℕ, ◌<◌, ◌≤◌, ◌&&◌, not, nat_lt, true, ◌∙◌, ap, arith}, lemmas.Bool.ltb-true}
 use Rattle.rb_base.specs.Nodes.{has, set_of}
-use Rattle.std.proofs.lemmas.Bool.{ltb-true}
 use Rattle.rb_world_book.specs.Waiting.{all_but}
 use Rattle.rb_base.proofs.Sets.{has-is, same_set_of}
 

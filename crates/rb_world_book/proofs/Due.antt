@@ -1,38 +1,14 @@
 -- When a milestone is settled.
-use Rattle.std.proofs.Common.{◌≡◌, ℕ, zero, suc, ◌+◌, ◌<◌, ◌≤◌, ◌==◌, ◌&&◌, ◌||◌, not, nat_lt, Bool, true, false, List, [], ◌∷◌, ◌++◌, length, take, Option, Some, None, refl, sym, ◌∙◌, ap, subst, arith, if◌then◌else◌}
-use Rattle.std.specs.Prelude.{is_some, is_none, option_map}
-use Rattle.std.specs.List.{list_all}
-use Rattle.std.proofs.lemmas.Bool.{lt-ltb}
-use Rattle.std.proofs.lemmas.Bool.Decides.{nat_tests}
-use Rattle.std.proofs.lemmas.List.{length-take, get_or-take}
-use Rattle.rb_base.specs.Nodes.{Side, has, set_of}
-use Rattle.rb_base.specs.Nodes.Side.{Biu, Rmu}
-use Rattle.rb_base.specs.declared.values.Place.{Place}
-use Rattle.rb_base.proofs.Sets.{has-set_of, has_none, is_set_of}
-use Rattle.rb_rules.specs.Book.{Begun, Book, Each, Record, Row, map_each, map_from, of_kind, with_frame, with_stage}
-use Rattle.rb_rules.specs.Book.{Milestone as Mile}
-use Rattle.rb_rules.specs.Goodness.{Scenario, good_at, is_good}
-use Rattle.rb_rules.specs.Slots.{count_of}
-use Rattle.rb_rules.specs.WorldStep.{Site, Way, World, begun_for, book_with, comes_so, is_complete, needs_no_event, record_since, row_for, same_place, settle, settle_next}
+use Rattle.std.proofs.{Common.{◌≡◌, ℕ, zero, suc, ◌+◌, ◌<◌, ◌≤◌, ◌==◌, ◌&&◌, ◌||◌, not, nat_lt, Bool, true, false, List, [], ◌∷◌, ◌++◌, length, take, Option, Some, None, refl, sym, ◌∙◌, ap, subst, arith, if◌then◌else◌}, lemmas.Bool.lt-ltb, lemmas.Bool.Decides.nat_tests, lemmas.List.{length-take, get_or-take}}
+use Rattle.std.specs.{Prelude.{is_some, is_none, option_map}, List.list_all}
+use Rattle.rb_base.specs.{Nodes.{Side, has, set_of}, Nodes.Side.{Biu, Rmu}, declared.values.Place.Place, declared.values.See.See}
+use Rattle.rb_base.proofs.{Sets.{has-set_of, has_none, is_set_of}, Plain.same_bool}
+use Rattle.rb_rules.specs.{Book.{Begun, Book, Each, Record, Row, map_each, map_from, of_kind, with_frame, with_stage}, Book.Milestone as Mile, Goodness.{Scenario, good_at, is_good}, Slots.count_of, WorldStep.{Site, Way, World, begun_for, book_with, comes_so, is_complete, needs_no_event, record_since, row_for, same_place, settle, settle_next}}
 use Rattle.rb_rules.proofs.Books.{record-same}
-use Rattle.rb_world_book.specs.declared.group.Group.{Group}
-use Rattle.rb_world_book.specs.declared.book.Book.{Book as KeptBook}
-use Rattle.rb_world_book.specs.declared.milestone.Milestone.{Milestone}
-use Rattle.rb_world_book.specs.declared.milestone.Milestone.TheVariants.{Begin, Stage, End}
-use Rattle.rb_world_book.specs.declared.milestone.Way.{Way as KeptWay}
-use Rattle.rb_world_book.specs.declared.milestone.Way.TheVariants as way
-use Rattle.rb_world_book.specs.declared.told.Begin.{Begin as LatestBegin}
-use Rattle.rb_world_book.specs.declared.told.Told.{Told}
-use Rattle.rb_world_book.specs.declared.turn.Turn.{Turn}
-use Rattle.rb_world_book.specs.declared.turn.Turn.TheVariants as turn
-use Rattle.rb_world_book.specs.Holding.{Holds, HoldsKind, Passes, passed}
-use Rattle.rb_world_book.specs.Records.{milestone_of, record_of, way_of}
-use Rattle.rb_world_book.specs.Settling.{Settles, comes_when, is_due, is_free}
-use Rattle.rb_base.specs.declared.values.See.{See}
-use Rattle.rb_base.proofs.Plain.{same_bool}
-use Rattle.rb_world_book.specs.Telling.{begun_in, begun_told, has_told, latest_seeing, no_told, row_seeing, see_of, told_at}
-use Rattle.rb_world_book.specs.Waiting.{waiting_for}
+use Rattle.rb_world_book.specs.{declared.group.Group.Group, declared.book.Book.Book as KeptBook, declared.milestone.Milestone.Milestone, declared.milestone.Milestone.TheVariants.{Begin, Stage, End}, declared.milestone.Way.Way as KeptWay, declared.told.Begin.Begin as LatestBegin, declared.told.Told.Told, declared.turn.Turn.Turn, Holding.{Holds, HoldsKind, Passes, passed}, Records.{milestone_of, record_of, way_of}, Settling.{Settles, comes_when, is_due, is_free}, Telling.{begun_in, begun_told, has_told, latest_seeing, no_told, row_seeing, see_of, told_at}, Waiting.waiting_for}
 use Rattle.rb_world_book.proofs.Rows.{from-from, from-map, from-same, good-is}
+use Rattle.rb_world_book.specs.declared.milestone.Way.TheVariants as way
+use Rattle.rb_world_book.specs.declared.turn.Turn.TheVariants as turn
 
 -- All of a list.
 

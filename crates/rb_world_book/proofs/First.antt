@@ -1,23 +1,9 @@
 -- At first no node has told anything.
-use Rattle.std.proofs.Common.{◌≡◌, ℕ, zero, suc, ◌+◌, ◌≤◌, Bool, true, false, ◌∷◌, length, map, take, get_or, replicate, Option, Some, None, refl, sym, ◌∙◌, ap, arith}
+use Rattle.std.proofs.{Common.{◌≡◌, ℕ, zero, suc, ◌+◌, ◌≤◌, Bool, true, false, ◌∷◌, length, map, take, get_or, replicate, Option, Some, None, refl, sym, ◌∙◌, ap, arith}, lemmas.List.length-replicate}
 use Rattle.std.specs.List.{range_with_len}
-use Rattle.std.proofs.lemmas.List.{length-replicate}
-use Rattle.rb_base.specs.Counting.{numbers}
-use Rattle.rb_base.specs.Nodes.{Side}
-use Rattle.rb_base.specs.Nodes.Side.{Biu, Rmu}
-use Rattle.rb_base.specs.Sizes.{Sizes}
-use Rattle.rb_base.specs.declared.values.See.TheVariants.{Nothing}
-use Rattle.rb_rules.specs.Book.{Begun, Row, map_from, of_kind}
-use Rattle.rb_rules.specs.Goodness.{Scenario, is_good}
-use Rattle.rb_rules.specs.Hearing.{Span}
-use Rattle.rb_rules.specs.Slots.{count_of}
-use Rattle.rb_rules.specs.WorldStep.{Site, await, enter, first_world, fresh_site, proceed, says_in, span_from, stop}
-use Rattle.rb_world_book.specs.declared.group.Group.{Group}
-use Rattle.rb_world_book.specs.declared.milestone.Milestone.TheVariants.{Begin}
-use Rattle.rb_world_book.specs.declared.told.Told.{Told}
-use Rattle.rb_world_book.specs.Holding.{HoldsKind, TurnsKind, good_for}
-use Rattle.rb_world_book.specs.Telling.{begun_told, fresh_told, row_seeing, see_of, told_at}
-use Rattle.rb_world_book.specs.Waiting.{waiting_for}
+use Rattle.rb_base.specs.{Counting.numbers, Nodes.Side, Nodes.Side.{Biu, Rmu}, Sizes.Sizes, declared.values.See.TheVariants.Nothing}
+use Rattle.rb_rules.specs.{Book.{Begun, Row, map_from, of_kind}, Goodness.{Scenario, is_good}, Hearing.Span, Slots.count_of, WorldStep.{Site, await, enter, first_world, fresh_site, proceed, says_in, span_from, stop}}
+use Rattle.rb_world_book.specs.{declared.group.Group.Group, declared.milestone.Milestone.TheVariants.Begin, declared.told.Told.Told, Holding.{HoldsKind, TurnsKind, good_for}, Telling.{begun_told, fresh_told, row_seeing, see_of, told_at}, Waiting.waiting_for}
 
 -- what a site shows that stays while the node waits for its next tick
 abbrev Shown : Type 0

@@ -1,13 +1,8 @@
 -- What is found of the first nodes, node by node.
-use Rattle.std.proofs.Common.{◌≡◌, ℕ, zero, suc, ◌+◌, ◌<◌, ◌≤◌, true, List, [], ◌∷◌, ◌++◌, length, take, drop, Option, Some, None, refl, sym, ◌∙◌, ap, arith}
+use Rattle.std.proofs.{Common.{◌≡◌, ℕ, zero, suc, ◌+◌, ◌<◌, ◌≤◌, true, List, [], ◌∷◌, ◌++◌, length, take, drop, Option, Some, None, refl, sym, ◌∙◌, ap, arith}, lemmas.List.{append_assoc, take_more, length-append, length-take, take-append-drop}, lemmas.List.Elements.filter_map-append}
 use Rattle.std.specs.Prelude.{is_some, option_to_list}
-use Rattle.std.proofs.lemmas.List.{append_assoc, take_more, length-append, length-take, take-append-drop}
-use Rattle.std.proofs.lemmas.List.Elements.{filter_map-append}
-use Rattle.rb_rules.specs.Book.{Row, map_from}
-use Rattle.rb_rules.specs.ExactStage.{present}
-use Rattle.rb_world_book.specs.declared.told.Told.{Told}
-use Rattle.rb_world_book.specs.Telling.{no_told, told_at}
-use Rattle.rb_world_book.specs.Waiting.{first_trusted, found_of}
+use Rattle.rb_rules.specs.{Book.{Row, map_from}, ExactStage.present}
+use Rattle.rb_world_book.specs.{declared.told.Told.Told, Telling.{no_told, told_at}, Waiting.{first_trusted, found_of}}
 
 pub map_from-append : {X Y : Type 0} (k : ℕ) (f : ℕ → X → Y) (xs ys : List X) → map_from k f (xs ++ ys) ≡ map_from k f xs ++ map_from (k + length xs) f ys
 map_from-append k f [] ys = let e : k + 0 ≡ k = omega arith in rw e refl

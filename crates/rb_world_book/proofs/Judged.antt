@@ -1,35 +1,13 @@
 -- The judge is told a stage.
-use Rattle.std.proofs.Common.{◌≡◌, ℕ, ◌-◌, ◌<◌, ◌≤◌, ◌+◌, ◌==◌, ◌&&◌, not, nat_lt, Bool, true, false, List, [], ◌∷◌, ◌++◌, take, Option, Some, None, arith, refl, sym, ◌∙◌, ap, subst}
-use Rattle.std.specs.Prelude.{option_map}
-use Rattle.std.specs.List.{cons_option}
-use Rattle.std.proofs.lemmas.Bool.Decides.{nat_tests}
-use Rattle.std.proofs.lemmas.List.{append-nil}
-use Rattle.std.proofs.lemmas.List.Elements.{filter_map-append}
-use Rattle.rb_base.specs.Nodes.{Side, has, other, set_of}
-use Rattle.rb_base.specs.Nodes.Side.{Biu, Rmu}
-use Rattle.rb_base.specs.Sizes.{sync_slot_of}
-use Rattle.rb_base.specs.declared.values.Place.{Place}
-use Rattle.rb_base.specs.declared.values.See.{See}
+use Rattle.std.proofs.{Common.{◌≡◌, ℕ, ◌-◌, ◌<◌, ◌≤◌, ◌+◌, ◌==◌, ◌&&◌, not, nat_lt, Bool, true, false, List, [], ◌∷◌, ◌++◌, take, Option, Some, None, arith, refl, sym, ◌∙◌, ap, subst}, lemmas.Bool.Decides.nat_tests, lemmas.List.append-nil, lemmas.List.Elements.filter_map-append}
+use Rattle.std.specs.{Prelude.option_map, List.cons_option}
+use Rattle.rb_base.specs.{Nodes.{Side, has, other, set_of}, Nodes.Side.{Biu, Rmu}, Sizes.sync_slot_of, declared.values.Place.Place, declared.values.See.See}
 use Rattle.rb_base.proofs.Sets.{has-is}
-use Rattle.rb_rules.specs.Book.{Each, Row, in_order, judged_of, map_from, of_kind, trusted_by}
-use Rattle.rb_rules.specs.ExactStage.{present}
-use Rattle.rb_rules.specs.Goodness.{Scenario, good_at, is_good}
-use Rattle.rb_rules.specs.Judging.{are_alike, is_something, was_taken as taken_in, was_unlike as unlike_in}
-use Rattle.rb_rules.specs.Slots.{count_of}
-use Rattle.rb_rules.specs.WorldStep.{Site, row_for, same_place, told_by_good}
+use Rattle.rb_rules.specs.{Book.{Each, Row, in_order, judged_of, map_from, of_kind, trusted_by}, ExactStage.present, Goodness.{Scenario, good_at, is_good}, Judging.{are_alike, is_something, was_taken as taken_in, was_unlike as unlike_in}, Slots.count_of, WorldStep.{Site, row_for, same_place, told_by_good}}
 use Rattle.rb_rules.proofs.Slots.{other_twice}
-use Rattle.rb_judge.specs.Kinds.{AreSetsOf}
-use Rattle.rb_judge.specs.Sights.{some_node}
-use Rattle.rb_judge.specs.declared.stage_sets.StageSets.{StageSets}
-use Rattle.rb_world_book.specs.declared.group.Group.{Group}
-use Rattle.rb_world_book.specs.declared.told.Told.{Told}
-use Rattle.rb_world_book.specs.declared.milestone.Milestone.TheVariants.{Stage}
-use Rattle.rb_world_book.specs.Holding.{HoldsKind, without_lasting}
-use Rattle.rb_world_book.specs.Settling.{rows_found}
-use Rattle.rb_world_book.specs.Telling.{has_told, row_seeing, see_of, told_at}
-use Rattle.rb_world_book.specs.Waiting.{found_of, row_at, row_if, row_saw, was_taken, was_unlike}
-use Rattle.rb_world_book.proofs.Rows.{good-is, rows-kept, seeing-same}
-use Rattle.rb_world_book.proofs.Sources.{HaveSeen, both_kept, has-told, judged_sight, kept, told-there}
+use Rattle.rb_judge.specs.{Kinds.AreSetsOf, Sights.some_node, declared.stage_sets.StageSets.StageSets}
+use Rattle.rb_world_book.specs.{declared.group.Group.Group, declared.told.Told.Told, declared.milestone.Milestone.TheVariants.Stage, Holding.{HoldsKind, without_lasting}, Settling.rows_found, Telling.{has_told, row_seeing, see_of, told_at}, Waiting.{found_of, row_at, row_if, row_saw, was_taken, was_unlike}}
+use Rattle.rb_world_book.proofs.{Rows.{good-is, rows-kept, seeing-same}, Sources.{HaveSeen, both_kept, has-told, judged_sight, kept, told-there}}
 
 -- what the good nodes of a world told of a stage
 abbrev pub rows_of : Scenario → Place → Each Site → Each (Option Row)

@@ -1,11 +1,7 @@
 -- What is kept of some sources.
-use Rattle.std.proofs.Common.{◌≡◌, ◌≢◌, ℕ, ◌+◌, ◌<◌, ◌==◌, ◌&&◌, not, if◌then◌else◌, Bool, true, false, List, length, get_or, set, refl, sym, ap, ◌∙◌, subst, arith, inl, inr}
-use Rattle.std.proofs.lemmas.Bool.{cases_eq}
-use Rattle.std.proofs.lemmas.List.{ext_get_or, get_or-set_same, get_or-set_other}
-use Rattle.std.proofs.lemmas.List.FromFn.{get_or-map-range_with_len}
+use Rattle.std.proofs.{Common.{◌≡◌, ◌≢◌, ℕ, ◌+◌, ◌<◌, ◌==◌, ◌&&◌, not, if◌then◌else◌, Bool, true, false, List, length, get_or, set, refl, sym, ap, ◌∙◌, subst, arith, inl, inr}, lemmas.Bool.cases_eq, lemmas.List.{ext_get_or, get_or-set_same, get_or-set_other}, lemmas.List.FromFn.get_or-map-range_with_len}
 use Rattle.rb_base.specs.Nodes.{has, set_of}
-use Rattle.rb_base.proofs.Sets.{eq_other, has-is, has_none}
-use Rattle.rb_base.proofs.Plain.{and-not_true, eq_self}
+use Rattle.rb_base.proofs.{Sets.{eq_other, has-is, has_none}, Plain.{and-not_true, eq_self}}
 use Rattle.rb_world_book.specs.Telling.{kept_of}
 
 -- the new values of the counted sources that are not left, and else the values before

@@ -1,40 +1,13 @@
 -- A node tells something more: its site in the world, and what is kept.
-use Rattle.std.proofs.Common.{◌≡◌, ◌≢◌, ℕ, zero, suc, ◌+◌, ◌<◌, ◌≤◌, ◌==◌, ◌&&◌, not, nat_lt, Bool, true, false, List, [], ◌∷◌, length, map, take, get_or, set, Some, refl, sym, ◌∙◌, ap, subst, arith, if◌then◌else◌, get_or-set_same, get_or-set_other}
+use Rattle.std.proofs.{Common.{◌≡◌, ◌≢◌, ℕ, zero, suc, ◌+◌, ◌<◌, ◌≤◌, ◌==◌, ◌&&◌, not, nat_lt, Bool, true, false, List, [], ◌∷◌, length, map, take, get_or, set, Some, refl, sym, ◌∙◌, ap, subst, arith, if◌then◌else◌, get_or-set_same, get_or-set_other}, lemmas.Bool.lt-ltb, lemmas.Bool.Decides.nat_tests, lemmas.List.{get_or_past, get_or-take, length-set, length-take, map-set}, Math.Seq.{map-set_same, take-set-lt}}
 use Rattle.std.specs.Prelude.{Option, option_map, slice_index}
-use Rattle.std.proofs.lemmas.Bool.{lt-ltb}
-use Rattle.std.proofs.lemmas.Bool.Decides.{nat_tests}
-use Rattle.std.proofs.lemmas.List.{get_or_past, get_or-take, length-set, length-take, map-set}
-use Rattle.std.proofs.Math.Seq.{map-set_same, take-set-lt}
-use Rattle.rb_base.specs.Nodes.{Side, has, other, set_of}
-use Rattle.rb_base.specs.Nodes.Side.{Biu, Rmu}
-use Rattle.rb_base.specs.declared.values.See.TheVariants.{Nothing}
-use Rattle.rb_base.proofs.Sets.{eq_other, has-is, same_set_of}
-use Rattle.rb_base.specs.declared.kind.Biu.{Biu as BiuKind}
-use Rattle.rb_base.specs.declared.kind.Rmu.{Rmu as RmuKind}
+use Rattle.rb_base.specs.{Nodes.{Side, has, other, set_of}, Nodes.Side.{Biu, Rmu}, declared.values.See.TheVariants.Nothing, declared.kind.Biu.Biu as BiuKind, declared.kind.Rmu.Rmu as RmuKind, Sizes.sync_slot_of, declared.values.Place.Place, declared.values.See.See}
+use Rattle.rb_base.proofs.{Sets.{eq_other, has-is, same_set_of}, Plain.eq_self}
 use Rattle.rb_judge.specs.Stages.{Knows}
-use Rattle.rb_world_book.specs.declared.book.Book.{Book as KeptBook}
-use Rattle.rb_world_book.specs.Holding.{Holds, without_lasting}
-use Rattle.rb_rules.specs.Book.{Begun, Book, Each, Row, map_from, of_kind}
-use Rattle.rb_rules.specs.Goodness.{Scenario, is_good}
-use Rattle.rb_rules.specs.Slots.{count_of, same_side}
-use Rattle.rb_rules.specs.WorldStep.{Site, World, at_node}
-use Rattle.rb_world_book.specs.declared.group.Group.{Group}
-use Rattle.rb_world_book.specs.declared.milestone.Milestone.{Milestone}
-use Rattle.rb_world_book.specs.declared.told.Told.{Told}
-use Rattle.rb_world_book.specs.Grouping.{IsNoted}
-use Rattle.rb_world_book.specs.Holding.{OthersLast, HoldsKind}
-use Rattle.rb_base.specs.Sizes.{sync_slot_of}
-use Rattle.rb_base.specs.declared.values.Place.{Place}
-use Rattle.rb_base.specs.declared.values.See.{See}
-use Rattle.rb_base.proofs.Plain.{eq_self}
-use Rattle.rb_world_book.specs.Telling.{begun_in, begun_told, has_told, kept_of, no_told, row_seeing, see_of, timed_in, told_at, told_closed}
-use Rattle.rb_world_book.proofs.Kept.{kept-at, length-kept}
-use Rattle.rb_rules.specs.declared.closing.Closed.{Closed}
-use Rattle.rb_rules.specs.declared.record.SlotLine.{SlotLine}
-use Rattle.rb_rules.specs.Hearing.{judged_see}
+use Rattle.rb_world_book.specs.{declared.book.Book.Book as KeptBook, Holding.{Holds, without_lasting}, declared.group.Group.Group, declared.milestone.Milestone.Milestone, declared.told.Told.Told, Grouping.IsNoted, Holding.{OthersLast, HoldsKind}, Telling.{begun_in, begun_told, has_told, kept_of, no_told, row_seeing, see_of, timed_in, told_at, told_closed}, Waiting.{all_but, waiting_for}}
+use Rattle.rb_rules.specs.{Book.{Begun, Book, Each, Row, map_from, of_kind}, Goodness.{Scenario, is_good}, Slots.{count_of, same_side}, WorldStep.{Site, World, at_node}, declared.closing.Closed.Closed, declared.record.SlotLine.SlotLine, Hearing.judged_see}
+use Rattle.rb_world_book.proofs.{Kept.{kept-at, length-kept}, Rows.good-is}
 use Rattle.rb_rules.proofs.Slots.{same_side_self}
-use Rattle.rb_world_book.proofs.Rows.{good-is}
-use Rattle.rb_world_book.specs.Waiting.{all_but, waiting_for}
 
 -- Lists of sites.
 

@@ -1,36 +1,12 @@
 -- A milestone is settled: the book of the world, and what is kept.
-use Rattle.std.proofs.Common.{◌≡◌, ℕ, ◌+◌, ◌^◌, ◌<◌, ◌≤◌, ◌==◌, ◌&&◌, nat_lt, Bool, true, false, List, [], ◌∷◌, ◌++◌, length, map, take, get_or, Option, Some, None, refl, sym, ◌∙◌, ap, subst, arith, slice_get, if◌then◌else◌}
+use Rattle.std.proofs.{Common.{◌≡◌, ℕ, ◌+◌, ◌^◌, ◌<◌, ◌≤◌, ◌==◌, ◌&&◌, nat_lt, Bool, true, false, List, [], ◌∷◌, ◌++◌, length, map, take, get_or, Option, Some, None, refl, sym, ◌∙◌, ap, subst, arith, slice_get, if◌then◌else◌}, lemmas.Bool.Decides.nat_tests, lemmas.List.{append-nil, map-append}, lemmas.List.Elements.filter_map-append}
 use Rattle.std.specs.List.{filter_map}
-use Rattle.std.proofs.lemmas.Bool.Decides.{nat_tests}
-use Rattle.std.proofs.lemmas.List.{append-nil, map-append}
-use Rattle.std.proofs.lemmas.List.Elements.{filter_map-append}
-use Rattle.rb_base.specs.Nodes.{Side, has, other}
-use Rattle.rb_base.specs.Nodes.Side.{Biu, Rmu}
-use Rattle.rb_base.specs.Sizes.{Sizes, IsShape, sync_slot_of}
-use Rattle.rb_base.specs.declared.values.Place.{Place}
-use Rattle.rb_rules.specs.declared.cause.Cause.{Cause}
-use Rattle.rb_rules.specs.declared.record.SlotLine.{SlotLine}
-use Rattle.rb_rules.specs.Book.{Begun, Book, Each, Record, after_stage, after_verdict, frame_records, in_order, judged_of, line_in, map_from, slot_records, with_frame, with_stage}
-use Rattle.rb_rules.specs.Book.Milestone.{Begin, Stage, End}
-use Rattle.rb_rules.specs.ExactStage.{present}
-use Rattle.rb_rules.specs.Goodness.{Scenario, good_at, is_good}
-use Rattle.rb_rules.specs.Judging.{JudgedStage, verdict_of}
-use Rattle.rb_rules.specs.Slots.{count_of}
-use Rattle.rb_rules.specs.WorldStep.{Site, World, begun_for, book_with, told_by_good}
-use Rattle.rb_world_book.specs.declared.group.Group.{Group}
-use Rattle.rb_world_book.specs.declared.book.Book.{Book as KeptBook}
-use Rattle.rb_world_book.specs.declared.milestone.Milestone.{Milestone as Kept}
-use Rattle.rb_world_book.specs.declared.milestone.Milestone.TheVariants as kept
-use Rattle.rb_world_book.specs.declared.turn.Turn.{Turn}
-use Rattle.rb_world_book.specs.Holding.{Holds, HoldsKind, IsComing, IsStageOf, Passes, TurnsKind, frame_record, good_for, slot_record}
-use Rattle.rb_world_book.specs.Records.{milestone_of, record_of}
-use Rattle.rb_world_book.specs.Settling.{after_begin}
-use Rattle.rb_world_book.specs.Waiting.{all_but, begun_at, found_of, line_of, node_line_of, port_line_of, waiting_for}
-use Rattle.rb_base.specs.declared.values.See.TheVariants.{Nothing}
+use Rattle.rb_base.specs.{Nodes.{Side, has, other}, Nodes.Side.{Biu, Rmu}, Sizes.{Sizes, IsShape, sync_slot_of}, declared.values.Place.Place, declared.values.See.TheVariants.Nothing}
+use Rattle.rb_rules.specs.{declared.cause.Cause.Cause, declared.record.SlotLine.SlotLine, Book.{Begun, Book, Each, Record, after_stage, after_verdict, frame_records, in_order, judged_of, line_in, map_from, slot_records, with_frame, with_stage}, Book.Milestone.{Begin, Stage, End}, ExactStage.present, Goodness.{Scenario, good_at, is_good}, Judging.{JudgedStage, verdict_of}, Slots.count_of, WorldStep.{Site, World, begun_for, book_with, told_by_good}}
+use Rattle.rb_world_book.specs.{declared.group.Group.Group, declared.book.Book.Book as KeptBook, declared.milestone.Milestone.Milestone as Kept, declared.turn.Turn.Turn, Holding.{Holds, HoldsKind, IsComing, IsStageOf, Passes, TurnsKind, frame_record, good_for, slot_record}, Records.{milestone_of, record_of}, Settling.after_begin, Waiting.{all_but, begun_at, found_of, line_of, node_line_of, port_line_of, waiting_for}, Telling.{begun_told, row_seeing, see_of, told_at}}
 use Rattle.rb_base.proofs.Plain.{slice_get-back}
-use Rattle.rb_world_book.specs.Telling.{begun_told, row_seeing, see_of, told_at}
-use Rattle.rb_world_book.proofs.Judged.{rows_of}
-use Rattle.rb_world_book.proofs.Rows.{begins-kept, no-ports, node-lines, port-lines, rows-kept, slot-lines}
+use Rattle.rb_world_book.proofs.{Judged.rows_of, Rows.{begins-kept, no-ports, node-lines, port-lines, rows-kept, slot-lines}}
+use Rattle.rb_world_book.specs.declared.milestone.Milestone.TheVariants as kept
 
 -- The record that comes.
 

@@ -1,18 +1,10 @@
 -- Walks over the members of a set, of which the first is taken out until none is left.
-use Rattle.std.proofs.Common.{◌≡◌, ℕ, zero, suc, ◌+◌, ◌-◌, ◌<◌, ◌≤◌, ◌⊎◌, ◌&&◌, ◌==◌, not, nat_lt, Bool, true, false, List, [], ◌++◌, length, Option, Some, None, inl, inr, refl, sym, ◌∙◌, ap, subst, arith, if◌then◌else◌}
+use Rattle.std.proofs.{Common.{◌≡◌, ℕ, zero, suc, ◌+◌, ◌-◌, ◌<◌, ◌≤◌, ◌⊎◌, ◌&&◌, ◌==◌, not, nat_lt, Bool, true, false, List, [], ◌++◌, length, Option, Some, None, inl, inr, refl, sym, ◌∙◌, ap, subst, arith, if◌then◌else◌}, lemmas.Bool.{and_parts, cases_lt, cases_order, lt-ltb, ltb-true}, lemmas.List.append-nil}
 use Rattle.std.specs.Prelude.{is_some, option_to_list}
-use Rattle.std.proofs.lemmas.Bool.{and_parts, cases_lt, cases_order, lt-ltb, ltb-true}
-use Rattle.std.proofs.lemmas.List.{append-nil}
-use Rattle.rb_base.specs.Nodes.{TakesFirst, has, set_of}
-use Rattle.rb_base.proofs.Sets.{eq_other, first_gone, has-is, has_none, is_set_of, same_set_of}
-use Rattle.rb_base.specs.declared.values.Place.{Place}
-use Rattle.rb_base.proofs.Plain.{and-true, eq_self}
-use Rattle.rb_rules.specs.Book.{Row}
-use Rattle.rb_rules.specs.WorldStep.{row_for}
-use Rattle.rb_world_book.specs.declared.milestone.Milestone.TheVariants.{Stage}
-use Rattle.rb_world_book.specs.declared.told.Told.{Told}
-use Rattle.rb_world_book.specs.Telling.{has_told, row_told, told_at}
-use Rattle.rb_world_book.specs.Waiting.{first_trusted, found_of, row_at, row_if}
+use Rattle.rb_base.specs.{Nodes.{TakesFirst, has, set_of}, declared.values.Place.Place}
+use Rattle.rb_base.proofs.{Sets.{eq_other, first_gone, has-is, has_none, is_set_of, same_set_of}, Plain.{and-true, eq_self}}
+use Rattle.rb_rules.specs.{Book.Row, WorldStep.row_for}
+use Rattle.rb_world_book.specs.{declared.milestone.Milestone.TheVariants.Stage, declared.told.Told.Told, Telling.{has_told, row_told, told_at}, Waiting.{first_trusted, found_of, row_at, row_if}}
 use Rattle.rb_world_book.proofs.Found.{HasAdded, found_first, found_more, found_none, line_added}
 
 pub joined : (a b c : Bool) → ((a && b) && c) ≡ (a && (b && c))

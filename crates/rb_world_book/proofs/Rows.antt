@@ -1,28 +1,10 @@
 -- What the good nodes of a world told, and what is found among what is kept.
-use Rattle.std.proofs.Common.{◌≡◌, ℕ, ◌+◌, ◌≤◌, ◌==◌, ◌&&◌, nat_lt, if◌then◌else◌, Bool, true, false, List, [], ◌∷◌, map, take, get_or, Option, Some, None, refl, sym, ◌∙◌, ap, arith}
-use Rattle.std.specs.Prelude.{option_map, option_and_then}
-use Rattle.std.specs.List.{cons_option, filter_map}
-use Rattle.std.proofs.lemmas.Bool.{le-ltb}
-use Rattle.std.proofs.lemmas.Bool.Decides.{nat_tests}
-use Rattle.rb_base.specs.Nodes.{Side, has, set_of}
-use Rattle.rb_base.specs.Nodes.Side.{Biu, Rmu}
+use Rattle.std.proofs.{Common.{◌≡◌, ℕ, ◌+◌, ◌≤◌, ◌==◌, ◌&&◌, nat_lt, if◌then◌else◌, Bool, true, false, List, [], ◌∷◌, map, take, get_or, Option, Some, None, refl, sym, ◌∙◌, ap, arith}, lemmas.Bool.le-ltb, lemmas.Bool.Decides.nat_tests}
+use Rattle.std.specs.{Prelude.{option_map, option_and_then}, List.{cons_option, filter_map}}
+use Rattle.rb_base.specs.{Nodes.{Side, has, set_of}, Nodes.Side.{Biu, Rmu}, declared.values.Place.Place, declared.values.See.See}
 use Rattle.rb_base.proofs.Sets.{has-set_of, has_above, set_of-lt}
-use Rattle.rb_base.specs.declared.values.Place.{Place}
-use Rattle.rb_base.specs.declared.values.See.{See}
-use Rattle.rb_rules.specs.declared.record.NodeLine.{NodeLine}
-use Rattle.rb_rules.specs.declared.record.PortLine.{PortLine}
-use Rattle.rb_rules.specs.Book.{Begun, Each, Row, line_in, map_from, of_kind}
-use Rattle.rb_rules.specs.ExactStage.{present}
-use Rattle.rb_rules.specs.Goodness.{Scenario, good_at, is_before, is_good, onsets_of}
-use Rattle.rb_rules.specs.Slots.{count_of}
-use Rattle.rb_rules.specs.WorldStep.{Site, begun_for, row_for, same_place, told_by_good}
-use Rattle.rb_world_book.specs.declared.group.Group.{Group}
-use Rattle.rb_world_book.specs.declared.milestone.Milestone.{Milestone}
-use Rattle.rb_world_book.specs.declared.told.Begin.{Begin as LatestBegin}
-use Rattle.rb_world_book.specs.declared.told.Told.{Told}
-use Rattle.rb_world_book.specs.Holding.{HoldsKind}
-use Rattle.rb_world_book.specs.Telling.{begun_in, begun_told, latest_seeing, row_seeing, row_told, see_of}
-use Rattle.rb_world_book.specs.Waiting.{begun_at, found_of, line_of, node_line_of, port_line_of, row_saw}
+use Rattle.rb_rules.specs.{declared.record.NodeLine.NodeLine, declared.record.PortLine.PortLine, Book.{Begun, Each, Row, line_in, map_from, of_kind}, ExactStage.present, Goodness.{Scenario, good_at, is_before, is_good, onsets_of}, Slots.count_of, WorldStep.{Site, begun_for, row_for, same_place, told_by_good}}
+use Rattle.rb_world_book.specs.{declared.group.Group.Group, declared.milestone.Milestone.Milestone, declared.told.Begin.Begin as LatestBegin, declared.told.Told.Told, Holding.HoldsKind, Telling.{begun_in, begun_told, latest_seeing, row_seeing, row_told, see_of}, Waiting.{begun_at, found_of, line_of, node_line_of, port_line_of, row_saw}}
 
 -- Lists.
 

@@ -1,17 +1,10 @@
 -- What is kept of what receivers saw of a source, one receiver after another.
-use Rattle.std.proofs.Common.{◌≡◌, ℕ, ◌<◌, ◌^◌, ◌&&◌, ◌==◌, nat_lt, not, Bool, true, false, inl, inr, refl, sym, ◌∙◌, ap, if◌then◌else◌}
-use Rattle.std.proofs.lemmas.Bool.{cases_lt}
-use Rattle.rb_base.specs.Nodes.{TakesFirst, has, set_of}
-use Rattle.rb_base.specs.declared.values.See.{See}
-use Rattle.rb_base.specs.declared.values.See.TheVariants.{Nothing}
-use Rattle.rb_base.proofs.Plain.{and-false, and-same, eq_self}
-use Rattle.rb_base.proofs.Sets.{first_gone, has-is, has_above, has_none}
+use Rattle.std.proofs.{Common.{◌≡◌, ℕ, ◌<◌, ◌^◌, ◌&&◌, ◌==◌, nat_lt, not, Bool, true, false, inl, inr, refl, sym, ◌∙◌, ap, if◌then◌else◌}, lemmas.Bool.cases_lt}
+use Rattle.rb_base.specs.{Nodes.{TakesFirst, has, set_of}, declared.values.See.See, declared.values.See.TheVariants.Nothing}
+use Rattle.rb_base.proofs.{Plain.{and-false, and-same, eq_self}, Sets.{first_gone, has-is, has_above, has_none}}
 use Rattle.rb_rules.specs.Judging.{are_alike, is_something}
-use Rattle.rb_judge.specs.Sights.{ShowsSource, some_node}
-use Rattle.rb_judge.specs.declared.seen.SourceSights.{SourceSights}
-use Rattle.rb_judge.proofs.Sides.{heard_is}
-use Rattle.rb_judge.proofs.Sights.{same_sights}
-use Rattle.rb_judge.proofs.SomeNode.{some_same}
+use Rattle.rb_judge.specs.{Sights.{ShowsSource, some_node}, declared.seen.SourceSights.SourceSights}
+use Rattle.rb_judge.proofs.{Sides.heard_is, Sights.same_sights, SomeNode.some_same}
 use Rattle.rb_world_book.specs.Waiting.{some_good}
 use Rattle.rb_world_book.proofs.Popped.{is_below, joined, left-before, same_or_not, stays}
 

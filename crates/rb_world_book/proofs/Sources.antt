@@ -1,24 +1,12 @@
 -- What good receivers told of the sources in a stage, and what is noted of it.
-use Rattle.std.proofs.Common.{◌≡◌, ℕ, zero, suc, ◌+◌, ◌<◌, ◌≤◌, ◌&&◌, not, nat_lt, Bool, true, false, List, [], ◌∷◌, length, take, get_or, Option, Some, None, refl, sym, ◌∙◌, ap, arith, if◌then◌else◌}
+use Rattle.std.proofs.{Common.{◌≡◌, ℕ, zero, suc, ◌+◌, ◌<◌, ◌≤◌, ◌&&◌, not, nat_lt, Bool, true, false, List, [], ◌∷◌, length, take, get_or, Option, Some, None, refl, sym, ◌∙◌, ap, arith, if◌then◌else◌}, lemmas.Bool.Decides.nat_tests, lemmas.List.{get_or-take, length-take}, lemmas.List.FromFn.get_or-map-range_with_len}
 use Rattle.std.specs.Prelude.{is_some}
-use Rattle.std.proofs.lemmas.Bool.Decides.{nat_tests}
-use Rattle.std.proofs.lemmas.List.{get_or-take, length-take}
-use Rattle.std.proofs.lemmas.List.FromFn.{get_or-map-range_with_len}
-use Rattle.rb_base.specs.Nodes.{has}
-use Rattle.rb_base.specs.declared.values.Place.{Place}
-use Rattle.rb_base.specs.declared.values.See.{See}
-use Rattle.rb_base.specs.declared.values.See.TheVariants.{Nothing}
+use Rattle.rb_base.specs.{Nodes.has, declared.values.Place.Place, declared.values.See.See, declared.values.See.TheVariants.Nothing}
 use Rattle.rb_base.proofs.Sets.{has-set_of, has_none}
-use Rattle.rb_rules.specs.Book.{Row, map_from, see_in}
-use Rattle.rb_rules.specs.ExactStage.{each_node}
-use Rattle.rb_rules.specs.Judging.{are_alike, is_something}
-use Rattle.rb_rules.specs.WorldStep.{row_for, same_place}
+use Rattle.rb_rules.specs.{Book.{Row, map_from, see_in}, ExactStage.each_node, Judging.{are_alike, is_something}, WorldStep.{row_for, same_place}}
 use Rattle.rb_judge.specs.Sights.{some_node}
 use Rattle.rb_judge.proofs.SomeNode.{some_none, some_same}
-use Rattle.rb_world_book.specs.declared.milestone.Milestone.TheVariants.{Stage}
-use Rattle.rb_world_book.specs.declared.told.Told.{Told}
-use Rattle.rb_world_book.specs.Telling.{has_told, latest_seeing, no_told, row_seeing, see_of, told_at}
-use Rattle.rb_world_book.specs.Waiting.{row_saw, some_good, waiting_for, was_taken, was_unlike}
+use Rattle.rb_world_book.specs.{declared.milestone.Milestone.TheVariants.Stage, declared.told.Told.Told, Telling.{has_told, latest_seeing, no_told, row_seeing, see_of, told_at}, Waiting.{row_saw, some_good, waiting_for, was_taken, was_unlike}}
 
 -- Good receivers.
 

@@ -1,25 +1,11 @@
 -- A stage follows another, and the same nodes are good.
-use Rattle.std.proofs.Common.{◌≡◌, ◌≢◌, ℕ, ◌+◌, ◌<◌, ◌≤◌, ◌^◌, ◌==◌, ◌&&◌, ◌||◌, not, nat_lt, Bool, true, false, List, Option, Some, None, get_or, refl, sym, ◌∙◌, ap, subst, arith, if◌then◌else◌}
+use Rattle.std.proofs.{Common.{◌≡◌, ◌≢◌, ℕ, ◌+◌, ◌<◌, ◌≤◌, ◌^◌, ◌==◌, ◌&&◌, ◌||◌, not, nat_lt, Bool, true, false, List, Option, Some, None, get_or, refl, sym, ◌∙◌, ap, subst, arith, if◌then◌else◌}, lemmas.Bool.Decides.nat_tests}
 use Rattle.std.specs.Prelude.{min}
-use Rattle.std.proofs.lemmas.Bool.Decides.{nat_tests}
-use Rattle.rb_base.specs.Nodes.{Side, has}
-use Rattle.rb_base.specs.Nodes.Side.{Biu, Rmu}
-use Rattle.rb_base.specs.Sizes.{Sizes, sync_slot_of}
-use Rattle.rb_base.specs.declared.values.Place.{Place}
+use Rattle.rb_base.specs.{Nodes.{Side, has}, Nodes.Side.{Biu, Rmu}, Sizes.{Sizes, sync_slot_of}, declared.values.Place.Place}
 use Rattle.rb_base.proofs.Sets.{eq_other, has-is, is_set_of, same_set_of, set_of-lt}
-use Rattle.rb_rules.specs.Book.{Milestone}
-use Rattle.rb_rules.specs.Goodness.{Scenario, good_at, is_before, is_good, onsets_of}
-use Rattle.rb_rules.specs.Slots.{count_of}
+use Rattle.rb_rules.specs.{Book.Milestone, Goodness.{Scenario, good_at, is_before, is_good, onsets_of}, Slots.count_of}
 use Rattle.rb_world_onset.specs.Faults.{Faults}
-use Rattle.rb_world_book.specs.declared.group.Group.{Group}
-use Rattle.rb_world_book.specs.declared.book.Book.{Book as KeptBook}
-use Rattle.rb_world_book.specs.declared.milestone.Milestone.TheVariants.{Stage}
-use Rattle.rb_world_book.specs.declared.told.Told.{Told}
-use Rattle.rb_world_book.specs.Grouping.{AwaitsGood}
-use Rattle.rb_world_book.specs.Holding.{AllStay, GoodNext, IsSteady}
-use Rattle.rb_world_book.specs.Settling.{GoesKind}
-use Rattle.rb_world_book.specs.Telling.{has_told, told_at}
-use Rattle.rb_world_book.specs.Waiting.{waiting_for}
+use Rattle.rb_world_book.specs.{declared.group.Group.Group, declared.book.Book.Book as KeptBook, declared.milestone.Milestone.TheVariants.Stage, declared.told.Told.Told, Grouping.AwaitsGood, Holding.{AllStay, GoodNext, IsSteady}, Settling.GoesKind, Telling.{has_told, told_at}, Waiting.waiting_for}
 use Rattle.rb_world_book.proofs.Sources.{has-told, told-there}
 
 -- a node that has told of one stage last has not told of another

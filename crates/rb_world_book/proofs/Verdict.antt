@@ -1,18 +1,8 @@
 -- The verdict does not depend on what was seen of nodes that are good to the end of the frame.
-use Rattle.std.proofs.Common.{◌≡◌, ℕ, ◌≤◌, ◌&&◌, ◌||◌, not, nat_lt, Bool, true, false, List, [], ◌∷◌, map, get_or, Option, Some, None, refl, ◌∙◌, ap, arith}
+use Rattle.std.proofs.{Common.{◌≡◌, ℕ, ◌≤◌, ◌&&◌, ◌||◌, not, nat_lt, Bool, true, false, List, [], ◌∷◌, map, get_or, Option, Some, None, refl, ◌∙◌, ap, arith}, lemmas.Bool.Decides.nat_tests}
 use Rattle.std.specs.List.{list_any}
-use Rattle.std.proofs.lemmas.Bool.Decides.{nat_tests}
-use Rattle.rb_base.specs.Counting.{numbers}
-use Rattle.rb_base.specs.Nodes.{Side, has, other}
-use Rattle.rb_base.specs.Nodes.Side.{Biu, Rmu}
-use Rattle.rb_base.specs.Sizes.{sync_slot_of}
-use Rattle.rb_base.specs.declared.values.Place.{Place}
-use Rattle.rb_base.specs.declared.values.See.{See}
-use Rattle.rb_base.specs.declared.values.See.TheVariants.{Nothing}
-use Rattle.rb_rules.specs.Book.{Each, Row, judged_of}
-use Rattle.rb_rules.specs.Goodness.{Scenario, is_before, is_good, onsets_of}
-use Rattle.rb_rules.specs.Judging.{JudgedStage, are_alike, is_something, is_suspect, verdict_of, was_taken, was_unlike}
-use Rattle.rb_rules.specs.Slots.{count_of}
+use Rattle.rb_base.specs.{Counting.numbers, Nodes.{Side, has, other}, Nodes.Side.{Biu, Rmu}, Sizes.sync_slot_of, declared.values.Place.Place, declared.values.See.See, declared.values.See.TheVariants.Nothing}
+use Rattle.rb_rules.specs.{Book.{Each, Row, judged_of}, Goodness.{Scenario, is_before, is_good, onsets_of}, Judging.{JudgedStage, are_alike, is_something, is_suspect, verdict_of, was_taken, was_unlike}, Slots.count_of}
 use Rattle.rb_rules.proofs.Slots.{other_twice}
 use Rattle.rb_judge.proofs.SameVerdicts.{AgreeOnSuspects, same_verdict}
 use Rattle.rb_world_book.specs.Holding.{without_lasting}

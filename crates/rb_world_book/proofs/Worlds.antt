@@ -1,24 +1,9 @@
 -- What a caller of a book knows of it: which steps of the world its calls stand for.
-use Rattle.std.proofs.Common.{◌≡◌, ℕ, suc, ◌+◌, ◌==◌, ◌&&◌, [], ◌∷◌, Bool, true, false, List, map, get_or, slice_index, refl, sym, ◌∙◌, ap, subst, arith}
+use Rattle.std.proofs.{Common.{◌≡◌, ℕ, suc, ◌+◌, ◌==◌, ◌&&◌, [], ◌∷◌, Bool, true, false, List, map, get_or, slice_index, refl, sym, ◌∙◌, ap, subst, arith}, lemmas.Bool.Decides.nat_tests, Math.Path.fun_ext}
 use Rattle.std.specs.Prelude.{Option, Some, slice_get}
-use Rattle.std.proofs.lemmas.Bool.Decides.{nat_tests}
-use Rattle.std.proofs.Math.Path.{fun_ext}
-use Rattle.rb_base.specs.Nodes.{Side}
-use Rattle.rb_base.specs.Nodes.Side.{Biu, Rmu}
-use Rattle.rb_base.specs.declared.node.NodeName.{NodeName}
-use Rattle.rb_base.specs.declared.values.See.{See}
-use Rattle.rb_base.specs.declared.values.See.TheVariants.{Nothing, Value, Time}
-use Rattle.rb_rules.specs.declared.closing.Closed.{Closed}
-use Rattle.rb_rules.specs.Book.{Each, Row, map_from, of_kind}
-use Rattle.rb_rules.specs.ExactStage.{each_node}
-use Rattle.rb_rules.specs.Goodness.{Scenario}
-use Rattle.rb_rules.specs.Hearing.{Coming, judged_see, row_of, sole_time}
-use Rattle.rb_rules.specs.NodeState.{NodeState, trusted_of}
-use Rattle.rb_rules.specs.Slots.{same_side}
-use Rattle.rb_rules.specs.WorldStep.{Site, World, at_node, coming_from, with_close}
-use Rattle.rb_world_book.specs.declared.book.Book.{Book as KeptBook}
-use Rattle.rb_world_book.specs.Changing.{changed_at, number_in, row_shown, side_in, with_row}
-use Rattle.rb_world_book.specs.Holding.{Holds}
+use Rattle.rb_base.specs.{Nodes.Side, Nodes.Side.{Biu, Rmu}, declared.node.NodeName.NodeName, declared.values.See.See, declared.values.See.TheVariants.{Nothing, Value, Time}}
+use Rattle.rb_rules.specs.{declared.closing.Closed.Closed, Book.{Each, Row, map_from, of_kind}, ExactStage.each_node, Goodness.Scenario, Hearing.{Coming, judged_see, row_of, sole_time}, NodeState.{NodeState, trusted_of}, Slots.same_side, WorldStep.{Site, World, at_node, coming_from, with_close}}
+use Rattle.rb_world_book.specs.{declared.book.Book.Book as KeptBook, Changing.{changed_at, number_in, row_shown, side_in, with_row}, Holding.Holds}
 use Rattle.rb_world_book.proofs.Noting.{at-kind, same-shown}
 
 -- `times` has the time of the sole arrival from each source that was seen with a stamp

@@ -1,19 +1,8 @@
 -- What a node tells changes its site in the world.
 use Rattle.std.specs.Prelude.{ℕ, ◌==◌, true, false, Option, Some, option_map, List, get_or, slice_index}
-use Rattle.rb_base.specs.Nodes.{Side}
-use Rattle.rb_base.specs.Nodes.Side.{Biu, Rmu}
-use Rattle.rb_base.specs.Sizes.{Sizes}
-use Rattle.rb_base.specs.declared.node.NodeName.{NodeName}
+use Rattle.rb_base.specs.{Nodes.Side, Nodes.Side.{Biu, Rmu}, Sizes.Sizes, declared.node.NodeName.NodeName, declared.values.Delivery.Delivery, declared.values.See.TheVariants.Nothing}
+use Rattle.rb_rules.specs.{declared.closing.Closed.Closed, declared.record.SlotLine.SlotLine, Book.{Begun, Row}, ExactStage.each_node, Hearing.judged_see, Slots.count_of, WorldStep.{Site, World, at_node}}
 use Rattle.rb_base.specs.declared.node.NodeName.TheVariants as node
-use Rattle.rb_base.specs.declared.values.Delivery.{Delivery}
-use Rattle.rb_base.specs.declared.values.See.TheVariants.{Nothing}
-use Rattle.rb_rules.specs.declared.closing.Closed.{Closed}
-use Rattle.rb_rules.specs.declared.record.SlotLine.{SlotLine}
-use Rattle.rb_rules.specs.Book.{Begun, Row}
-use Rattle.rb_rules.specs.ExactStage.{each_node}
-use Rattle.rb_rules.specs.Hearing.{judged_see}
-use Rattle.rb_rules.specs.Slots.{count_of}
-use Rattle.rb_rules.specs.WorldStep.{Site, World, at_node}
 
 abbrev pub side_in : NodeName → Side
 side_in (node.Biu i) = Biu

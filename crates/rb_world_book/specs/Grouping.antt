@@ -1,10 +1,7 @@
 -- What changes in a group of nodes when one of them tells something.
 use Rattle.std.specs.Prelude.{ℕ, ◌≡◌, ◌&&◌, ◌==◌, not, if◌then◌else◌, slice_set}
 use Rattle.rb_base.specs.Nodes.{has, set_of}
-use Rattle.rb_world_book.specs.declared.group.Group.{Group}
-use Rattle.rb_world_book.specs.declared.milestone.Milestone.{Milestone}
-use Rattle.rb_world_book.specs.declared.told.Told.{Told}
-use Rattle.rb_world_book.specs.Telling.{has_told}
+use Rattle.rb_world_book.specs.{declared.group.Group.Group, declared.milestone.Milestone.Milestone, declared.told.Told.Told, Telling.has_told}
 
 -- t is now what a node told last, and the node is awaited if and only if it is good and t does not
 -- tell of milestone m. Nothing else has changed

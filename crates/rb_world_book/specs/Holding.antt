@@ -1,30 +1,10 @@
 -- What is kept of a run, and the world that it stands for.
 use Rattle.std.specs.Prelude.{ℕ, ◌≡◌, ◌+◌, ◌-◌, ◌^◌, ◌<◌, ◌≤◌, ◌==◌, ◌&&◌, nat_lt, false, true, Option, Some, None, List, [], ◌∷◌, get_or, length, map, take, if◌then◌else◌}
-use Rattle.rb_base.specs.Nodes.{Side, has, other}
-use Rattle.rb_base.specs.Nodes.Side.{Biu, Rmu}
-use Rattle.rb_base.specs.Sizes.{Sizes, IsShape, sync_slot_of}
-use Rattle.rb_base.specs.declared.values.Place.{Place}
-use Rattle.rb_base.specs.declared.values.See.{See}
-use Rattle.rb_base.specs.declared.values.See.TheVariants.{Nothing}
-use Rattle.rb_rules.specs.declared.record.NodeLine.{NodeLine}
-use Rattle.rb_rules.specs.declared.record.PortLine.{PortLine}
-use Rattle.rb_rules.specs.declared.record.SlotLine.{SlotLine}
-use Rattle.rb_rules.specs.Book.{Each, Record, after_stage, map_from, of_kind}
-use Rattle.rb_rules.specs.Goodness.{Scenario, good_at, is_good}
-use Rattle.rb_rules.specs.Judging.{JudgedStage}
-use Rattle.rb_rules.specs.Slots.{count_of}
-use Rattle.rb_rules.specs.WorldStep.{Site, World, book_with, record_since}
+use Rattle.rb_base.specs.{Nodes.{Side, has, other}, Nodes.Side.{Biu, Rmu}, Sizes.{Sizes, IsShape, sync_slot_of}, declared.values.Place.Place, declared.values.See.See, declared.values.See.TheVariants.Nothing}
+use Rattle.rb_rules.specs.{declared.record.NodeLine.NodeLine, declared.record.PortLine.PortLine, declared.record.SlotLine.SlotLine, Book.{Each, Record, after_stage, map_from, of_kind}, Goodness.{Scenario, good_at, is_good}, Judging.JudgedStage, Slots.count_of, WorldStep.{Site, World, book_with, record_since}}
 use Rattle.rb_judge.specs.Stages.{Knows}
 use Rattle.rb_world_onset.specs.Faults.{faults_of}
-use Rattle.rb_world_book.specs.declared.group.Group.{Group}
-use Rattle.rb_world_book.specs.declared.book.Book.{Book as KeptBook}
-use Rattle.rb_world_book.specs.declared.milestone.Milestone.{Milestone}
-use Rattle.rb_world_book.specs.declared.milestone.Milestone.TheVariants.{Begin, Stage, End}
-use Rattle.rb_world_book.specs.declared.turn.Turn.{Turn}
-use Rattle.rb_world_book.specs.Grouping.{AwaitsGood}
-use Rattle.rb_world_book.specs.Records.{milestone_of, record_of}
-use Rattle.rb_world_book.specs.Telling.{begun_told, row_seeing, see_of, told_at}
-use Rattle.rb_world_book.specs.Waiting.{all_but, waiting_for}
+use Rattle.rb_world_book.specs.{declared.group.Group.Group, declared.book.Book.Book as KeptBook, declared.milestone.Milestone.Milestone, declared.milestone.Milestone.TheVariants.{Begin, Stage, End}, declared.turn.Turn.Turn, Grouping.AwaitsGood, Records.{milestone_of, record_of}, Telling.{begun_told, row_seeing, see_of, told_at}, Waiting.{all_but, waiting_for}}
 
 -- Judging.
 

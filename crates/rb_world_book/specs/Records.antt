@@ -1,12 +1,9 @@
 -- Turns, milestones and ways, as the definitions of a run have them.
 use Rattle.std.specs.Prelude.{Option, Some, None}
-use Rattle.rb_rules.specs.Book.{Record, Milestone}
-use Rattle.rb_rules.specs.WorldStep.{Way}
-use Rattle.rb_world_book.specs.declared.milestone.Milestone.{Milestone as KeptMilestone}
+use Rattle.rb_rules.specs.{Book.{Record, Milestone}, WorldStep.Way}
+use Rattle.rb_world_book.specs.{declared.milestone.Milestone.Milestone as KeptMilestone, declared.milestone.Way.Way as KeptWay, declared.turn.Turn.Turn}
 use Rattle.rb_world_book.specs.declared.milestone.Milestone.TheVariants as kept
-use Rattle.rb_world_book.specs.declared.milestone.Way.{Way as KeptWay}
 use Rattle.rb_world_book.specs.declared.milestone.Way.TheVariants as kept_way
-use Rattle.rb_world_book.specs.declared.turn.Turn.{Turn}
 use Rattle.rb_world_book.specs.declared.turn.Turn.TheVariants as turn
 
 abbrev pub milestone_of : KeptMilestone → Milestone

@@ -1,27 +1,12 @@
 -- How milestones are settled.
 use Rattle.std.specs.Prelude.{ℕ, ◌≡◌, ◌+◌, ◌-◌, ◌^◌, ◌<◌, ◌≤◌, ◌==◌, ◌&&◌, ◌++◌, ◌∷◌, not, Bool, List, map, if◌then◌else◌}
-use Rattle.rb_base.specs.Nodes.{Side, has}
-use Rattle.rb_base.specs.Nodes.Side.{Biu, Rmu}
-use Rattle.rb_base.specs.Sizes.{Sizes, sync_slot_of}
-use Rattle.rb_base.specs.declared.values.Place.{Place}
-use Rattle.rb_rules.specs.Book.{Each, Milestone, Row, after_stage, judged_of}
-use Rattle.rb_rules.specs.Book.Milestone.{End, Stage}
-use Rattle.rb_rules.specs.Goodness.{Scenario, good_at}
-use Rattle.rb_rules.specs.Judging.{JudgedStage}
-use Rattle.rb_rules.specs.Slots.{count_of}
-use Rattle.rb_rules.specs.WorldStep.{Site, Way, World, row_for, settle, told_by_good}
+use Rattle.rb_base.specs.{Nodes.{Side, has}, Nodes.Side.{Biu, Rmu}, Sizes.{Sizes, sync_slot_of}, declared.values.Place.Place}
+use Rattle.rb_rules.specs.{Book.{Each, Milestone, Row, after_stage, judged_of}, Book.Milestone.{End, Stage}, Goodness.{Scenario, good_at}, Judging.JudgedStage, Slots.count_of, WorldStep.{Site, Way, World, row_for, settle, told_by_good}}
 use Rattle.rb_judge.specs.Stages.{KeptJudge, Knows}
 use Rattle.rb_world_onset.specs.Faults.{Faults, faults_of}
-use Rattle.rb_world_book.specs.declared.group.Group.{Group}
-use Rattle.rb_world_book.specs.declared.book.Book.{Book as KeptBook}
-use Rattle.rb_world_book.specs.declared.milestone.Milestone.{Milestone as KeptMilestone}
+use Rattle.rb_world_book.specs.{declared.group.Group.Group, declared.book.Book.Book as KeptBook, declared.milestone.Milestone.Milestone as KeptMilestone, declared.milestone.Way.Way as KeptWay, declared.turn.Turn.Turn, Holding.{Holds, HoldsKind, TurnsKind, good_for, slot_record, without_lasting}, Records.{milestone_of, record_of}, Waiting.{found_of, line_of, row_at, waiting_for}}
 use Rattle.rb_world_book.specs.declared.milestone.Milestone.TheVariants as kept
-use Rattle.rb_world_book.specs.declared.milestone.Way.{Way as KeptWay}
 use Rattle.rb_world_book.specs.declared.milestone.Way.TheVariants as way
-use Rattle.rb_world_book.specs.declared.turn.Turn.{Turn}
-use Rattle.rb_world_book.specs.Holding.{Holds, HoldsKind, TurnsKind, good_for, slot_record, without_lasting}
-use Rattle.rb_world_book.specs.Records.{milestone_of, record_of}
-use Rattle.rb_world_book.specs.Waiting.{found_of, line_of, row_at, waiting_for}
 
 -- the rows of the good nodes that told of a stage, BIUs before RMUs
 abbrev pub rows_found : {B R : Type 0} → Sizes → Place → Group B → Group R → List Row

@@ -1,21 +1,8 @@
 -- What a node has told last.
 use Rattle.std.specs.Prelude.{ℕ, Bool, true, false, Option, Some, None, option_map, is_some, List, [], get_or, slice_index, replicate, if◌then◌else◌}
-use Rattle.rb_base.specs.Nodes.{Side, has}
-use Rattle.rb_base.specs.Nodes.Side.{Biu, Rmu}
-use Rattle.rb_base.specs.declared.values.Place.{Place}
-use Rattle.rb_base.specs.declared.values.See.{See}
-use Rattle.rb_base.specs.declared.values.See.TheVariants.{Nothing}
-use Rattle.rb_rules.specs.declared.closing.Closed.{Closed}
-use Rattle.rb_rules.specs.declared.record.PortLine.{PortLine}
-use Rattle.rb_rules.specs.declared.record.SlotLine.{SlotLine}
-use Rattle.rb_rules.specs.Book.{Begun, Row}
-use Rattle.rb_rules.specs.ExactStage.{each_node}
-use Rattle.rb_rules.specs.Hearing.{judged_see}
-use Rattle.rb_rules.specs.WorldStep.{begun_for, row_for, same_place}
-use Rattle.rb_world_book.specs.declared.milestone.Milestone.{Milestone}
-use Rattle.rb_world_book.specs.declared.milestone.Milestone.TheVariants.{Begin, Stage, End}
-use Rattle.rb_world_book.specs.declared.told.Begin.{Begin as LatestBegin}
-use Rattle.rb_world_book.specs.declared.told.Told.{Told}
+use Rattle.rb_base.specs.{Nodes.{Side, has}, Nodes.Side.{Biu, Rmu}, declared.values.Place.Place, declared.values.See.See, declared.values.See.TheVariants.Nothing}
+use Rattle.rb_rules.specs.{declared.closing.Closed.Closed, declared.record.PortLine.PortLine, declared.record.SlotLine.SlotLine, Book.{Begun, Row}, ExactStage.each_node, Hearing.judged_see, WorldStep.{begun_for, row_for, same_place}}
+use Rattle.rb_world_book.specs.{declared.milestone.Milestone.Milestone, declared.milestone.Milestone.TheVariants.{Begin, Stage, End}, declared.told.Begin.Begin as LatestBegin, declared.told.Told.Told}
 
 -- what a node saw of source j in its latest stage
 abbrev pub see_of : Told → ℕ → See

@@ -1,20 +1,9 @@
 -- What the nodes of a kind have told, as it is walked over.
 use Rattle.std.specs.Prelude.{ℕ, ◌&&◌, nat_lt, not, Bool, true, false, Option, Some, None, option_map, option_and_then, List, [], ◌∷◌, take}
-use Rattle.rb_base.specs.Nodes.{Side, has, set_of}
-use Rattle.rb_base.specs.Nodes.Side.{Biu}
-use Rattle.rb_base.specs.declared.values.Place.{Place}
-use Rattle.rb_base.specs.declared.values.See.{See}
-use Rattle.rb_rules.specs.declared.record.NodeLine.{NodeLine}
-use Rattle.rb_rules.specs.declared.record.PortLine.{PortLine}
-use Rattle.rb_rules.specs.declared.record.SlotLine.{SlotLine}
-use Rattle.rb_rules.specs.Book.{Begun, Row, line_in, map_from}
-use Rattle.rb_rules.specs.ExactStage.{present}
-use Rattle.rb_rules.specs.Judging.{are_alike, is_something}
-use Rattle.rb_rules.specs.WorldStep.{begun_for, row_for}
+use Rattle.rb_base.specs.{Nodes.{Side, has, set_of}, Nodes.Side.Biu, declared.values.Place.Place, declared.values.See.See}
+use Rattle.rb_rules.specs.{declared.record.NodeLine.NodeLine, declared.record.PortLine.PortLine, declared.record.SlotLine.SlotLine, Book.{Begun, Row, line_in, map_from}, ExactStage.present, Judging.{are_alike, is_something}, WorldStep.{begun_for, row_for}}
 use Rattle.rb_judge.specs.Sights.{some_node}
-use Rattle.rb_world_book.specs.declared.milestone.Milestone.{Milestone}
-use Rattle.rb_world_book.specs.declared.told.Told.{Told}
-use Rattle.rb_world_book.specs.Telling.{begun_told, has_told, row_seeing, row_told, see_of, told_at}
+use Rattle.rb_world_book.specs.{declared.milestone.Milestone.Milestone, declared.told.Told.Told, Telling.{begun_told, has_told, row_seeing, row_told, see_of, told_at}}
 
 -- the nodes among the first `count` that are good and have not told of milestone m
 unfoldable pub waiting_for : ℕ → ℕ → Milestone → List Told → ℕ

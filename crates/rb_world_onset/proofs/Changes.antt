@@ -1,12 +1,8 @@
 -- The next slot at which other nodes are good.
-use Rattle.std.proofs.Common.{◌≡◌, ◌⊎◌, inl, inr, ℕ, ◌+◌, ◌<◌, ◌&&◌, nat_lt, Bool, true, false, Option, Some, None, IfSome, List, get_or, refl, sym, ap, ◌∙◌, subst, arith}
-use Rattle.std.proofs.lemmas.Bool.{cases_lt, le-ltb}
-use Rattle.std.proofs.lemmas.Bool.Decides.{nat_tests}
-use Rattle.rb_base.specs.Nodes.{Side}
-use Rattle.rb_base.specs.Nodes.Side.{Biu, Rmu}
+use Rattle.std.proofs.{Common.{◌≡◌, ◌⊎◌, inl, inr, ℕ, ◌+◌, ◌<◌, ◌&&◌, nat_lt, Bool, true, false, Option, Some, None, IfSome, List, get_or, refl, sym, ap, ◌∙◌, subst, arith}, lemmas.Bool.{cases_lt, le-ltb}, lemmas.Bool.Decides.nat_tests}
+use Rattle.rb_base.specs.{Nodes.Side, Nodes.Side.{Biu, Rmu}}
 use Rattle.rb_rules.specs.Goodness.{Scenario, is_before, is_good}
-use Rattle.rb_world_onset.specs.Faults.{Faults, IsNextChange, Stops, earlier_after, faults_of, is_good_among}
-use Rattle.rb_world_onset.specs.Search.{IsNextAmong, IsOnsetAmong}
+use Rattle.rb_world_onset.specs.{Faults.{Faults, IsNextChange, Stops, earlier_after, faults_of, is_good_among}, Search.{IsNextAmong, IsOnsetAmong}}
 
 -- Places in order.
 before_before : (a b c d f s : ℕ) → is_before (Some (c, d)) a b ≡ true → is_before (Some (a, b)) f s ≡ true → is_before (Some (c, d)) f s ≡ true

@@ -1,7 +1,6 @@
 -- From which slot on the nodes of a bus are not good, apart from the rest of a scenario.
 use Rattle.std.specs.Prelude.{◌≡◌, ℕ, ◌&&◌, nat_lt, Bool, true, false, List, Option, Some, None, IfSome, get_or}
-use Rattle.rb_base.specs.Nodes.{Side}
-use Rattle.rb_base.specs.Sizes.{Sizes}
+use Rattle.rb_base.specs.{Nodes.Side, Sizes.Sizes}
 use Rattle.rb_rules.specs.Goodness.{Scenario, is_before, is_good}
 
 -- the numbers of nodes, and the onset of each node, if it has one

@@ -1,33 +1,14 @@
 -- A lane with more arrivals.
-use Rattle.std.proofs.Common.{◌≡◌, ℕ, zero, suc, ◌+◌, ◌<◌, ◌≤◌, Bool, true, false, cond, Some, List, [], ◌∷◌, ◌++◌, All, filter, get_or, length, map, slice_get, take, refl, sym, ap, ◌∙◌, subst, arith, append_assoc, length-append}
-use Rattle.std.specs.Prelude.{unwrap_or, slice_set}
-use Rattle.std.specs.List.{cons_option, flat_map, range_with_len}
-use Rattle.std.proofs.lemmas.List.{append-nil, take_more}
-use Rattle.std.proofs.lemmas.List.Elements.{All-append, All-cons, All-nil, filter_map-append}
-use Rattle.std.proofs.lemmas.Option.{slice_get_past}
-use Rattle.rb_base.specs.Nodes.{Side, other}
-use Rattle.rb_base.specs.Sizes.{Sizes}
-use Rattle.rb_base.specs.declared.node.NodeName.{NodeName}
-use Rattle.rb_base.specs.declared.node.NodeName.TheVariants as node
-use Rattle.rb_rules.specs.declared.say.Say.{Say}
-use Rattle.rb_rules.specs.Behavior.{Said}
-use Rattle.rb_rules.specs.Book.{Each}
-use Rattle.rb_rules.specs.Clock.{Timeline}
-use Rattle.rb_rules.specs.Entries.{IsListed}
-use Rattle.rb_rules.specs.Goodness.{Scenario, clock_of, is_good}
-use Rattle.rb_rules.specs.Hearing.{Coming, Span, is_heard, said_by}
-use Rattle.rb_rules.specs.Lawful.{IsLawful, IsNodeOf, kind_of}
-use Rattle.rb_rules.specs.Links.{name_of}
-use Rattle.rb_rules.specs.Slots.{count_of}
-use Rattle.rb_rules.specs.WorldStep.{Site, at_node, says_in}
+use Rattle.std.proofs.{Common.{◌≡◌, ℕ, zero, suc, ◌+◌, ◌<◌, ◌≤◌, Bool, true, false, cond, Some, List, [], ◌∷◌, ◌++◌, All, filter, get_or, length, map, slice_get, take, refl, sym, ap, ◌∙◌, subst, arith, append_assoc, length-append}, lemmas.List.{append-nil, take_more}, lemmas.List.Elements.{All-append, All-cons, All-nil, filter_map-append}, lemmas.Option.slice_get_past}
+use Rattle.std.specs.{Prelude.{unwrap_or, slice_set}, List.{cons_option, flat_map, range_with_len}}
+use Rattle.rb_base.specs.{Nodes.{Side, other}, Sizes.Sizes, declared.node.NodeName.NodeName}
+use Rattle.rb_rules.specs.{declared.say.Say.Say, Behavior.Said, Book.Each, Clock.Timeline, Entries.IsListed, Goodness.{Scenario, clock_of, is_good}, Hearing.{Coming, Span, is_heard, said_by}, Lawful.{IsLawful, IsNodeOf, kind_of}, Links.name_of, Slots.count_of, WorldStep.{Site, at_node, says_in}}
 use Rattle.rb_queue.specs.Waiting.{HasLane, Held, empty_lane, lane_of, spare_of, with_arrival, with_lane}
 use Rattle.rb_world_agenda.specs.Holding.{HoldsSite, HoldsSites}
-use Rattle.rb_world_agenda.proofs.Changes.{holds-at}
-use Rattle.rb_world_agenda.proofs.Keeping.{has-with, lane-with}
-use Rattle.rb_world_traffic.specs.Arriving.{number_of}
-use Rattle.rb_world_traffic.proofs.Heard.{as_coming}
-use Rattle.rb_world_traffic.proofs.Says.{brought-append, says-are}
-use Rattle.rb_world_traffic.specs.Saying.{AreFor, Brings, KeptSayings, SaysTo, all_brought, brought, entries_at, entries_to, hears, is_said_in, kept_of, senders_to, with_arrivals}
+use Rattle.rb_world_agenda.proofs.{Changes.holds-at, Keeping.{has-with, lane-with}}
+use Rattle.rb_world_traffic.specs.{Arriving.number_of, Saying.{AreFor, Brings, KeptSayings, SaysTo, all_brought, brought, entries_at, entries_to, hears, is_said_in, kept_of, senders_to, with_arrivals}}
+use Rattle.rb_world_traffic.proofs.{Heard.as_coming, Says.{brought-append, says-are}}
+use Rattle.rb_base.specs.declared.node.NodeName.TheVariants as node
 
 -- Lanes.
 set-same : (xs : List Held) (i : ℕ) (x : Held) → i < length xs → x ≡ unwrap_or (slice_get xs i) (empty_lane 0) → slice_set xs i x ≡ xs

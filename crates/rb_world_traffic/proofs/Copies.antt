@@ -1,6 +1,5 @@
 -- What holds if nothing is to be said.
-use Rattle.std.proofs.Common.{◌≡◌, ◌==◌, ℕ, true, List, [], ◌∷◌, length, refl, arith}
-use Rattle.std.proofs.lemmas.Bool.{eqb-true}
+use Rattle.std.proofs.{Common.{◌≡◌, ◌==◌, ℕ, true, List, [], ◌∷◌, length, refl, arith}, lemmas.Bool.eqb-true}
 
 pub none_there : (xs : List ℕ) → (length xs == 0) ≡ true → xs ≡ []
 none_there [] is = refl

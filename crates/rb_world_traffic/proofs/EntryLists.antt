@@ -1,16 +1,8 @@
 -- The entries for a node, as their numbers are put together.
-use Rattle.std.proofs.Common.{◌≡◌, ℕ, zero, suc, ◌+◌, ◌<◌, Bool, true, false, cond, Some, List, [], ◌∷◌, ◌++◌, filter, length, take, get_or, slice_get, refl, sym, ap, ◌∙◌, subst, arith, append_assoc, length-append, inl, inr}
-use Rattle.std.specs.Prelude.{unwrap_or}
-use Rattle.std.specs.List.{cons_option, flat_map, range_with_len}
-use Rattle.std.proofs.lemmas.List.{append-nil, take_more}
-use Rattle.std.proofs.lemmas.List.Elements.{filter-append, filter_map-append}
-use Rattle.std.proofs.lemmas.Option.{get_or_from_slice_get, slice_get_within}
-use Rattle.std.proofs.lemmas.Bool.{cases_lt}
-use Rattle.rb_base.specs.Nodes.{Side, other}
-use Rattle.rb_base.specs.declared.node.NodeName.{NodeName}
-use Rattle.rb_rules.specs.declared.say.Say.{Say}
-use Rattle.rb_rules.specs.Lawful.{kind_of}
-use Rattle.rb_rules.specs.Links.{name_of}
+use Rattle.std.proofs.{Common.{◌≡◌, ℕ, zero, suc, ◌+◌, ◌<◌, Bool, true, false, cond, Some, List, [], ◌∷◌, ◌++◌, filter, length, take, get_or, slice_get, refl, sym, ap, ◌∙◌, subst, arith, append_assoc, length-append, inl, inr}, lemmas.List.{append-nil, take_more}, lemmas.List.Elements.{filter-append, filter_map-append}, lemmas.Option.{get_or_from_slice_get, slice_get_within}, lemmas.Bool.cases_lt}
+use Rattle.std.specs.{Prelude.unwrap_or, List.{cons_option, flat_map, range_with_len}}
+use Rattle.rb_base.specs.{Nodes.{Side, other}, declared.node.NodeName.NodeName}
+use Rattle.rb_rules.specs.{declared.say.Say.Say, Lawful.kind_of, Links.name_of}
 use Rattle.rb_world_traffic.specs.Saying.{AreFor, AreOfKind, entries_at, entries_to, is_between}
 
 -- One sender.

@@ -1,36 +1,11 @@
 -- All that the entries of a document say to a node of the bus is heard.
-use Rattle.std.proofs.Common.{◌≡◌, ℕ, zero, suc, ◌+◌, ◌-◌, ◌<◌, ◌≤◌, ◌^◌, ◌&&◌, min, nat_le, nat_lt, Bool, true, false, cond, All, List, [], ◌∷◌, ◌++◌, bit_xor, filter, fold, length, map, refl, ap, ◌∙◌, subst, arith}
+use Rattle.std.proofs.{Common.{◌≡◌, ℕ, zero, suc, ◌+◌, ◌-◌, ◌<◌, ◌≤◌, ◌^◌, ◌&&◌, min, nat_le, nat_lt, Bool, true, false, cond, All, List, [], ◌∷◌, ◌++◌, bit_xor, filter, fold, length, map, refl, ap, ◌∙◌, subst, arith}, lemmas.Bool.{and_from, and_parts, eqb-true, false≢true, le-leb, leb-true, lt-ltb, ltb-true}, lemmas.List.Elements.{All-head, All-tail}, lemmas.List.Folds.list_all-append, lemmas.Nat.xor_of_8}
 use Rattle.std.specs.Int.{byte_at, bytes_high_first}
-use Rattle.std.proofs.lemmas.Bool.{and_from, and_parts, eqb-true, false≢true, le-leb, leb-true, lt-ltb, ltb-true}
-use Rattle.std.proofs.lemmas.List.Elements.{All-head, All-tail}
-use Rattle.std.proofs.lemmas.List.Folds.{list_all-append}
-use Rattle.std.proofs.lemmas.Nat.{xor_of_8}
-use Rattle.rb_base.specs.Nodes.{Side, other}
-use Rattle.rb_base.specs.Nodes.Side.{Biu, Rmu}
-use Rattle.rb_base.specs.Sizes.{Sizes}
-use Rattle.rb_base.specs.declared.node.NodeName.{NodeName}
+use Rattle.rb_base.specs.{Nodes.{Side, other}, Nodes.Side.{Biu, Rmu}, Sizes.Sizes, declared.node.NodeName.NodeName, declared.values.Place.Place}
+use Rattle.rb_rules.specs.{declared.message.Message.Message, declared.message.Tag.Tag, declared.message.Version.Version, declared.message.Version.TheVariants.{One, Two}, declared.say.Content.Content, declared.say.Content.TheVariants.{Word, Fault, Sync, Raw}, declared.say.Say.Say, Behavior.{Said, are_bytes, is_after_previous, is_within}, Clock.{Timeline, tick_length, time_of}, Entries.{IsListed, bytes_of, is_said, message_at, said_of}, Goodness.{Scenario, clock_of, clock_place}, Hearing.{Coming, Span, is_heard, said_by}, Lawful.{IsContent, IsLawful, IsNodeOf, IsSayOf, IsVersion}, Links.{covers, name_of, same_node, stands_for}, Plan.{longest_of, shortest_of}, Slots.count_of, Spelling.{body_of, check_of, fields_of, spelling_of, tag_byte}}
+use Rattle.rb_rules.proofs.{Drift.{HasLengths, has_lengths, times_rise_to}, Slots.{place-within, same_node-is}}
 use Rattle.rb_base.specs.declared.node.NodeName.TheVariants as node
-use Rattle.rb_base.specs.declared.values.Place.{Place}
-use Rattle.rb_rules.specs.declared.message.Message.{Message}
-use Rattle.rb_rules.specs.declared.message.Tag.{Tag}
 use Rattle.rb_rules.specs.declared.message.Tag.TheVariants as tag
-use Rattle.rb_rules.specs.declared.message.Version.{Version}
-use Rattle.rb_rules.specs.declared.message.Version.TheVariants.{One, Two}
-use Rattle.rb_rules.specs.declared.say.Content.{Content}
-use Rattle.rb_rules.specs.declared.say.Content.TheVariants.{Word, Fault, Sync, Raw}
-use Rattle.rb_rules.specs.declared.say.Say.{Say}
-use Rattle.rb_rules.specs.Behavior.{Said, are_bytes, is_after_previous, is_within}
-use Rattle.rb_rules.specs.Clock.{Timeline, tick_length, time_of}
-use Rattle.rb_rules.specs.Entries.{IsListed, bytes_of, is_said, message_at, said_of}
-use Rattle.rb_rules.specs.Goodness.{Scenario, clock_of, clock_place}
-use Rattle.rb_rules.specs.Hearing.{Coming, Span, is_heard, said_by}
-use Rattle.rb_rules.specs.Lawful.{IsContent, IsLawful, IsNodeOf, IsSayOf, IsVersion}
-use Rattle.rb_rules.specs.Links.{covers, name_of, same_node, stands_for}
-use Rattle.rb_rules.specs.Plan.{longest_of, shortest_of}
-use Rattle.rb_rules.specs.Slots.{count_of}
-use Rattle.rb_rules.specs.Spelling.{body_of, check_of, fields_of, spelling_of, tag_byte}
-use Rattle.rb_rules.proofs.Drift.{HasLengths, has_lengths, times_rise_to}
-use Rattle.rb_rules.proofs.Slots.{place-within, same_node-is}
 
 -- Bytes.
 

@@ -1,14 +1,9 @@
 -- Lanes that get one arrival each.
-use Rattle.std.proofs.Common.{◌≡◌, ◌≢◌, ℕ, zero, suc, ◌+◌, ◌<◌, ◌≤◌, ◌^◌, ◌⊎◌, ◌&&◌, ◌==◌, not, Bool, true, false, Some, List, [], ◌∷◌, length, slice_get, refl, sym, ap, ◌∙◌, subst, arith, inl, inr}
+use Rattle.std.proofs.{Common.{◌≡◌, ◌≢◌, ℕ, zero, suc, ◌+◌, ◌<◌, ◌≤◌, ◌^◌, ◌⊎◌, ◌&&◌, ◌==◌, not, Bool, true, false, Some, List, [], ◌∷◌, length, slice_get, refl, sym, ap, ◌∙◌, subst, arith, inl, inr}, lemmas.Bool.{cases_lt, cases_order}}
 use Rattle.std.specs.Prelude.{unwrap_or, slice_set}
-use Rattle.std.proofs.lemmas.Bool.{cases_lt, cases_order}
-use Rattle.rb_base.specs.Nodes.{Side, TakesFirst, has}
-use Rattle.rb_base.specs.Nodes.Side.{Biu, Rmu}
-use Rattle.rb_base.proofs.Plain.{and-false, and-true}
-use Rattle.rb_base.proofs.Sets.{eq_other, first_gone, has-is, has_above, has_none}
-use Rattle.rb_rules.specs.Book.{Each, map_from}
-use Rattle.rb_rules.specs.Hearing.{Coming}
-use Rattle.rb_rules.specs.Links.{name_of}
+use Rattle.rb_base.specs.{Nodes.{Side, TakesFirst, has}, Nodes.Side.{Biu, Rmu}}
+use Rattle.rb_base.proofs.{Plain.{and-false, and-true}, Sets.{eq_other, first_gone, has-is, has_above, has_none}}
+use Rattle.rb_rules.specs.{Book.{Each, map_from}, Hearing.Coming, Links.name_of}
 use Rattle.rb_queue.specs.Waiting.{HasLane, Held, empty_lane, lane_of, spare_of, with_arrival, with_lane}
 use Rattle.rb_world_traffic.specs.Arriving.{HaveRoom, lane_with, lanes_with}
 

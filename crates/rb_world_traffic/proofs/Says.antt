@@ -1,31 +1,13 @@
 -- What the entries for a node bring in a window is what is said to it.
-use Rattle.std.proofs.Common.{◌≡◌, ℕ, zero, suc, ◌+◌, ◌-◌, ◌<◌, ◌&&◌, ◌||◌, not, nat_le, Bool, true, false, cond, List, [], ◌∷◌, ◌++◌, drop, filter, get_or, length, map, slice_get, take, refl, sym, ap, ◌∙◌, arith}
-use Rattle.std.specs.Prelude.{max, min}
-use Rattle.std.specs.List.{flat_map, fold, list_any, range_with_len}
-use Rattle.std.proofs.lemmas.Bool.{or_from, or_parts}
-use Rattle.std.proofs.lemmas.Bool.Decides.{nat_tests}
-use Rattle.std.proofs.lemmas.List.{map-append, take_more}
-use Rattle.std.proofs.lemmas.List.Elements.{filter-append, filter_map-append}
-use Rattle.std.proofs.lemmas.List.Sums.{fold-append}
-use Rattle.rb_base.specs.Nodes.{Side, other}
-use Rattle.rb_base.specs.Nodes.Side.{Biu, Rmu}
-use Rattle.rb_base.specs.declared.node.NodeName.{NodeName}
-use Rattle.rb_base.specs.declared.values.Place.{Place}
-use Rattle.rb_base.specs.declared.node.NodeName.TheVariants as node
+use Rattle.std.proofs.{Common.{◌≡◌, ℕ, zero, suc, ◌+◌, ◌-◌, ◌<◌, ◌&&◌, ◌||◌, not, nat_le, Bool, true, false, cond, List, [], ◌∷◌, ◌++◌, drop, filter, get_or, length, map, slice_get, take, refl, sym, ap, ◌∙◌, arith}, lemmas.Bool.{or_from, or_parts}, lemmas.Bool.Decides.nat_tests, lemmas.List.{map-append, take_more}, lemmas.List.Elements.{filter-append, filter_map-append}, lemmas.List.Sums.fold-append}
+use Rattle.std.specs.{Prelude.{max, min}, List.{flat_map, fold, list_any, range_with_len}}
+use Rattle.rb_base.specs.{Nodes.{Side, other}, Nodes.Side.{Biu, Rmu}, declared.node.NodeName.NodeName, declared.values.Place.Place}
 use Rattle.rb_base.proofs.Plain.{and-false, and-true, and_first}
-use Rattle.rb_rules.specs.declared.say.Say.{Say}
-use Rattle.rb_rules.specs.Clock.{Timeline, time_of}
-use Rattle.rb_rules.specs.Entries.{IsListed, bytes_of, is_said}
-use Rattle.rb_rules.specs.Goodness.{Scenario, clock_of, is_good}
-use Rattle.rb_rules.specs.Hearing.{Coming, Span, said_by}
-use Rattle.rb_rules.specs.Lawful.{IsLawful, IsNodeOf, is_node_good, kind_of}
-use Rattle.rb_rules.specs.Links.{covers, is_in_range, name_of, same_node, stands_for}
-use Rattle.rb_rules.specs.Slots.{count_of}
-use Rattle.rb_rules.specs.WorldStep.{says_in}
+use Rattle.rb_rules.specs.{declared.say.Say.Say, Clock.{Timeline, time_of}, Entries.{IsListed, bytes_of, is_said}, Goodness.{Scenario, clock_of, is_good}, Hearing.{Coming, Span, said_by}, Lawful.{IsLawful, IsNodeOf, is_node_good, kind_of}, Links.{covers, is_in_range, name_of, same_node, stands_for}, Slots.count_of, WorldStep.says_in}
 use Rattle.rb_rules.proofs.Slots.{same_node-is}
-use Rattle.rb_world_traffic.specs.Arriving.{number_of}
+use Rattle.rb_world_traffic.specs.{Arriving.number_of, Saying.{all_brought, brought, entries_at, entries_to, first_frame, is_between, is_for, is_said_in, last_frame, later_frame, senders_to, sooner_frame}}
 use Rattle.rb_world_traffic.proofs.Heard.{coming_said, listed-said}
-use Rattle.rb_world_traffic.specs.Saying.{all_brought, brought, entries_at, entries_to, first_frame, is_between, is_for, is_said_in, last_frame, later_frame, senders_to, sooner_frame}
+use Rattle.rb_base.specs.declared.node.NodeName.TheVariants as node
 
 pub brought-append : (sc : Scenario) (clock : Timeline) (span : Span) (xs ys : List Say) → all_brought sc clock span (xs ++ ys) ≡ all_brought sc clock span xs ++ all_brought sc clock span ys
 brought-append sc clock span xs ys =

@@ -1,27 +1,12 @@
 -- A message on its way in the lanes is on its way in the world.
 use Rattle.std.proofs.Common.{◌≡◌, ℕ, suc, ◌+◌, ◌<◌, Bool, true, false, Some, List, [], ◌∷◌, ◌++◌, slice_get, refl, sym, ap, ◌∙◌, subst, arith}
-use Rattle.rb_base.specs.Nodes.{Side, has, other}
-use Rattle.rb_base.specs.Nodes.Side.{Biu, Rmu}
-use Rattle.rb_base.specs.Sizes.{Sizes}
-use Rattle.rb_base.specs.declared.node.NodeName.{NodeName}
-use Rattle.rb_base.specs.declared.node.NodeName.TheVariants as node
-use Rattle.rb_rules.specs.declared.message.Message.{Message}
-use Rattle.rb_rules.specs.declared.message.Version.{Version}
-use Rattle.rb_rules.specs.Book.{Each, map_from}
-use Rattle.rb_rules.specs.Clock.{Timeline, time_of}
-use Rattle.rb_rules.specs.Goodness.{Scenario, clock_of}
-use Rattle.rb_rules.specs.Hearing.{Coming, Sending, coming_of}
-use Rattle.rb_rules.specs.Lawful.{kind_of}
-use Rattle.rb_rules.specs.Links.{DelayRules}
-use Rattle.rb_rules.specs.Slots.{count_of}
-use Rattle.rb_rules.specs.Spelling.{spelling_of}
-use Rattle.rb_rules.specs.WorldStep.{Site, sent_to, with_message}
+use Rattle.rb_base.specs.{Nodes.{Side, has, other}, Nodes.Side.{Biu, Rmu}, Sizes.Sizes, declared.node.NodeName.NodeName}
+use Rattle.rb_rules.specs.{declared.message.Message.Message, declared.message.Version.Version, Book.{Each, map_from}, Clock.{Timeline, time_of}, Goodness.{Scenario, clock_of}, Hearing.{Coming, Sending, coming_of}, Lawful.kind_of, Links.DelayRules, Slots.count_of, Spelling.spelling_of, WorldStep.{Site, sent_to, with_message}}
 use Rattle.rb_queue.specs.Waiting.{Held, with_arrival}
 use Rattle.rb_world_agenda.specs.Holding.{HoldsAll, HoldsSite, HoldsSites}
 use Rattle.rb_world_agenda.proofs.Changes.{holds-arrival}
-use Rattle.rb_world_traffic.specs.declared.sending.Departure.{Departure}
-use Rattle.rb_world_traffic.specs.Arriving.{AreRunning, coming_to, lane_with, lanes_with, number_of}
-use Rattle.rb_world_traffic.specs.Departing.{IsOfScenario, with_departure, with_sent}
+use Rattle.rb_world_traffic.specs.{declared.sending.Departure.Departure, Arriving.{AreRunning, coming_to, lane_with, lanes_with, number_of}, Departing.{IsOfScenario, with_departure, with_sent}}
+use Rattle.rb_base.specs.declared.node.NodeName.TheVariants as node
 
 -- the site with what comes to it, if it runs
 abbrev gets : (ℕ → Coming) → ℕ → Site → Site

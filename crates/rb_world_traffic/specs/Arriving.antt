@@ -1,16 +1,10 @@
 -- What comes to nodes.
 use Rattle.std.specs.Prelude.{◌≡◌, ℕ, ◌+◌, ◌≤◌, Bool, true, false, List, slice_get, Some}
-use Rattle.rb_base.specs.Nodes.{Side, has, other}
-use Rattle.rb_base.specs.Nodes.Side.{Biu, Rmu}
-use Rattle.rb_base.specs.declared.node.NodeName.{NodeName}
-use Rattle.rb_base.specs.declared.node.NodeName.TheVariants as node
-use Rattle.rb_rules.specs.Book.{Each, map_from, of_kind}
-use Rattle.rb_rules.specs.Hearing.{Coming}
-use Rattle.rb_rules.specs.Lawful.{kind_of}
-use Rattle.rb_rules.specs.Links.{DelayRules, delay_of, name_of}
-use Rattle.rb_rules.specs.WorldStep.{Site}
+use Rattle.rb_base.specs.{Nodes.{Side, has, other}, Nodes.Side.{Biu, Rmu}, declared.node.NodeName.NodeName}
+use Rattle.rb_rules.specs.{Book.{Each, map_from, of_kind}, Hearing.Coming, Lawful.kind_of, Links.{DelayRules, delay_of, name_of}, WorldStep.Site}
 use Rattle.rb_queue.specs.Waiting.{HasLane, Held, lane_of, spare_of, with_arrival}
 use Rattle.rb_world_traffic.specs.declared.sending.Transmission.{Transmission}
+use Rattle.rb_base.specs.declared.node.NodeName.TheVariants as node
 
 -- the number of a node among those of its kind
 abbrev pub number_of : NodeName → ℕ

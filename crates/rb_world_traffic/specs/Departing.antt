@@ -1,20 +1,10 @@
 -- A good node's message on its way.
 use Rattle.std.specs.Prelude.{◌≡◌, ℕ, ◌<◌, ◌≤◌, ◌^◌, Some}
-use Rattle.rb_base.specs.Nodes.{has, other}
-use Rattle.rb_base.specs.declared.values.Place.{Place}
-use Rattle.rb_rules.specs.declared.message.Version.{Version}
-use Rattle.rb_rules.specs.Book.{Each}
-use Rattle.rb_rules.specs.Clock.{Timeline, time_of}
-use Rattle.rb_rules.specs.Goodness.{Scenario, clock_of}
-use Rattle.rb_rules.specs.Lawful.{kind_of}
-use Rattle.rb_rules.specs.Links.{DelayRules}
-use Rattle.rb_rules.specs.Slots.{count_of}
-use Rattle.rb_rules.specs.Spelling.{IsZeroUnlessWord, spelling_of}
-use Rattle.rb_rules.specs.WorldStep.{Site, with_message}
+use Rattle.rb_base.specs.{Nodes.{has, other}, declared.values.Place.Place}
+use Rattle.rb_rules.specs.{declared.message.Version.Version, Book.Each, Clock.{Timeline, time_of}, Goodness.{Scenario, clock_of}, Lawful.kind_of, Links.DelayRules, Slots.count_of, Spelling.{IsZeroUnlessWord, spelling_of}, WorldStep.{Site, with_message}}
 use Rattle.rb_queue.specs.Waiting.{Held}
 use Rattle.rb_world_agenda.specs.Holding.{HoldsSites}
-use Rattle.rb_world_traffic.specs.declared.sending.Departure.{Departure}
-use Rattle.rb_world_traffic.specs.Arriving.{AreRunning, coming_to, lanes_with, number_of}
+use Rattle.rb_world_traffic.specs.{declared.sending.Departure.Departure, Arriving.{AreRunning, coming_to, lanes_with, number_of}}
 
 -- the place that a message's header names, in the frame of its sender
 abbrev pub place_of : Departure → Place

@@ -1,27 +1,11 @@
 -- What nodes that are not good say, receiver by receiver.
 use Rattle.std.specs.Prelude.{◌≡◌, ℕ, ◌+◌, ◌-◌, ◌<◌, ◌&&◌, not, nat_le, Bool, List, [], ◌++◌, filter, filter_map, flat_map, fold, length, map, max, min, slice_get, unwrap_or}
-use Rattle.rb_base.specs.Counting.{numbers}
-use Rattle.rb_base.specs.Nodes.{Side, other}
-use Rattle.rb_base.specs.Nodes.Side.{Biu, Rmu}
-use Rattle.rb_base.specs.Sizes.{Sizes}
-use Rattle.rb_base.specs.declared.node.NodeName.{NodeName}
-use Rattle.rb_base.specs.declared.values.Place.{Place}
-use Rattle.rb_rules.specs.declared.message.Version.{Version}
-use Rattle.rb_rules.specs.declared.say.Say.{Say}
-use Rattle.rb_rules.specs.Clock.{Timeline, time_of}
-use Rattle.rb_rules.specs.Book.{Each}
-use Rattle.rb_rules.specs.Entries.{IsListed, bytes_of}
-use Rattle.rb_rules.specs.Goodness.{Scenario, clock_of}
-use Rattle.rb_rules.specs.Hearing.{Coming, Span}
-use Rattle.rb_rules.specs.Lawful.{IsLawful, is_node_good, kind_of}
-use Rattle.rb_rules.specs.Links.{covers, name_of, same_node, stands_for}
-use Rattle.rb_rules.specs.Slots.{count_of}
-use Rattle.rb_rules.specs.WorldStep.{Site, at_node, says_in}
+use Rattle.rb_base.specs.{Counting.numbers, Nodes.{Side, other}, Nodes.Side.{Biu, Rmu}, Sizes.Sizes, declared.node.NodeName.NodeName, declared.values.Place.Place}
+use Rattle.rb_rules.specs.{declared.message.Version.Version, declared.say.Say.Say, Clock.{Timeline, time_of}, Book.Each, Entries.{IsListed, bytes_of}, Goodness.{Scenario, clock_of}, Hearing.{Coming, Span}, Lawful.{IsLawful, is_node_good, kind_of}, Links.{covers, name_of, same_node, stands_for}, Slots.count_of, WorldStep.{Site, at_node, says_in}}
 use Rattle.rb_queue.specs.Waiting.{Held, lane_of, with_lane}
 use Rattle.rb_world_agenda.specs.Holding.{HoldsSites}
 use Rattle.rb_world_onset.specs.Faults.{faults_of}
-use Rattle.rb_world_traffic.specs.declared.saying.Said.{Said}
-use Rattle.rb_world_traffic.specs.Arriving.{number_of}
+use Rattle.rb_world_traffic.specs.{declared.saying.Said.Said, Arriving.number_of}
 
 -- what is kept of a scenario: who is good in which slot, how messages are spelled, and what is said
 abbrev pub KeptSayings : Type 0

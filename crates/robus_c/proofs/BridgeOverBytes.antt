@@ -4,21 +4,13 @@ use Rattle.std.specs.declared.alloc.Global.{Global}
 use Rattle.rb_outside.specs.Causes.{Rose}
 use Rattle.rb_world.specs.declared.drive.FirstDrive.{FirstDrive}
 use Rattle.rb_flags.specs.declared.Flag.{Flag}
-use Rattle.robus_c.specs.Held.{Held, faults_of}
+use Rattle.robus_c.specs.{Held.{Held, faults_of}, Bridge.{Answers, KeepsTheBridge, number_of}}
 use Rattle.robus_c.proofs.OverBytes.{fresh, given_over, never_rose, no_fault, read_is, written_is}
 use Rattle.rb_bridge_document.specs.Acceptance.{IsBridgeAccepted}
 use Rattle.rb_bridge.specs.Crossing.{ArePlain}
-use Rattle.rb_bridge_top.specs.declared.form.Form.{Form}
-use Rattle.rb_bridge_top.specs.declared.form.Form.TheVariants.{Run, Show}
-use Rattle.rb_bridge_top.specs.declared.status.Status.{Status}
+use Rattle.rb_bridge_top.specs.{declared.form.Form.Form, declared.form.Form.TheVariants.{Run, Show}, declared.status.Status.Status, Answers.{Completes, FailsToWrite, Refuses, Untouched, UsageExactly}, Inputs.{IsRefusedWith, IsUnread, input_limit}, Pages.{Shows, page_text}, Statuses.{HasEnded, HasFailed, MayRefuse, end_of}, Words.AskFor}
 use Rattle.rb_bridge_top.specs.declared.status.Status.TheVariants as code
-use Rattle.rb_bridge_top.specs.Answers.{Completes, FailsToWrite, Refuses, Untouched, UsageExactly}
-use Rattle.rb_bridge_top.specs.Inputs.{IsRefusedWith, IsUnread, input_limit}
-use Rattle.rb_bridge_top.specs.Pages.{Shows, page_text}
 use Rattle.rb_bridge_top.specs.Promise as outside
-use Rattle.rb_bridge_top.specs.Statuses.{HasEnded, HasFailed, MayRefuse, end_of}
-use Rattle.rb_bridge_top.specs.Words.{AskFor}
-use Rattle.robus_c.specs.Bridge.{Answers, KeepsTheBridge, number_of}
 
 pub both_plain : ArePlain true true true
 both_plain = record { left = λ _. refl; right = λ _. refl }

@@ -2,23 +2,14 @@
 use Rattle.std.proofs.Common.{◌≡◌, ℕ, List, [], String, map, string_bytes, Option, None, Some, true, false, IsTrue, sym, ap, subst, ◌∙◌, refl}
 use Rattle.std.specs.declared.alloc.Global.{Global}
 use Rattle.rb_world.specs.declared.drive.FirstDrive.{FirstDrive}
-use Rattle.robus_c.specs.Held.{Held, faults_of}
+use Rattle.robus_c.specs.{Held.{Held, faults_of}, Bus.{Answers, Ask, IsOver, KeepsItsPromise, KeepsTheHeadline, KeepsTheLog, SumsTheHeadline, read_by}}
 use Rattle.robus_c.proofs.OverBytes.{fresh, given_over, never_rose, no_fault, read_is, written_is}
-use Rattle.rb_top.specs.declared.form.Form.{Form}
-use Rattle.rb_top.specs.declared.form.Form.TheVariants.{Run, Check, Gen, Stress, Record, Replay, Spell, Letters, Group, Listen, Show}
-use Rattle.rb_top.specs.declared.status.Status.{Status}
-use Rattle.rb_top.specs.declared.status.Status.TheVariants as code
+use Rattle.rb_top.specs.{declared.form.Form.Form, declared.form.Form.TheVariants.{Run, Check, Gen, Stress, Record, Replay, Spell, Letters, Group, Listen, Show}, declared.status.Status.Status, Commands.IsReplay, Answers.{Completes, Ends, FailsToWrite, IsDue, IsLeft, IsRefusedWith, IsUnread, Refuses, Untouched, UsageExactly, limit_of}, Inputs.{IsReadBy, IsTextOf, IsUnreadBy}, Statuses.{HasEnded, MayRefuse}, Texts.Telling, Words.AskFor}
 use Rattle.rb_base.specs.declared.node.NodeName.{NodeName}
 use Rattle.rb_laws_logs.specs.Laws.{report_of_node}
 use Rattle.rb_rules.specs.Rounds.{records_of}
-use Rattle.rb_top.specs.Commands.{IsReplay}
-use Rattle.rb_top.specs.Answers.{Completes, Ends, FailsToWrite, IsDue, IsLeft, IsRefusedWith, IsUnread, Refuses, Untouched, UsageExactly, limit_of}
-use Rattle.rb_top.specs.Inputs.{IsReadBy, IsTextOf, IsUnreadBy}
+use Rattle.rb_top.specs.declared.status.Status.TheVariants as code
 use Rattle.rb_top.specs.Promise as outside
-use Rattle.rb_top.specs.Statuses.{HasEnded, MayRefuse}
-use Rattle.rb_top.specs.Texts.{Telling}
-use Rattle.rb_top.specs.Words.{AskFor}
-use Rattle.robus_c.specs.Bus.{Answers, Ask, IsOver, KeepsItsPromise, KeepsTheHeadline, KeepsTheLog, SumsTheHeadline, read_by}
 
 -- Words.
 

@@ -1,9 +1,7 @@
 -- What clauses over a source and a sink come to if these tell their bytes and never fail.
-use Rattle.std.proofs.Common.{◌≡◌, ℕ, ◌+◌, ◌<◌, List, [], ◌++◌, length, Some, false, sym, ap, subst, ◌∙◌, arith, length-append}
-use Rattle.std.proofs.lemmas.List.{append-nil}
+use Rattle.std.proofs.{Common.{◌≡◌, ℕ, ◌+◌, ◌<◌, List, [], ◌++◌, length, Some, false, sym, ap, subst, ◌∙◌, arith, length-append}, lemmas.List.append-nil}
 use Rattle.std.specs.Io.KnownBytes.{Appends}
-use Rattle.rb_outside.specs.Bytes.{Gave, ReadsToEnd}
-use Rattle.rb_outside.specs.Causes.{Rose}
+use Rattle.rb_outside.specs.{Bytes.{Gave, ReadsToEnd}, Causes.Rose}
 use Rattle.robus_c.specs.Held.{Held, faults_of}
 
 abbrev pub fresh : Held

@@ -3,21 +3,13 @@ use Rattle.std.proofs.Common.{◌≡◌, ℕ, ◌<◌, List, [], String, map, st
 use Rattle.std.specs.declared.alloc.Global.{Global}
 use Rattle.rb_flags.specs.declared.Flag.{Flag}
 use Rattle.rb_flags.proofs.OneFlag.{one_flag}
-use Rattle.rb_outside.specs.Bytes.{Gave}
-use Rattle.rb_outside.specs.Causes.{Rose}
-use Rattle.robus_c.specs.Held.{Held, faults_of}
+use Rattle.rb_outside.specs.{Bytes.Gave, Causes.Rose}
+use Rattle.robus_c.specs.{Held.{Held, faults_of}, Picture.{Answers, Gives, IsDone}}
 use Rattle.robus_c.proofs.OverBytes.{fresh, given_over, never_rose, no_fault, read_is, written_is}
-use Rattle.rb_picture.specs.declared.form.Form.{Form}
-use Rattle.rb_picture.specs.declared.form.Form.TheVariants.{Draw, Show}
-use Rattle.rb_picture.specs.declared.form.Frames.{Frames}
-use Rattle.rb_picture.specs.declared.status.Status.{Status}
+use Rattle.rb_picture.specs.{declared.form.Form.Form, declared.form.Form.TheVariants.{Draw, Show}, declared.form.Frames.Frames, declared.status.Status.Status, Answers.{IsCutOff, IsDrawn, IsPicture, IsRefusal, IsRefused, Untouched, UsageExactly, report_limit}, Pages.page_text, Forms.AskFor}
+use Rattle.rb_picture.proofs.Words.{no_frames}
 use Rattle.rb_picture.specs.declared.status.Status.TheVariants as code
 use Rattle.rb_picture.specs.Answers as outside
-use Rattle.rb_picture.specs.Answers.{IsCutOff, IsDrawn, IsPicture, IsRefusal, IsRefused, Untouched, UsageExactly, report_limit}
-use Rattle.rb_picture.specs.Pages.{page_text}
-use Rattle.rb_picture.specs.Forms.{AskFor}
-use Rattle.rb_picture.proofs.Words.{no_frames}
-use Rattle.robus_c.specs.Picture.{Answers, Gives, IsDone}
 
 drawn : (frames : Frames) (input source source' : List ℕ) (sink sink' : Held) → source ≡ input → sink ≡ fresh
     → IsDrawn frames (Some source) (Some source') (Some sink.bytes) (Some sink'.bytes) → IsPicture frames input sink'.bytes

@@ -2,22 +2,12 @@
 use Rattle.std.specs.Prelude.{ℕ, ◌≡◌, ◌<◌, ◌≤◌, ◌⊎◌, List, [], length}
 use Rattle.rb_flags.specs.declared.Flag.{Flag}
 use Rattle.rb_laws_promise.specs.Promise.{KeepsThePromise}
-use Rattle.rb_rules_bridge.specs.declared.bank.Bank.{Bank}
-use Rattle.rb_rules_bridge.specs.Bridges.{Bridge, IsBridge, bus_on}
-use Rattle.rb_rules_bridge.specs.Crossings.{hands_of, hands_on}
-use Rattle.rb_rules_bridge.specs.Texts.{bridge_text}
+use Rattle.rb_rules_bridge.specs.{declared.bank.Bank.Bank, Bridges.{Bridge, IsBridge, bus_on}, Crossings.{hands_of, hands_on}, Texts.bridge_text}
 use Rattle.rb_laws_bridge.specs.Laws.{WordsCrossOn}
 use Rattle.rb_bridge_document.specs.Acceptance.{AreListed, IsBridgeAccepted}
-use Rattle.rb_bridge_top.specs.declared.form.Form.{Form}
-use Rattle.rb_bridge_top.specs.declared.form.Form.TheVariants.{Run, Show}
-use Rattle.rb_bridge_top.specs.declared.status.Status.{Status}
+use Rattle.rb_bridge_top.specs.{declared.form.Form.Form, declared.form.Form.TheVariants.{Run, Show}, declared.status.Status.Status, Inputs.{IsRefusedWith, input_limit}, Pages.page_text, Statuses.{HasEnded, WritesNothing, end_of}, Words.words_of}
+use Rattle.robus_c.specs.{declared.answer.Answer.Answer, Put.IsAnswer}
 use Rattle.rb_bridge_top.specs.declared.status.Status.TheVariants as code
-use Rattle.rb_bridge_top.specs.Inputs.{IsRefusedWith, input_limit}
-use Rattle.rb_bridge_top.specs.Pages.{page_text}
-use Rattle.rb_bridge_top.specs.Statuses.{HasEnded, WritesNothing, end_of}
-use Rattle.rb_bridge_top.specs.Words.{words_of}
-use Rattle.robus_c.specs.declared.answer.Answer.{Answer}
-use Rattle.robus_c.specs.Put.{IsAnswer}
 
 -- the number that a status has in the answer
 abbrev pub number_of : Status → ℕ

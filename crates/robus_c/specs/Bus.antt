@@ -1,28 +1,16 @@
 -- What `robus_call` promises of the very bytes.
 use Rattle.std.specs.Prelude.{⊤, ℕ, ◌≡◌, ◌<◌, ◌⊎◌, true, List, [], length, Option, Some, None}
 use Rattle.rb_base.specs.declared.node.NodeName.{NodeName}
-use Rattle.rb_rules.specs.Entries.{IsListed}
-use Rattle.rb_rules.specs.Goodness.{Scenario}
-use Rattle.rb_rules.specs.Lawful.{IsLawful}
-use Rattle.rb_rules.specs.Rounds.{records_of}
+use Rattle.rb_rules.specs.{Entries.IsListed, Goodness.Scenario, Lawful.IsLawful, Rounds.records_of}
 use Rattle.rb_group.specs.declared.voters.Which.{Which}
 use Rattle.rb_laws_groups.specs.Laws.{FindsTheMembers, PortsFindAlike}
 use Rattle.rb_laws_letters.specs.Laws.{PortsReceiveAlike, PortsReceiveGoodSenders}
 use Rattle.rb_laws_logs.specs.Laws.{EndsWithoutBreach, IsGoodThroughout, report_of_node}
 use Rattle.rb_laws_promise.specs.Promise.{KeepsThePromise}
 use Rattle.rb_gen.specs.Generated.{generated}
-use Rattle.rb_top.specs.declared.form.Form.{Form}
-use Rattle.rb_top.specs.declared.form.Form.TheVariants.{Run, Check, Gen, Stress, Record, Replay, Spell, Letters, Group, Listen, Show}
-use Rattle.rb_top.specs.declared.status.Status.{Status}
+use Rattle.rb_top.specs.{declared.form.Form.Form, declared.form.Form.TheVariants.{Run, Check, Gen, Stress, Record, Replay, Spell, Letters, Group, Listen, Show}, declared.status.Status.Status, Answers.{IsDue, IsEnd, IsRefusedWith, IsWithin, limit_of}, Commands.{EndsAs, IsReplay}, Inputs.IsTextOf, Statuses.{HasEnded, WritesNothing}, Texts.{Telling, summary_with, told_by_group, told_by_letters, told_by_run}, Words.{IsInRange, words_of}}
+use Rattle.robus_c.specs.{declared.answer.Answer.Answer, Put.IsAnswer}
 use Rattle.rb_top.specs.declared.status.Status.TheVariants as code
-use Rattle.rb_top.specs.Answers.{IsDue, IsEnd, IsRefusedWith, IsWithin, limit_of}
-use Rattle.rb_top.specs.Commands.{EndsAs, IsReplay}
-use Rattle.rb_top.specs.Inputs.{IsTextOf}
-use Rattle.rb_top.specs.Statuses.{HasEnded, WritesNothing}
-use Rattle.rb_top.specs.Texts.{Telling, summary_with, told_by_group, told_by_letters, told_by_run}
-use Rattle.rb_top.specs.Words.{IsInRange, words_of}
-use Rattle.robus_c.specs.declared.answer.Answer.{Answer}
-use Rattle.robus_c.specs.Put.{IsAnswer}
 
 -- the number that a status has in the answer
 abbrev pub number_of : Status → ℕ

@@ -1,18 +1,9 @@
 -- What `robus_picture_call` promises of the very bytes.
 use Rattle.std.specs.Prelude.{ℕ, ◌≡◌, ◌<◌, ◌≤◌, ◌⊎◌, List, [], length}
 use Rattle.rb_flags.specs.declared.Flag.{Flag}
-use Rattle.rb_picture.specs.declared.form.Form.{Form}
-use Rattle.rb_picture.specs.declared.form.Form.TheVariants.{Draw, Show}
-use Rattle.rb_picture.specs.declared.form.Frames.{Frames}
-use Rattle.rb_picture.specs.declared.line.Line.{Line}
-use Rattle.rb_picture.specs.declared.status.Status.{Status}
+use Rattle.rb_picture.specs.{declared.form.Form.Form, declared.form.Form.TheVariants.{Draw, Show}, declared.form.Frames.Frames, declared.line.Line.Line, declared.status.Status.Status, Answers.{IsPicture, IsRefusal, WritesNothing, report_limit}, Forms.Ask, Lines.{AllFit, IsReport}, Pages.page_text}
+use Rattle.robus_c.specs.{declared.answer.Answer.Answer, Put.IsAnswer}
 use Rattle.rb_picture.specs.declared.status.Status.TheVariants as code
-use Rattle.rb_picture.specs.Answers.{IsPicture, IsRefusal, WritesNothing, report_limit}
-use Rattle.rb_picture.specs.Forms.{Ask}
-use Rattle.rb_picture.specs.Lines.{AllFit, IsReport}
-use Rattle.rb_picture.specs.Pages.{page_text}
-use Rattle.robus_c.specs.declared.answer.Answer.{Answer}
-use Rattle.robus_c.specs.Put.{IsAnswer}
 
 -- the number that a status has in the answer
 abbrev pub number_of : Status → ℕ

@@ -1,8 +1,6 @@
 -- How output comes into a host's bytes, and how a program answers there.
-use Rattle.std.specs.Prelude.{ℕ, ◌≡◌, ◌≤◌, ◌<◌, ◌⊎◌, List, [], length, take, drop, min, pos}
-use Rattle.std.specs.Str.{IsUtf8}
-use Rattle.robus_c.specs.Words.{words_in}
-use Rattle.robus_c.specs.declared.answer.Answer.{Answer}
+use Rattle.std.specs.{Prelude.{ℕ, ◌≡◌, ◌≤◌, ◌<◌, ◌⊎◌, List, [], length, take, drop, min, pos}, Str.IsUtf8}
+use Rattle.robus_c.specs.{Words.words_in, declared.answer.Answer.Answer}
 
 -- `after` begins with these bytes, or with as many of them as it has room for, and the rest is as
 -- it was. The answer says how many there are; it has this number if all of them fit, and otherwise

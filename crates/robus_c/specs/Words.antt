@@ -1,6 +1,5 @@
 -- The words of a call.
-use Rattle.std.specs.Prelude.{ℕ, ◌==◌, List, [], ◌∷◌}
-use Rattle.std.specs.List.{slice_split}
+use Rattle.std.specs.{Prelude.{ℕ, ◌==◌, List, [], ◌∷◌}, List.slice_split}
 
 -- the words that bytes spell: their parts between NUL bytes, and none if there is no byte
 abbrev pub words_in : List ℕ → List (List ℕ)

@@ -1,11 +1,10 @@
 -- The set grows by each trusted node that most name.
 use Rattle.std.proofs.Common.{ℕ, Bool, ◌&&◌, get_or, sym, ◌∙◌, arith}
-use Rattle.rb_base.specs.Nodes.{has}
-use Rattle.rb_base.specs.declared.values.Heard.TheVariants.{Fault}
+use Rattle.rb_base.specs.{Nodes.has, declared.values.Heard.TheVariants.Fault}
 use Rattle.rb_base.proofs.SetLoops.{passing_none, passing_more, passing_same, passing_all}
 use Rattle.rb_diag.specs.Votes.{most_against}
-use Rattle.rb_diag.proofs.named_by_most.Goals as goal
 use Rattle.rb_diag.proofs.named_by_most.Goals.{then-is_convicted, else-is_convicted}
+use Rattle.rb_diag.proofs.named_by_most.Goals as goal
 
 pub loop-j-init : goal.loop-j-init
 loop-j-init g c = c.empty-named.ensures.value ∙ passing_none (λ j. has c.args.trusted j && most_against c.args.senders (λ i. get_or c.args.vectors.now i Fault) j)

@@ -1,6 +1,5 @@
 use Rattle.std.proofs.Common.{◌≡◌, ◌&&◌, get_or}
-use Rattle.rb_base.specs.Nodes.{has}
-use Rattle.rb_base.specs.declared.values.Heard.TheVariants.{Fault}
+use Rattle.rb_base.specs.{Nodes.has, declared.values.Heard.TheVariants.Fault}
 use Rattle.rb_base.proofs.SetLoops.{passing_below}
 use Rattle.rb_diag.specs.Votes.{most_against}
 use Rattle.rb_diag.proofs.named_by_most.Given as goal

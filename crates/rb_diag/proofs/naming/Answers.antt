@@ -1,8 +1,6 @@
 -- Each sender whose vector names the node adds one.
 use Rattle.std.proofs.Common.{◌≡◌, Bool, ◌&&◌, ℕ, get_or, ap, ◌∙◌, arith}
-use Rattle.rb_base.specs.Counting.{count_if, numbers}
-use Rattle.rb_base.specs.Nodes.{has}
-use Rattle.rb_base.specs.declared.values.Heard.TheVariants.{Fault}
+use Rattle.rb_base.specs.{Counting.{count_if, numbers}, Nodes.has, declared.values.Heard.TheVariants.Fault}
 use Rattle.rb_diag.specs.Votes.{against}
 use Rattle.rb_rules.specs.Conviction.{names}
 use Rattle.rb_diag.proofs.Tallies.{counted, count_next, one_if, one_if-le}

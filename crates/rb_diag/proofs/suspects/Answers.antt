@@ -1,9 +1,6 @@
 -- Nobody speaks against a node that no sender names.
 use Rattle.std.proofs.Common.{◌≡◌, ℕ, ◌&&◌, bit_and, get_or, sym, ap, ◌∙◌, arith}
-use Rattle.rb_base.specs.Counting.{count_if, numbers}
-use Rattle.rb_base.specs.Nodes.{has}
-use Rattle.rb_base.specs.declared.values.Heard.{Heard}
-use Rattle.rb_base.specs.declared.values.Heard.TheVariants.{Fault}
+use Rattle.rb_base.specs.{Counting.{count_if, numbers}, Nodes.has, declared.values.Heard.Heard, declared.values.Heard.TheVariants.Fault}
 use Rattle.rb_diag.specs.Votes.{against, most_against}
 use Rattle.rb_rules.specs.Conviction.{names}
 use Rattle.rb_diag.proofs.Tallies.{suspects_is, unnamed_next}

@@ -3,8 +3,8 @@ use Rattle.std.proofs.Common.{get_or, sym, ◌∙◌, arith}
 use Rattle.rb_base.specs.declared.values.Heard.TheVariants.{Fault}
 use Rattle.rb_base.proofs.SetLoops.{passing_none, passing_more, passing_same, passing_all}
 use Rattle.rb_diag.specs.Votes.{counts}
-use Rattle.rb_diag.proofs.valid_senders.Goals as goal
 use Rattle.rb_diag.proofs.valid_senders.Goals.{then-counts, else-counts}
+use Rattle.rb_diag.proofs.valid_senders.Goals as goal
 
 pub loop-i-init : goal.loop-i-init
 loop-i-init g c = c.empty-valid.ensures.value ∙ passing_none (counts c.args.others c.args.senders (λ i. get_or c.args.vectors.now i Fault))

@@ -1,5 +1,4 @@
-use Rattle.rb_laws_agreement.proofs.Promises.{deliveries_are_right}
-use Rattle.rb_laws_agreement.proofs.TablesHold.{held-delivered}
+use Rattle.rb_laws_agreement.proofs.{Promises.deliveries_are_right, TablesHold.held-delivered}
 use Rattle.rb_laws_agreement.proofs.held_words_are_delivered.Goals as goal
 
 pub returns : goal.returns

@@ -1,8 +1,5 @@
 use Rattle.std.proofs.Common.{◌≡◌, ℕ, suc, ◌+◌, ◌<◌, List, subst, arith}
-use Rattle.rb_rules.specs.Goodness.{Scenario}
-use Rattle.rb_rules.specs.Lawful.{IsLawful}
-use Rattle.rb_rules.specs.Ports.{HandIn}
-use Rattle.rb_rules.specs.Rounds.{moment}
+use Rattle.rb_rules.specs.{Goodness.Scenario, Lawful.IsLawful, Ports.HandIn, Rounds.moment}
 use Rattle.rb_laws_events.specs.Closing.{stages_in, HaveBegunAFrame, HaveBegunTogether, CloseInOrder}
 use Rattle.rb_laws_events.proofs.CloseOrder.{next-in-order, turn-in-order}
 use Rattle.rb_laws_events.proofs.close_order.Goals as goal

@@ -1,17 +1,9 @@
-use Rattle.std.proofs.Common.{◌≡◌, ◌∙◌, ◌<◌, ◌≤◌, ◌&&◌, if◌then◌else◌, Some, None, All, length, refl, sym, arith, ap, subst}
-use Rattle.std.proofs.lemmas.List.Elements.{All-nil}
-use Rattle.std.proofs.Math.ListN.{length-set}
-use Rattle.std.proofs.lemmas.List.Edits.{fill_by_more}
+use Rattle.std.proofs.{Common.{◌≡◌, ◌∙◌, ◌<◌, ◌≤◌, ◌&&◌, if◌then◌else◌, Some, None, All, length, refl, sym, arith, ap, subst}, lemmas.List.Elements.All-nil, Math.ListN.length-set, lemmas.List.Edits.fill_by_more}
 use Rattle.rb_base.specs.Nodes.{has}
-use Rattle.rb_base.proofs.Plain.{and_second}
-use Rattle.rb_base.proofs.Sets.{has-is}
-use Rattle.rb_eligible.specs.Inboxes.{is_sole, sense_in, sole_at}
-use Rattle.rb_eligible.proofs.Scans.{common_has}
-use Rattle.rb_eligible.proofs.Sensed.{stamp_taken, stamp_up_to}
-use Rattle.rb_eligible.specs.Standings.{standing_of}
-use Rattle.rb_eligible.proofs.Evidence.{few_more, present_all, present_more, taken_all}
-use Rattle.rb_rules.specs.Sense.{is_one, stamp_in}
-use Rattle.rb_rules.specs.Standing.{is_eligible, taken_of}
+use Rattle.rb_base.proofs.{Plain.and_second, Sets.has-is}
+use Rattle.rb_eligible.specs.{Inboxes.{is_sole, sense_in, sole_at}, Standings.standing_of}
+use Rattle.rb_eligible.proofs.{Scans.common_has, Sensed.{stamp_taken, stamp_up_to}, Evidence.{few_more, present_all, present_more, taken_all}}
+use Rattle.rb_rules.specs.{Sense.{is_one, stamp_in}, Standing.{is_eligible, taken_of}}
 use Rattle.rb_resync.proofs.Closings.{all_up_to, closing_is, stage_up_to, taken_up_to}
 use Rattle.rb_resync.proofs.close_sync.Goals as goal
 

@@ -1,8 +1,7 @@
 use Rattle.std.proofs.Common.{refl}
 use Rattle.rb_base.specs.Nodes.{has}
 use Rattle.rb_rules.specs.ExactStage.{present}
-use Rattle.rb_eligible.specs.Inboxes.{sense_in}
-use Rattle.rb_eligible.specs.Standings.{standing_of}
+use Rattle.rb_eligible.specs.{Inboxes.sense_in, Standings.standing_of}
 use Rattle.rb_round.proofs.Closings.{closing_is}
 use Rattle.rb_round.proofs.close_busy.Goals as goal
 

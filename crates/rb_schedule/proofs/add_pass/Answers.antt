@@ -1,10 +1,8 @@
 -- In a pass each BIU that asks gets a slot, while there is one.
-use Rattle.std.proofs.Common.{◌≡◌, ◌-◌, ◌≤◌, ◌<◌, length, sym, ◌∙◌, ap, arith}
-use Rattle.std.proofs.lemmas.List.{length_push}
+use Rattle.std.proofs.{Common.{◌≡◌, ◌-◌, ◌≤◌, ◌<◌, length, sym, ◌∙◌, ap, arith}, lemmas.List.length_push}
 use Rattle.rb_schedule.specs.Asking.{asks}
-use Rattle.rb_schedule.proofs.Passes.{given, given_none, given_more, given_same, given_all}
+use Rattle.rb_schedule.proofs.{Passes.{given, given_none, given_more, given_same, given_all}, add_pass.Goals.{then-asks, else-asks}}
 use Rattle.rb_schedule.proofs.add_pass.Goals as goal
-use Rattle.rb_schedule.proofs.add_pass.Goals.{then-asks, else-asks}
 
 pub loop-index-init : goal.loop-index-init
 loop-index-init c = record {

@@ -1,17 +1,7 @@
-use Rattle.std.proofs.Common.{◌≡◌, ◌≤◌, ◌&&◌, nat_le, Bool, true, None, List, [], ◌∷◌, ◌++◌, lit<, refl, sym, ◌∙◌, ap}
-use Rattle.std.proofs.lemmas.Bool.{leb-true}
+use Rattle.std.proofs.{Common.{◌≡◌, ◌≤◌, ◌&&◌, nat_le, Bool, true, None, List, [], ◌∷◌, ◌++◌, lit<, refl, sym, ◌∙◌, ap}, lemmas.Bool.leb-true}
 use Rattle.rb_base.proofs.Plain.{and_first, and_second}
 use Rattle.rb_base.specs.Nodes.{set_below, set_of, size}
-use Rattle.rb_rules.specs.Book.{with_frame, with_stage}
-use Rattle.rb_rules.specs.Conviction.{convicted_by, turn}
-use Rattle.rb_rules.specs.ExactStage.{close_exact, outcome_of}
-use Rattle.rb_rules.specs.Hearing.{heard_from, row_of, sending}
-use Rattle.rb_rules.specs.Judging.{classes_of, verdict_of}
-use Rattle.rb_rules.specs.Links.{delay_of}
-use Rattle.rb_rules.specs.Rounds.{after_window, begin_frame, close_on, go_through, results_of, sent_in, step}
-use Rattle.rb_rules.specs.Spelling.{message_in}
-use Rattle.rb_rules.specs.SyncStage.{close_sync, sync_outcome_of}
-use Rattle.rb_rules.specs.Book.{Record}
+use Rattle.rb_rules.specs.{Book.{with_frame, with_stage}, Conviction.{convicted_by, turn}, ExactStage.{close_exact, outcome_of}, Hearing.{heard_from, row_of, sending}, Judging.{classes_of, verdict_of}, Links.delay_of, Rounds.{after_window, begin_frame, close_on, go_through, results_of, sent_in, step}, Spelling.message_in, SyncStage.{close_sync, sync_outcome_of}, Book.Record}
 use Rattle.rb_laws_bridge.specs.Laws.{frame_told}
 use Rattle.rb_test_bridge_rules.specs.Bridges.{first_told}
 use Rattle.rb_test_bridge_rules.proofs.Triples.{lawful}

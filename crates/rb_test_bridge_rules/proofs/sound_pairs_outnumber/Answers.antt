@@ -1,26 +1,10 @@
 use Rattle.std.proofs.Common.{◌≡◌, ◌<◌, All, Some, None, List, [], ◌∷◌, eqb, map, lit<, lit≤, refl, subst}
 use Rattle.std.specs.List.{IsDistinct}
-use Rattle.rb_base.specs.Nodes.{set_below, set_of, size}
-use Rattle.rb_base.specs.Sizes.{sync_slot_of}
+use Rattle.rb_base.specs.{Nodes.{set_below, set_of, size}, Sizes.sync_slot_of}
 use Rattle.rb_group.specs.Groups.{values_of}
-use Rattle.rb_rules.specs.Book.{with_frame, with_stage}
-use Rattle.rb_rules.specs.Conviction.{convicted_by, turn}
-use Rattle.rb_rules.specs.ExactStage.{close_exact, outcome_of}
-use Rattle.rb_rules.specs.Hearing.{heard_from, row_of, sending}
-use Rattle.rb_rules.specs.Judging.{classes_of, verdict_of}
-use Rattle.rb_rules.specs.Lawful.{IsLawful}
-use Rattle.rb_rules.specs.Links.{delay_of}
-use Rattle.rb_rules.specs.Moments.{IsComplete}
-use Rattle.rb_rules.specs.Ports.{HandIn}
-use Rattle.rb_rules.specs.Rounds.{after_window, begin_frame, close_on, go_through, results_of, sent_in, step}
-use Rattle.rb_rules.specs.Spelling.{message_in}
-use Rattle.rb_rules.specs.SyncStage.{close_sync, sync_outcome_of}
+use Rattle.rb_rules.specs.{Book.{with_frame, with_stage}, Conviction.{convicted_by, turn}, ExactStage.{close_exact, outcome_of}, Hearing.{heard_from, row_of, sending}, Judging.{classes_of, verdict_of}, Lawful.IsLawful, Links.delay_of, Moments.IsComplete, Ports.HandIn, Rounds.{after_window, begin_frame, close_on, go_through, results_of, sent_in, step}, Spelling.message_in, SyncStage.{close_sync, sync_outcome_of}}
 use Rattle.rb_laws_groups.specs.Laws.{IsSchedule}
-use Rattle.rb_rules_bridge.specs.declared.bank.Bank.{Bank}
-use Rattle.rb_rules_bridge.specs.declared.bank.Bank.TheVariants.{Left, Right}
-use Rattle.rb_rules_bridge.specs.declared.bank.Pair.{Pair}
-use Rattle.rb_rules_bridge.specs.Bridges.{IsHead, biu_on, bus_on, slot_on}
-use Rattle.rb_rules_bridge.specs.Crossings.{hands_of, hands_on}
+use Rattle.rb_rules_bridge.specs.{declared.bank.Bank.Bank, declared.bank.Bank.TheVariants.{Left, Right}, declared.bank.Pair.Pair, Bridges.{IsHead, biu_on, bus_on, slot_on}, Crossings.{hands_of, hands_on}}
 use Rattle.rb_laws_bridge.specs.Laws.{SoundPairsOutnumber}
 use Rattle.rb_test_bridge_rules.specs.Bridges.{outvoted, pair, slot_each}
 use Rattle.rb_test_bridge_rules.proofs.Triples.{HoldTheSlots, all_three, lawful, schedule}

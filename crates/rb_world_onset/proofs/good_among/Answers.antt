@@ -2,8 +2,8 @@
 use Rattle.std.proofs.Common.{ℕ, Bool, sym, ◌∙◌, arith}
 use Rattle.rb_base.proofs.SetLoops.{passing_none, passing_more, passing_same, passing_all}
 use Rattle.rb_world_onset.specs.Faults.{is_good_among}
-use Rattle.rb_world_onset.proofs.good_among.Goals as goal
 use Rattle.rb_world_onset.proofs.good_among.Goals.{then-is_good_among, else-is_good_among}
+use Rattle.rb_world_onset.proofs.good_among.Goals as goal
 
 pub loop-index-init : goal.loop-index-init
 loop-index-init g c = c.empty-good.ensures.value ∙ passing_none (is_good_among c.args.count c.args.onsets.now c.args.frame c.args.slot)

@@ -4,11 +4,8 @@ use Rattle.rb_base.proofs.Plain.{on_err}
 use Rattle.rb_outside.specs.Bytes.{AppendsPart}
 use Rattle.rb_report.specs.Report.{end_text}
 use Rattle.rb_rules_bridge.specs.declared.bank.Bank.TheVariants.{Left, Right}
-use Rattle.rb_bridge.specs.Sides.{IsUp}
-use Rattle.rb_bridge.specs.Crossing.{AreReady}
-use Rattle.rb_bridge.proofs.Crossed.{both-given, broken-crossing, end-crossing, ended-crossing, first-written, never-plain, next-crossing, now-crosses, part-crossing, restated, run_with}
-use Rattle.rb_bridge.proofs.Opened.{opened-before}
-use Rattle.rb_bridge.proofs.SidesPassed.{is-up}
+use Rattle.rb_bridge.specs.{Sides.IsUp, Crossing.AreReady}
+use Rattle.rb_bridge.proofs.{Crossed.{both-given, broken-crossing, end-crossing, ended-crossing, first-written, never-plain, next-crossing, now-crosses, part-crossing, restated, run_with}, Opened.opened-before, SidesPassed.is-up}
 use Rattle.rb_bridge.proofs.crossing.cross.Goals as goal
 
 pub loop-frame-init : goal.loop-frame-init

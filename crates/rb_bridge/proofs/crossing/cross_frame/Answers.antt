@@ -3,9 +3,8 @@ use Rattle.std.specs.Io.KnownBytes.{Appends}
 use Rattle.rb_base.proofs.Plain.{on_err}
 use Rattle.rb_outside.specs.Bytes.{AppendsPart}
 use Rattle.rb_rules_bridge.specs.declared.bank.Bank.TheVariants.{Left, Right}
-use Rattle.rb_bridge.proofs.Crossed.{breaks-off, crosses-part, goes-on, none-found, pairs-small, some-found, told-all}
+use Rattle.rb_bridge.proofs.{Crossed.{breaks-off, crosses-part, goes-on, none-found, pairs-small, some-found, told-all}, SidesPassed.on-its-way}
 use Rattle.rb_bridge.specs.Crossing.{run_after, shown}
-use Rattle.rb_bridge.proofs.SidesPassed.{on-its-way}
 use Rattle.rb_bridge.proofs.crossing.cross_frame.Goals as goal
 
 pub pass_both-breach-requires : goal.pass_both-breach-requires

@@ -1,9 +1,7 @@
 -- The number of turns that were asked for.
 use Rattle.std.proofs.Common.{◌≡◌, List, Option}
-use Rattle.rb_rules.specs.Goodness.{Scenario}
-use Rattle.rb_rules.specs.Ports.{HandIn}
-use Rattle.rb_world_book.specs.Records.{record_of}
-use Rattle.rb_world_book.specs.declared.turn.Turn.{Turn}
+use Rattle.rb_rules.specs.{Goodness.Scenario, Ports.HandIn}
+use Rattle.rb_world_book.specs.{Records.record_of, declared.turn.Turn.Turn}
 use Rattle.rb_world.specs.Nexts.{is_last}
 use Rattle.rb_bridge.specs.Running.{IsUnderWay}
 use Rattle.rb_bridge.proofs.Opened.{IsFinishing}

@@ -1,5 +1,4 @@
-use Rattle.std.proofs.Common.{◌∙◌, subst, arith}
-use Rattle.std.proofs.lemmas.List.{take_all}
+use Rattle.std.proofs.{Common.{◌∙◌, subst, arith}, lemmas.List.take_all}
 use Rattle.rb_world.specs.Worlds.{Stands}
 use Rattle.rb_bridge.specs.Handing.{with_words}
 use Rattle.rb_bridge.proofs.Handed.{next-handed}

@@ -3,8 +3,7 @@ use Rattle.std.proofs.Common.{◌≡◌, ℕ, Option, take}
 use Rattle.rb_base.specs.declared.values.Heard.{Heard}
 use Rattle.rb_rules.specs.WorldStep.{World}
 use Rattle.rb_world.specs.Worlds.{Stands}
-use Rattle.rb_bridge.specs.Holding.{HoldValues}
-use Rattle.rb_bridge.specs.Handing.{with_words}
+use Rattle.rb_bridge.specs.{Holding.HoldValues, Handing.with_words}
 use Rattle.rb_bridge.proofs.handing.hand_over.Given as goal
 
 abbrev pub invariant-loop-pair : goal.invariant-loop-pair

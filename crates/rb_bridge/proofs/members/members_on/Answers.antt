@@ -1,5 +1,4 @@
-use Rattle.std.proofs.Common.{◌≡◌, ◌==◌, subst, arith}
-use Rattle.std.proofs.lemmas.List.{take_all}
+use Rattle.std.proofs.{Common.{◌≡◌, ◌==◌, subst, arith}, lemmas.List.take_all}
 use Rattle.std.specs.List.{list_any}
 use Rattle.rb_base.specs.Nodes.{set_of}
 use Rattle.rb_rules_bridge.specs.Bridges.{biu_on}

@@ -1,8 +1,7 @@
 use Rattle.std.proofs.Common.{◌≡◌, ◌++◌, false, refl, sym, ◌∙◌, ap, arith}
 use Rattle.rb_world_book.specs.Records.{record_of}
 use Rattle.rb_bridge.specs.Passing.{is_over}
-use Rattle.rb_bridge.proofs.Passed.{all-passed, few-passed, none-passed, one-passed}
-use Rattle.rb_bridge.proofs.UnderWay.{goes}
+use Rattle.rb_bridge.proofs.{Passed.{all-passed, few-passed, none-passed, one-passed}, UnderWay.goes}
 use Rattle.rb_bridge.proofs.passing.pass_frame.Goals as goal
 
 pub loop-passed-init : goal.loop-passed-init

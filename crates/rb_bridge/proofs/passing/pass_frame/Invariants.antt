@@ -3,8 +3,7 @@ use Rattle.std.proofs.Common.{◌≡◌, Option, List, false}
 use Rattle.rb_rules.specs.Ports.{HandIn}
 use Rattle.rb_world_book.specs.declared.turn.Turn.{Turn}
 use Rattle.rb_run.specs.Turns.{records_in}
-use Rattle.rb_bridge.specs.Passing.{HoldsPassage}
-use Rattle.rb_bridge.specs.Running.{IsUnderWay}
+use Rattle.rb_bridge.specs.{Passing.HoldsPassage, Running.IsUnderWay}
 use Rattle.rb_bridge.proofs.Passed.{IsPassing}
 use Rattle.rb_bridge.proofs.passing.pass_frame.Given as goal
 

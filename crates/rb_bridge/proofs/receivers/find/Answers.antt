@@ -1,6 +1,5 @@
 use Rattle.std.proofs.Common.{get_or, refl, ◌∙◌, ap, arith}
-use Rattle.rb_group.specs.Groups.{group_value, values_of, voted_by}
-use Rattle.rb_group.specs.declared.voters.Which.TheVariants.{Most}
+use Rattle.rb_group.specs.{Groups.{group_value, values_of, voted_by}, declared.voters.Which.TheVariants.Most}
 use Rattle.rb_group_run.proofs.Held.{portion_at}
 use Rattle.rb_bridge.proofs.receivers.find.Goals as goal
 

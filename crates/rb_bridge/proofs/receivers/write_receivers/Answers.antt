@@ -1,14 +1,10 @@
 use Rattle.std.proofs.Common.{◌≡◌, ap, ◌∙◌, subst, rules, arith}
-use Rattle.std.specs.Io.KnownBytes.{Appends}
-use Rattle.std.specs.List.{flat_map}
-use Rattle.rb_base.specs.Counting.{numbers}
-use Rattle.rb_base.specs.Sizes.{Sizes}
+use Rattle.std.specs.{Io.KnownBytes.Appends, List.flat_map}
+use Rattle.rb_base.specs.{Counting.numbers, Sizes.Sizes}
 use Rattle.rb_base.proofs.Plain.{on_err}
-use Rattle.rb_group.specs.Groups.{group_value}
-use Rattle.rb_group.specs.declared.voters.Which.TheVariants.{Most}
+use Rattle.rb_group.specs.{Groups.group_value, declared.voters.Which.TheVariants.Most}
 use Rattle.rb_group_run.proofs.TurnsWritten.{lines_more, lines_part}
-use Rattle.rb_bridge.specs.Receivers.{receiver_by}
-use Rattle.rb_bridge.specs.Refusals.{bank_of}
+use Rattle.rb_bridge.specs.{Receivers.receiver_by, Refusals.bank_of}
 use Rattle.rb_bridge.proofs.receivers.write_receivers.Goals as goal
 
 pub loop-port-preserved : goal.loop-port-preserved

@@ -1,15 +1,11 @@
 -- The lines of the BIUs before this one are written.
 use Rattle.std.proofs.Common.{ℕ, ◌≤◌, List}
-use Rattle.std.specs.Io.KnownBytes.{Appends}
-use Rattle.std.specs.List.{flat_map}
-use Rattle.rb_base.specs.Counting.{numbers}
-use Rattle.rb_base.specs.declared.values.Delivery.{Delivery}
+use Rattle.std.specs.{Io.KnownBytes.Appends, List.flat_map}
+use Rattle.rb_base.specs.{Counting.numbers, declared.values.Delivery.Delivery}
 use Rattle.rb_rules.specs.Goodness.{Scenario}
-use Rattle.rb_group.specs.Groups.{group_value}
-use Rattle.rb_group.specs.declared.voters.Which.TheVariants.{Most}
+use Rattle.rb_group.specs.{Groups.group_value, declared.voters.Which.TheVariants.Most}
 use Rattle.rb_group_run.specs.Holding.{HoldPortions, IsScopeOf}
-use Rattle.rb_bridge.specs.Receivers.{receiver_by}
-use Rattle.rb_bridge.specs.Refusals.{bank_of}
+use Rattle.rb_bridge.specs.{Receivers.receiver_by, Refusals.bank_of}
 use Rattle.rb_bridge.proofs.receivers.write_receivers.Given as goal
 
 abbrev pub invariant-loop-port : goal.invariant-loop-port

@@ -1,6 +1,5 @@
-use Rattle.std.proofs.Common.{subst}
+use Rattle.std.proofs.{Common.subst, lemmas.Result.{on_err_weaker, on_ok_weaker}}
 use Rattle.std.specs.Io.KnownBytes.{Appends}
-use Rattle.std.proofs.lemmas.Result.{on_err_weaker, on_ok_weaker}
 use Rattle.rb_outside.specs.Bytes.{AppendsPart}
 use Rattle.rb_bridge.proofs.Found.{breach-lines, none-lines}
 use Rattle.rb_bridge.proofs.telling.tell.Goals as goal

@@ -1,11 +1,9 @@
-use Rattle.std.proofs.Common.{subst}
+use Rattle.std.proofs.{Common.subst, lemmas.Result.{on_err_weaker, on_ok_weaker}}
 use Rattle.std.specs.Io.KnownBytes.{Appends}
-use Rattle.std.proofs.lemmas.Result.{on_err_weaker, on_ok_weaker}
 use Rattle.rb_base.proofs.Plain.{on_err}
 use Rattle.rb_outside.specs.Bytes.{AppendsPart}
 use Rattle.rb_outside.proofs.Known.{appends_join, part_join, part_widens}
-use Rattle.rb_rules_bridge.specs.declared.bank.Bank.TheVariants.{Left, Right}
-use Rattle.rb_rules_bridge.specs.Texts.{receivers_text}
+use Rattle.rb_rules_bridge.specs.{declared.bank.Bank.TheVariants.{Left, Right}, Texts.receivers_text}
 use Rattle.rb_bridge.proofs.Found.{finds-own}
 use Rattle.rb_bridge.proofs.telling.write_both.Goals as goal
 

@@ -1,6 +1,5 @@
-use Rattle.std.proofs.Common.{subst}
+use Rattle.std.proofs.{Common.subst, lemmas.Result.{on_err_weaker, on_ok_weaker}}
 use Rattle.std.specs.Io.KnownBytes.{Appends}
-use Rattle.std.proofs.lemmas.Result.{on_err_weaker, on_ok_weaker}
 use Rattle.rb_outside.specs.Bytes.{AppendsPart}
 use Rattle.rb_rules_bridge.specs.Bridges.{bus_on, members_on}
 use Rattle.rb_bridge.specs.Refusals.{bank_of}

@@ -1,6 +1,5 @@
-use Rattle.std.proofs.Common.{ap, arith}
+use Rattle.std.proofs.{Common.{ap, arith}, lemmas.List.take_all}
 use Rattle.std.specs.Option.{option_or}
-use Rattle.std.proofs.lemmas.List.{take_all}
 use Rattle.rb_bridge.specs.Holding.{value_by}
 use Rattle.rb_bridge.proofs.Noted.{hold-same, lines-more, nothing-more}
 use Rattle.rb_bridge.proofs.values.note_lines.Goals as goal

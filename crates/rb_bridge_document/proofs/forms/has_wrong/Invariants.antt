@@ -1,7 +1,6 @@
 use Rattle.std.proofs.Common.{◌≡◌, drop}
 use Rattle.toml.specs.View.{table_view}
-use Rattle.rb_scenario_document.specs.Forms.{has_wrong}
-use Rattle.rb_scenario_document.specs.Shown.{fields_shown}
+use Rattle.rb_scenario_document.specs.{Forms.has_wrong, Shown.fields_shown}
 use Rattle.rb_bridge_document.proofs.forms.has_wrong.Given as goal
 
 abbrev pub invariant-loop-field : goal.invariant-loop-field

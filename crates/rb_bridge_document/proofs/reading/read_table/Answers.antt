@@ -1,10 +1,8 @@
 use Rattle.std.proofs.Common.{◌≡◌, true, sym, ◌∙◌, subst, inr, refl}
-use Rattle.toml.specs.View.{table_view}
-use Rattle.toml.specs.Data.{Members}
+use Rattle.toml.specs.{View.table_view, Data.Members}
 use Rattle.rb_scenario.specs.Acceptance.{as_scenario}
 use Rattle.rb_rules_bridge.specs.Bridges.{IsBridge}
-use Rattle.rb_bridge_document.specs.Acceptance.{AreListed}
-use Rattle.rb_bridge_document.specs.Documents.{has_bridge_form}
+use Rattle.rb_bridge_document.specs.{Acceptance.AreListed, Documents.has_bridge_form}
 use Rattle.rb_bridge_document.proofs.Fitting.{are-listed, few-pairs, says-bridge}
 use Rattle.rb_bridge_document.proofs.reading.read_table.Goals as goal
 

@@ -1,13 +1,8 @@
 use Rattle.std.proofs.Common.{true, false, refl, subst, sym}
 use Rattle.rb_flags.specs.declared.Flag.{Flag}
 use Rattle.rb_bridge.proofs.Crossed.{never-plain}
-use Rattle.rb_bridge_top.specs.declared.form.Form.TheVariants.{Run, Show}
-use Rattle.rb_bridge_top.specs.Pages.{Shows}
-use Rattle.rb_bridge_top.specs.Statuses.{IsOfRun}
-use Rattle.rb_bridge_top.specs.Words.{AskFor}
-use Rattle.rb_bridge_top.proofs.Answered.{shown-of-run, shown-writes}
-use Rattle.rb_bridge_top.proofs.Completed.{completes, promised}
-use Rattle.rb_bridge_top.proofs.OneForm.{idle_run, no_flag_runs, one_shown}
+use Rattle.rb_bridge_top.specs.{declared.form.Form.TheVariants.{Run, Show}, Pages.Shows, Statuses.IsOfRun, Words.AskFor}
+use Rattle.rb_bridge_top.proofs.{Answered.{shown-of-run, shown-writes}, Completed.{completes, promised}, OneForm.{idle_run, no_flag_runs, one_shown}}
 use Rattle.rb_bridge_top.proofs.top.run_bridge.Goals as goal
 
 -- The words are `run`.

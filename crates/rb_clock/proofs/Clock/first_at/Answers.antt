@@ -1,10 +1,8 @@
 -- The walk over the segments stays on the clock, and stops at the one in which the time comes.
-use Rattle.std.proofs.Common.{◌-◌, ◌<◌, length, take, drop, rules, arith, inr}
-use Rattle.std.proofs.lemmas.List.{drop_more}
+use Rattle.std.proofs.{Common.{◌-◌, ◌<◌, length, take, drop, rules, arith, inr}, lemmas.List.drop_more}
 use Rattle.rb_rules.specs.Clock.{IsClock}
-use Rattle.rb_clock.proofs.Times.{Ends, at_length, at_next, product_fits, sum_fits, ends_last, ends_past, ends_here, stamp_found, stamp_most, stamp_computed}
+use Rattle.rb_clock.proofs.{Times.{Ends, at_length, at_next, product_fits, sum_fits, ends_last, ends_past, ends_here, stamp_found, stamp_most, stamp_computed}, Clock.first_at.Goals.{else-loop-next-test, then-loop-next-test+then-next-ge-LAST_TICK, then-loop-next-test+else-next-ge-LAST_TICK+then-time-end}}
 use Rattle.rb_clock.proofs.Clock.first_at.Goals as goal
-use Rattle.rb_clock.proofs.Clock.first_at.Goals.{else-loop-next-test, then-loop-next-test+then-next-ge-LAST_TICK, then-loop-next-test+else-next-ge-LAST_TICK+then-time-end}
 
 pub loop-next-preserved : goal.loop-next-preserved
 loop-next-preserved c =

@@ -1,10 +1,8 @@
 -- The walk over the segments stays on the clock, and its sums fit.
-use Rattle.std.proofs.Common.{rules, arith}
-use Rattle.std.proofs.lemmas.List.{drop_more}
+use Rattle.std.proofs.{Common.{rules, arith}, lemmas.List.drop_more}
 use Rattle.rb_rules.specs.Clock.{IsClock}
-use Rattle.rb_clock.proofs.Times.{at_next, time_to, stays_on, stays_to, product_fits, sum_fits}
+use Rattle.rb_clock.proofs.{Times.{at_next, time_to, stays_on, stays_to, product_fits, sum_fits}, Clock.walked_to.Goals.{else-loop-next-test, then-loop-next-test+then-tick-next}}
 use Rattle.rb_clock.proofs.Clock.walked_to.Goals as goal
-use Rattle.rb_clock.proofs.Clock.walked_to.Goals.{else-loop-next-test, then-loop-next-test+then-tick-next}
 
 pub loop-next-preserved : goal.loop-next-preserved
 loop-next-preserved c =

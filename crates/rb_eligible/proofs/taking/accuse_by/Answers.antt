@@ -1,12 +1,9 @@
 use Rattle.std.proofs.Common.{◌&&◌, ◌∙◌, ap}
 use Rattle.rb_base.specs.Nodes.{has}
 use Rattle.rb_base.proofs.Sets.{has-is}
-use Rattle.rb_rules.specs.Sense.{is_one}
-use Rattle.rb_rules.specs.Standing.{is_eligible}
-use Rattle.rb_eligible.specs.Inboxes.{sense_in}
-use Rattle.rb_eligible.specs.Standings.{standing_of}
-use Rattle.rb_eligible.proofs.Evidence.{either_one, evidence_is}
-use Rattle.rb_eligible.proofs.Sensed.{came_is}
+use Rattle.rb_rules.specs.{Sense.is_one, Standing.is_eligible}
+use Rattle.rb_eligible.specs.{Inboxes.sense_in, Standings.standing_of}
+use Rattle.rb_eligible.proofs.{Evidence.{either_one, evidence_is}, Sensed.came_is}
 use Rattle.rb_eligible.proofs.taking.accuse_by.Goals as goal
 
 pub returns : goal.returns

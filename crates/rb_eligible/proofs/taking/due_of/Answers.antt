@@ -2,8 +2,7 @@ use Rattle.std.proofs.Common.{ℕ, Bool, ◌&&◌, ◌∙◌, ap}
 use Rattle.rb_base.specs.Nodes.{has}
 use Rattle.rb_base.proofs.Sets.{has-is, set_of-lt}
 use Rattle.rb_rules.specs.Standing.{is_eligible}
-use Rattle.rb_eligible.specs.Inboxes.{is_sole}
-use Rattle.rb_eligible.specs.Standings.{standing_of}
+use Rattle.rb_eligible.specs.{Inboxes.is_sole, Standings.standing_of}
 use Rattle.rb_eligible.proofs.Scans.{common_has}
 use Rattle.rb_eligible.proofs.taking.due_of.Goals as goal
 

@@ -1,11 +1,9 @@
 use Rattle.std.proofs.Common.{◌&&◌, sym, ◌∙◌, ap}
 use Rattle.rb_base.specs.Nodes.{has}
-use Rattle.rb_base.proofs.Plain.{and_second}
-use Rattle.rb_base.proofs.Sets.{same_set_of, set_of-lt}
+use Rattle.rb_base.proofs.{Plain.and_second, Sets.{same_set_of, set_of-lt}}
 use Rattle.rb_rules.specs.Sense.{is_one}
 use Rattle.rb_eligible.specs.Inboxes.{is_sole, sense_in}
-use Rattle.rb_eligible.proofs.Scans.{common_has}
-use Rattle.rb_eligible.proofs.Sensed.{none_but_soles}
+use Rattle.rb_eligible.proofs.{Scans.common_has, Sensed.none_but_soles}
 use Rattle.rb_eligible.proofs.taking.ones_among.Goals as goal
 
 pub take_due-requires-clause-fits : goal.take_due-requires-clause-fits

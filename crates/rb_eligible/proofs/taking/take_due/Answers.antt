@@ -1,6 +1,5 @@
 use Rattle.std.proofs.Common.{◌≡◌, ◌<◌, ◌*◌, ◌&&◌, not, arith}
-use Rattle.rb_base.specs.Nodes.{has, size}
-use Rattle.rb_base.specs.declared.values.Heard.TheVariants.{Word}
+use Rattle.rb_base.specs.{Nodes.{has, size}, declared.values.Heard.TheVariants.Word}
 use Rattle.rb_base.proofs.Sets.{has-is, set_of-lt}
 use Rattle.rb_eligible.specs.Inboxes.{sole_at}
 use Rattle.rb_eligible.proofs.Runs.{partial_ones, partial_values, partial_vote, word_begun, word_of_all}

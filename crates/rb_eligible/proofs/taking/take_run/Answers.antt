@@ -1,9 +1,6 @@
-use Rattle.std.proofs.Common.{◌≡◌, true, false, ◌&&◌, ◌==◌, not, refl, ◌∙◌, ap, arith}
-use Rattle.std.proofs.Math.ListN.{length-set}
+use Rattle.std.proofs.{Common.{◌≡◌, true, false, ◌&&◌, ◌==◌, not, refl, ◌∙◌, ap, arith}, Math.ListN.length-set}
 use Rattle.rb_base.specs.Nodes.{has, size}
-use Rattle.rb_base.proofs.Plain.{eq_self}
-use Rattle.rb_base.proofs.Sets.{has-is}
-use Rattle.rb_base.proofs.SetSizes.{size_less}
+use Rattle.rb_base.proofs.{Plain.eq_self, Sets.has-is, SetSizes.size_less}
 use Rattle.rb_eligible.specs.Inboxes.{sole_at}
 use Rattle.rb_eligible.proofs.Runs.{run_fewer, run_next, run_none}
 use Rattle.rb_eligible.proofs.taking.take_run.Goals as goal

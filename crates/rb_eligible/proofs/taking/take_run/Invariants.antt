@@ -1,7 +1,6 @@
 use Rattle.std.proofs.Common.{◌≡◌, false, length}
 use Rattle.rb_base.specs.Nodes.{has, size}
-use Rattle.rb_eligible.specs.Inboxes.{sole_at}
-use Rattle.rb_eligible.specs.Takings.{IsRun}
+use Rattle.rb_eligible.specs.{Inboxes.sole_at, Takings.IsRun}
 use Rattle.rb_eligible.proofs.taking.take_run.Given as goal
 
 -- the sources that are left, and what was taken of the others

@@ -1,6 +1,5 @@
-use Rattle.std.proofs.Common.{◌%◌, ◌/◌, ◌++◌, ◌==◌, ◌&&◌, refl, sym, ◌∙◌, ap}
+use Rattle.std.proofs.{Common.{◌%◌, ◌/◌, ◌++◌, ◌==◌, ◌&&◌, refl, sym, ◌∙◌, ap}, lemmas.Bool.{eq-eqb, ne_eqb}}
 use Rattle.std.specs.Int.{to_le_bytes, w32, w64}
-use Rattle.std.proofs.lemmas.Bool.{eq-eqb, ne_eqb}
 use Rattle.rb_rules.specs.Spelling.{check_of}
 use Rattle.rb_eligible.proofs.Forms.{form_one, form_two}
 use Rattle.rb_eligible.proofs.words.has_form.Goals as goal

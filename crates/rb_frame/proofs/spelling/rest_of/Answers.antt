@@ -1,5 +1,4 @@
-use Rattle.std.proofs.Common.{drop, ◌∙◌, arith, length-drop}
-use Rattle.std.proofs.lemmas.List.{take_all}
+use Rattle.std.proofs.{Common.{drop, ◌∙◌, arith, length-drop}, lemmas.List.take_all}
 use Rattle.rb_frame.proofs.spelling.rest_of.Goals as goal
 
 pub returns : goal.returns

@@ -1,6 +1,4 @@
-use Rattle.std.proofs.Common.{◌≡◌, ℕ, suc, ◌+◌, refl, ap, ◌∙◌, arith}
-use Rattle.std.proofs.lemmas.List.{length-set}
-use Rattle.std.proofs.lemmas.List.FromFn.{fill_by_all}
+use Rattle.std.proofs.{Common.{◌≡◌, ℕ, suc, ◌+◌, refl, ap, ◌∙◌, arith}, lemmas.List.length-set, lemmas.List.FromFn.fill_by_all}
 use Rattle.rb_gen.specs.Draws.{next_state, number_of, state_after}
 use Rattle.rb_gen.proofs.Lists.{filled_more}
 use Rattle.rb_gen.proofs.generator.drawn_from.Goals as goal

@@ -1,16 +1,9 @@
 use Rattle.std.proofs.Common.{◌≡◌, ℕ, List, map, ap, sym, subst, ◌∙◌}
 use Rattle.rb_base.specs.Counting.{numbers}
 use Rattle.rb_plan.specs.Timetable.{Timetable}
-use Rattle.rb_rules.specs.declared.link.Rule.{Rule}
-use Rattle.rb_rules.specs.declared.say.Say.{Say}
-use Rattle.rb_rules.specs.Clock.{Timeline}
-use Rattle.rb_rules.specs.Entries.{IsListed, listed}
-use Rattle.rb_rules.specs.Goodness.{Scenario, clock_among}
-use Rattle.rb_rules.specs.Lawful.{IsLawful}
-use Rattle.rb_rules.specs.Links.{DelayRules}
+use Rattle.rb_rules.specs.{declared.link.Rule.Rule, declared.say.Say.Say, Clock.Timeline, Entries.{IsListed, listed}, Goodness.{Scenario, clock_among}, Lawful.IsLawful, Links.DelayRules}
 use Rattle.rb_gen.specs.Generated.{clock_of, drawn_from, plan, rule_of, say_to, scenario_of, sizes}
-use Rattle.rb_gen.proofs.Accepted.{said_by_its_table}
-use Rattle.rb_gen.proofs.GeneratedIsLawful.{generated_is_lawful, generated_is_listed}
+use Rattle.rb_gen.proofs.{Accepted.said_by_its_table, GeneratedIsLawful.{generated_is_lawful, generated_is_listed}}
 use Rattle.rb_gen.proofs.generator.generate.Goals as goal
 
 -- the generated scenario with other parts in place of its own

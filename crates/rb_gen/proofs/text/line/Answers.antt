@@ -1,11 +1,8 @@
-use Rattle.std.proofs.Common.{ℕ, ◌-◌, ◌/◌, ◌%◌, List, [], get_or, sym, ap, ◌∙◌, arith}
-use Rattle.std.proofs.lemmas.Option.{get_or_from_slice_get}
+use Rattle.std.proofs.{Common.{ℕ, ◌-◌, ◌/◌, ◌%◌, List, [], get_or, sym, ap, ◌∙◌, arith}, lemmas.Option.get_or_from_slice_get}
 use Rattle.rb_base.specs.declared.node.NodeName.{NodeName}
-use Rattle.rb_rules.specs.Clock.{Timeline}
-use Rattle.rb_rules.specs.Links.{DelayRules, delay_of}
+use Rattle.rb_rules.specs.{Clock.Timeline, Links.{DelayRules, delay_of}}
 use Rattle.rb_scenario.specs.Acceptance.{as_scenario}
-use Rattle.rb_gen.specs.Generated.{sender_of}
-use Rattle.rb_gen.specs.Text.{clock_lines, link_lines, node_at}
+use Rattle.rb_gen.specs.{Generated.sender_of, Text.{clock_lines, link_lines, node_at}}
 use Rattle.rb_gen.proofs.Places.{at_biu_fault, at_clock, at_link, at_rmu_fault, at_root, at_say, counts, found_line, no_line}
 use Rattle.rb_gen.proofs.text.line.Goals as goal
 

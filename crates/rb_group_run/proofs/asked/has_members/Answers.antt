@@ -1,7 +1,5 @@
-use Rattle.std.proofs.Common.{◌≡◌, nat_lt, ◌&&◌, not, ap, ◌∙◌}
-use Rattle.std.proofs.lemmas.Bool.{eq-eqb, eqb-true}
-use Rattle.rb_base.specs.Nodes.{has, set_of}
-use Rattle.rb_base.specs.Sizes.{Sizes}
+use Rattle.std.proofs.{Common.{◌≡◌, nat_lt, ◌&&◌, not, ap, ◌∙◌}, lemmas.Bool.{eq-eqb, eqb-true}}
+use Rattle.rb_base.specs.{Nodes.{has, set_of}, Sizes.Sizes}
 use Rattle.rb_group_run.proofs.Beyond.{all_members, none_beyond}
 use Rattle.rb_group_run.proofs.asked.has_members.Goals as goal
 

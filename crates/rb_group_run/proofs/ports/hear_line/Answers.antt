@@ -1,6 +1,5 @@
 use Rattle.std.proofs.Common.{get_or, refl, ◌++◌, set, sym, subst, arith}
-use Rattle.rb_group.specs.Keeping.{KeptGroup}
-use Rattle.rb_group.specs.Portions.{line_told}
+use Rattle.rb_group.specs.{Keeping.KeptGroup, Portions.line_told}
 use Rattle.rb_group_run.specs.Holding.{HoldPortions, HoldsPortion}
 use Rattle.rb_group_run.proofs.Held.{line_heard, no_port, portion_at}
 use Rattle.rb_group_run.proofs.ports.hear_line.Goals as goal

@@ -1,5 +1,4 @@
-use Rattle.std.proofs.Common.{◌++◌, ap, arith}
-use Rattle.std.proofs.lemmas.List.{take_all}
+use Rattle.std.proofs.{Common.{◌++◌, ap, arith}, lemmas.List.take_all}
 use Rattle.rb_group.specs.Portions.{deliveries_in}
 use Rattle.rb_group_run.proofs.Held.{lines_heard, nothing_more, told_same}
 use Rattle.rb_group_run.proofs.ports.hear_slot.Goals as goal

@@ -1,8 +1,6 @@
 use Rattle.std.proofs.Common.{◌≡◌, ap, ◌∙◌, subst, rules, arith}
-use Rattle.std.specs.Io.KnownBytes.{Appends}
-use Rattle.std.specs.List.{flat_map}
-use Rattle.rb_base.specs.Counting.{numbers}
-use Rattle.rb_base.specs.Sizes.{Sizes}
+use Rattle.std.specs.{Io.KnownBytes.Appends, List.flat_map}
+use Rattle.rb_base.specs.{Counting.numbers, Sizes.Sizes}
 use Rattle.rb_base.proofs.Plain.{on_err}
 use Rattle.rb_group_run.specs.Replies.{port_text, value_found}
 use Rattle.rb_group_run.proofs.TurnsWritten.{lines_more, lines_part}

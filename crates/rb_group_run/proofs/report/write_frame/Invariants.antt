@@ -1,12 +1,9 @@
 -- The lines of the BIUs before this one are written.
 use Rattle.std.proofs.Common.{ℕ, ◌≤◌, List}
-use Rattle.std.specs.Io.KnownBytes.{Appends}
-use Rattle.std.specs.List.{flat_map}
-use Rattle.rb_base.specs.Counting.{numbers}
-use Rattle.rb_base.specs.declared.values.Delivery.{Delivery}
+use Rattle.std.specs.{Io.KnownBytes.Appends, List.flat_map}
+use Rattle.rb_base.specs.{Counting.numbers, declared.values.Delivery.Delivery}
 use Rattle.rb_rules.specs.Goodness.{Scenario}
-use Rattle.rb_group_run.specs.Holding.{HoldPortions, IsScopeOf}
-use Rattle.rb_group_run.specs.Replies.{port_text, value_found}
+use Rattle.rb_group_run.specs.{Holding.{HoldPortions, IsScopeOf}, Replies.{port_text, value_found}}
 use Rattle.rb_group_run.proofs.report.write_frame.Given as goal
 
 abbrev pub invariant-loop-port : goal.invariant-loop-port

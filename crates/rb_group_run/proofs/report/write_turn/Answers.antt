@@ -1,6 +1,5 @@
-use Rattle.std.proofs.Common.{subst, rules}
+use Rattle.std.proofs.{Common.{subst, rules}, lemmas.Result.{on_err_weaker, on_ok_weaker}}
 use Rattle.std.specs.Io.KnownBytes.{Appends}
-use Rattle.std.proofs.lemmas.Result.{on_err_weaker, on_ok_weaker}
 use Rattle.rb_base.proofs.Plain.{on_err}
 use Rattle.rb_world_book.specs.Records.{record_of}
 use Rattle.rb_outside.specs.Bytes.{AppendsPart}

@@ -1,8 +1,7 @@
 use Rattle.std.proofs.Common.{◌≡◌, None, Some, refl, sym, ◌∙◌, rules, arith}
 use Rattle.rb_base.proofs.Plain.{on_err}
 use Rattle.rb_world_book.specs.Records.{record_of}
-use Rattle.rb_run.specs.Runs.{end_at}
-use Rattle.rb_run.specs.Turns.{records_in}
+use Rattle.rb_run.specs.{Runs.end_at, Turns.records_in}
 use Rattle.rb_run.proofs.UnderWay.{ends-so, few-turns, goes}
 use Rattle.rb_group_run.proofs.Written.{all_written, frame_next, none_written, one_written, part_written}
 use Rattle.rb_group_run.proofs.run.write_groups.Goals as goal

@@ -1,5 +1,11 @@
 -- `close` takes the box apart.
-use Rattle.std.proofs.Common.{◌≡◌, List, [], ◌∷◌, ◌++◌, refl, sym, ap, ◌∙◌, subst, Some}
+use Rattle.std.proofs.{Common.{◌≡◌, List, [], ◌∷◌, ◌++◌, refl, sym, ap, ◌∙◌, subst, Some}, alloc.Calls.{Goes-blank, handle_tells}, raw_atomic.Walks.{proved_at, leaves}}
+use Rattle.std_alloc.specs.Box.Ownership.{box_owns}
+use Rattle.std_alloc.proofs.{BoxSteps.Steps.{box_out, box_in}, boxed.Box.into_raw_with_allocator.Met.met}
+use Rattle.std_heap.specs.contracts.GlobalAllocator.TheImpl.{ghosts, dict}
+use Rattle.std_heap.proofs.GlobalAllocator.TheImpl.Met.{passed}
+use Rattle.rb_host.specs.contracts.held.close.Key.{name as #self}
+use Rattle.rb_host.proofs.{held.close.Statement.statement, Boxes.{T, LT, A, LA, drop_of, E, Whole, word, held_in}}
 use mir.Raw.{raw as bare}
 use mir.Val.{Val, vstruct, of_list}
 use base.Fraction.{full_share}
@@ -27,21 +33,11 @@ use denote.Triple.Clauses.{Lasts, lasts}
 use denote.Triple.Spec.{triple_of}
 use denote.Triple.Call.{calls_at}
 use denote.Triple.Walked.{Stays, stay_dropped, walk_of}
-use Rattle.std.proofs.alloc.Calls.{Goes-blank, handle_tells}
 use denote.Triple.Table.{framed}
-use Rattle.std_alloc.specs.Box.Ownership.{box_owns}
 use Rattle.std_alloc.proofs.BoxSteps.Form as box
-use Rattle.std_alloc.proofs.BoxSteps.Steps.{box_out, box_in}
-use Rattle.std.proofs.raw_atomic.Walks.{proved_at, leaves}
-use Rattle.std_heap.specs.contracts.GlobalAllocator.TheImpl.{ghosts, dict}
-use Rattle.std_heap.proofs.GlobalAllocator.TheImpl.Met.{passed}
 use Rattle.std_alloc.specs.contracts.boxed.Box.into_raw_with_allocator as callee
-use Rattle.std_alloc.proofs.boxed.Box.into_raw_with_allocator.Met.{met}
 use Rattle.rb_host.specs.contracts.held.close as f
-use Rattle.rb_host.specs.contracts.held.close.Key.{name as #self}
-use Rattle.rb_host.proofs.held.close.Statement.{statement}
 use Rattle.rb_host.proofs.held.close.Code as code
-use Rattle.rb_host.proofs.Boxes.{T, LT, A, LA, drop_of, E, Whole, word, held_in}
 
 pub close_spec : {M : Type 1} → statement M
 unfolding Rattle.rb_host.proofs.Destruct++none.drop.Code.code

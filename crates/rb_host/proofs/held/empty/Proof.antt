@@ -1,5 +1,7 @@
 -- `empty` makes a handle of nothing.
-use Rattle.std.proofs.Common.{◌≡◌, List, [], ◌∷◌, refl, None, w64, lit<}
+use Rattle.std.proofs.{Common.{◌≡◌, List, [], ◌∷◌, refl, None, w64, lit<}, raw_atomic.Walks.{proved_at, leaves}}
+use Rattle.rb_host.specs.{Owns.Kept, contracts.held.empty.Key.name as #self}
+use Rattle.rb_host.proofs.held.empty.Statement.{statement}
 use mir.Val.{Val, vint, vstruct, vcons, vnil}
 use base.Logic.{SProp, emp}
 use types.Kit.{raw, ◌$◌, ◌∵◌, !, qed, by, keep, fjoin, fpack, use0, feq_i}
@@ -14,12 +16,8 @@ use denote.Steps.{nothing}
 use denote.Struct.Struct.{within}
 use denote.Struct.Owning.{shape}
 use denote.Triple.Walked.{walk_of}
-use Rattle.std.proofs.raw_atomic.Walks.{proved_at, leaves}
-use Rattle.rb_host.specs.Owns.{Kept}
 use Rattle.rb_host.specs.contracts.held.Held as Held
 use Rattle.rb_host.specs.contracts.held.empty as f
-use Rattle.rb_host.specs.contracts.held.empty.Key.{name as #self}
-use Rattle.rb_host.proofs.held.empty.Statement.{statement}
 use Rattle.rb_host.proofs.held.empty.Code as code
 
 pub empty_spec : {M : Type 1} → statement M

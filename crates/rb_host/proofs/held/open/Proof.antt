@@ -1,5 +1,11 @@
 -- `open` makes the box again.
-use Rattle.std.proofs.Common.{◌≡◌, List, [], ◌∷◌, ◌++◌, refl, sym, ap, ◌∙◌, subst, true, false, Option, Some, None, IsSome}
+use Rattle.std.proofs.{Common.{◌≡◌, List, [], ◌∷◌, ◌++◌, refl, sym, ap, ◌∙◌, subst, true, false, Option, Some, None, IsSome}, alloc.Calls.{Goes-blank, handle_tells}, VecSteps.Shapes.after, raw_atomic.Walks.{proved_at, leaves}}
+use Rattle.std_alloc.specs.Box.Ownership.{box_owns}
+use Rattle.std_alloc.proofs.{BoxSteps.Steps.{box_out, box_in}, boxed.Box.from_raw.Met.met}
+use Rattle.std_heap.specs.contracts.GlobalAllocator.TheImpl.{ghosts, dict}
+use Rattle.std_heap.proofs.GlobalAllocator.TheImpl.Met.{passed}
+use Rattle.rb_host.specs.{Owns.held_owns, contracts.held.open.Key.name as #self}
+use Rattle.rb_host.proofs.{held.open.Statement.statement, Boxes.{Good, T, LT, A, LA, drop_of, E, word}}
 use mir.Raw.{raw as bare}
 use mir.Val.{Val, vptr, vstruct, of_list}
 use base.Fraction.{full_share}
@@ -25,26 +31,14 @@ use denote.Triple.Clauses.{Lasts, lasts}
 use denote.Triple.Spec.{triple_of}
 use denote.Triple.Call.{calls_at_last}
 use denote.Triple.Walked.{Stays, stay_dropped, walk_of}
-use Rattle.std.proofs.alloc.Calls.{Goes-blank, handle_tells}
 use denote.Triple.Table.{framed}
-use Rattle.std.proofs.VecSteps.Shapes.{after}
-use Rattle.std_alloc.specs.Box.Ownership.{box_owns}
 use Rattle.std_alloc.proofs.BoxSteps.Form as box
-use Rattle.std_alloc.proofs.BoxSteps.Steps.{box_out, box_in}
-use Rattle.std.proofs.raw_atomic.Walks.{proved_at, leaves}
 use Rattle.std_heap.specs.contracts.Global as heap
-use Rattle.std_heap.specs.contracts.GlobalAllocator.TheImpl.{ghosts, dict}
-use Rattle.std_heap.proofs.GlobalAllocator.TheImpl.Met.{passed}
 use Rattle.std_alloc.specs.contracts.boxed.Box.from_raw as callee
-use Rattle.std_alloc.proofs.boxed.Box.from_raw.Met.{met}
-use Rattle.rb_host.specs.Owns.{held_owns}
 use Rattle.rb_host.specs.contracts.any_node.AnyNode as any
 use Rattle.rb_host.specs.contracts.held.Held as Held
 use Rattle.rb_host.specs.contracts.held.open as f
-use Rattle.rb_host.specs.contracts.held.open.Key.{name as #self}
-use Rattle.rb_host.proofs.held.open.Statement.{statement}
 use Rattle.rb_host.proofs.held.open.Code as code
-use Rattle.rb_host.proofs.Boxes.{Good, T, LT, A, LA, drop_of, E, word}
 
 -- what is there
 there : {X : Type 0} (o : Option X) → IsSome o → (x : X) × (o ≡ Some x)

@@ -1,9 +1,8 @@
 use Rattle.std.proofs.Common.{◌≡◌, true, arith, ◌∙◌, sym, subst}
-use Rattle.rb_base.specs.Nodes.{has}
-use Rattle.rb_base.specs.Nodes.Side.{Biu, Rmu}
-use Rattle.rb_base.specs.declared.node.NodeName.TheVariants as node
+use Rattle.rb_base.specs.{Nodes.has, Nodes.Side.{Biu, Rmu}}
 use Rattle.rb_judge.specs.Stages.{KeptJudge, HoldsStages, is_good_now}
 use Rattle.rb_judge.proofs.Sides.{eps_stays, kind_notes, kind_stays}
+use Rattle.rb_base.specs.declared.node.NodeName.TheVariants as node
 use Rattle.rb_judge.proofs.Judge.note.Goals as goal
 
 pub note-requires-clause-source : goal.note-requires-clause-source

@@ -3,8 +3,7 @@ use Rattle.std.proofs.Common.{◌+◌, ◌<◌, ◌≡◌, ◌∙◌, ap, length
 use Rattle.std.specs.List.{filter_map, find}
 use Rattle.rb_rules.specs.Links.{applies, covers, delay_of}
 use Rattle.rb_link.specs.Pairs.{delay_or, places_of}
-use Rattle.rb_link.proofs.LastRules.{last_of_all}
-use Rattle.rb_link.proofs.PairIndex.{last_by_index}
+use Rattle.rb_link.proofs.{LastRules.last_of_all, PairIndex.last_by_index}
 use Rattle.rb_link.proofs.Delays.last.Goals as goal
 
 pub returns-in-Some-places_of : goal.returns-in-Some-places_of

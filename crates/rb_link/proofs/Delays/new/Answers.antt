@@ -1,7 +1,6 @@
 -- What is kept beside the rules is made of the latest rules of the pairs.
 use Rattle.std.proofs.Common.{◌∙◌, ap, map, subst, sym}
-use Rattle.rb_link.specs.Prepared.{ArePrepared}
-use Rattle.rb_link.specs.Rows.{AreShared, delay_of_rule}
+use Rattle.rb_link.specs.{Prepared.ArePrepared, Rows.{AreShared, delay_of_rule}}
 use Rattle.rb_link.proofs.NodeRows.{rows_of}
 use Rattle.rb_link.proofs.Delays.new.Goals as goal
 

@@ -1,8 +1,7 @@
 -- The delays of the sender's pairs are those of the messages to the nodes of the other kind.
 use Rattle.std.proofs.Common.{[], ◌∙◌, ◌*◌, ◌+◌, ap, refl, subst, sym}
 use Rattle.rb_rules.specs.Links.{delay_after, delay_of}
-use Rattle.rb_link.specs.Pairs.{receiver_of}
-use Rattle.rb_link.specs.Rows.{AreRows}
+use Rattle.rb_link.specs.{Pairs.receiver_of, Rows.AreRows}
 use Rattle.rb_link.proofs.NodeRows.{none_past_sixteen, there_by_sender}
 use Rattle.rb_link.proofs.Delays.row.Goals as goal
 

@@ -1,7 +1,6 @@
 use Rattle.std.proofs.Common.{◌≡◌, ◌-◌, ◌≤◌, Some, inl, unwrap_or, sym, ◌∙◌, ap, arith}
 use Rattle.rb_base.specs.Nodes.Side.{Biu}
-use Rattle.rb_rules.specs.Hearing.{tail_at}
-use Rattle.rb_rules.specs.Windows.{window_at}
+use Rattle.rb_rules.specs.{Hearing.tail_at, Windows.window_at}
 use Rattle.rb_rules.proofs.Slots.{few_slots}
 use Rattle.rb_slot.proofs.Fitting.{IsPlaced, placed}
 use Rattle.rb_node.proofs.Windows.{ends-soon}

@@ -1,6 +1,4 @@
-use Rattle.std.proofs.Common.{◌≡◌, ◌+◌, slice_set, ap, ◌∙◌, arith}
-use Rattle.std.proofs.Math.ListN.{length-set}
-use Rattle.std.proofs.lemmas.List.Edits.{fill_by_more}
+use Rattle.std.proofs.{Common.{◌≡◌, ◌+◌, slice_set, ap, ◌∙◌, arith}, Math.ListN.length-set, lemmas.List.Edits.fill_by_more}
 use Rattle.rb_diag.specs.Votes.{Votes}
 use Rattle.rb_listen.specs.Lessons.{vote_on}
 use Rattle.rb_listen.proofs.lesson.ballot_of.Goals as goal

@@ -1,8 +1,7 @@
 use Rattle.std.proofs.Common.{◌+◌, ◌∙◌, ap}
 use Rattle.rb_base.specs.Nodes.Side.{Biu}
 use Rattle.rb_diag.specs.Votes.{vector_in}
-use Rattle.rb_rules.specs.Conviction.{convicted_by}
-use Rattle.rb_rules.specs.Slots.{first_diagnosis_of}
+use Rattle.rb_rules.specs.{Conviction.convicted_by, Slots.first_diagnosis_of}
 use Rattle.rb_slot.proofs.Convicting.{same_convicted}
 use Rattle.rb_listen.specs.Lessons.{vote_on}
 use Rattle.rb_listen.proofs.lesson.convicted_rmus.Goals as goal

@@ -1,12 +1,7 @@
-use Rattle.std.proofs.Common.{ℕ, ◌≤◌, ◌^◌, All, length, refl, sym, ◌∙◌, ap, subst, arith}
-use Rattle.std.proofs.Math.ListN.{length-set}
-use Rattle.std.proofs.lemmas.List.Edits.{fill_by_more}
-use Rattle.std.proofs.lemmas.List.Elements.{All-nil}
+use Rattle.std.proofs.{Common.{ℕ, ◌≤◌, ◌^◌, All, length, refl, sym, ◌∙◌, ap, subst, arith}, Math.ListN.length-set, lemmas.List.Edits.fill_by_more, lemmas.List.Elements.All-nil}
 use Rattle.rb_eligible.proofs.Evidence.{few_more, present_all, present_more, taken_all}
 use Rattle.rb_resync.proofs.Closings.{TakenUpTo, all_up_to}
-use Rattle.rb_rules.specs.ExactStage.{each_node, present}
-use Rattle.rb_rules.specs.Middle.{middle_of}
-use Rattle.rb_rules.specs.Sense.{stamp_in}
+use Rattle.rb_rules.specs.{ExactStage.{each_node, present}, Middle.middle_of, Sense.stamp_in}
 use Rattle.rb_listen.specs.Lessons.{recorded_of}
 use Rattle.rb_listen.proofs.Soon.{middle-soon, recorded-soon}
 use Rattle.rb_listen.proofs.lesson.middle_in.Goals as goal

@@ -1,6 +1,5 @@
 use Rattle.std.proofs.Common.{◌≡◌, ℕ, ◌<◌, ◌≤◌, ◌^◌, None, All, length, take, get_or}
-use Rattle.rb_rules.specs.ExactStage.{present}
-use Rattle.rb_rules.specs.Sense.{stamp_in}
+use Rattle.rb_rules.specs.{ExactStage.present, Sense.stamp_in}
 use Rattle.rb_listen.specs.Lessons.{recorded_of}
 use Rattle.rb_listen.proofs.lesson.middle_in.Given as goal
 

@@ -2,8 +2,8 @@ use Rattle.std.proofs.Common.{ℕ, Bool, ap, sym, ◌∙◌, arith}
 use Rattle.rb_base.proofs.SetLoops.{passing_none, passing_more, passing_same, passing_all}
 use Rattle.rb_rules.specs.Sense.{is_one}
 use Rattle.rb_listen.specs.Lessons.{record_of}
-use Rattle.rb_listen.proofs.lesson.ones_in.Goals as goal
 use Rattle.rb_listen.proofs.lesson.ones_in.Goals.{then-is_one, else-is_one}
+use Rattle.rb_listen.proofs.lesson.ones_in.Goals as goal
 
 pub loop-j-init : goal.loop-j-init
 loop-j-init c = c.empty-ones.ensures.value ∙ passing_none (λ i. is_one (record_of c.args.records.now c.args.slot i))

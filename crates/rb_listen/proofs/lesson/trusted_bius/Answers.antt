@@ -1,8 +1,8 @@
 use Rattle.std.proofs.Common.{ℕ, Bool, sym, ◌∙◌, arith}
 use Rattle.rb_base.proofs.SetLoops.{passing_none, passing_more, passing_same, passing_all}
 use Rattle.rb_listen.specs.Lessons.{trusts_biu}
-use Rattle.rb_listen.proofs.lesson.trusted_bius.Goals as goal
 use Rattle.rb_listen.proofs.lesson.trusted_bius.Goals.{then-trusts_biu, else-trusts_biu}
+use Rattle.rb_listen.proofs.lesson.trusted_bius.Goals as goal
 
 pub loop-i-init : goal.loop-i-init
 loop-i-init c = c.empty-trusted.ensures.value ∙ passing_none (trusts_biu c.args.shape.now c.args.records.now)

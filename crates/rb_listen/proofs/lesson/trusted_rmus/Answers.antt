@@ -1,8 +1,8 @@
 use Rattle.std.proofs.Common.{ℕ, Bool, sym, ◌∙◌, arith}
 use Rattle.rb_base.proofs.SetLoops.{passing_none, passing_more, passing_same, passing_all}
 use Rattle.rb_listen.specs.Lessons.{trusts_rmu}
-use Rattle.rb_listen.proofs.lesson.trusted_rmus.Goals as goal
 use Rattle.rb_listen.proofs.lesson.trusted_rmus.Goals.{then-trusts_rmu, else-trusts_rmu}
+use Rattle.rb_listen.proofs.lesson.trusted_rmus.Goals as goal
 
 pub loop-j-init : goal.loop-j-init
 loop-j-init c = c.empty-trusted.ensures.value ∙ passing_none (trusts_rmu c.args.shape.now c.args.records.now)

@@ -1,10 +1,6 @@
-use Rattle.std.proofs.Common.{refl, ◌∙◌, ap, arith}
-use Rattle.std.proofs.Math.ListN.{length-set}
-use Rattle.std.proofs.lemmas.List.Edits.{fill_by_more}
+use Rattle.std.proofs.{Common.{refl, ◌∙◌, ap, arith}, Math.ListN.length-set, lemmas.List.Edits.fill_by_more}
 use Rattle.rb_eligible.proofs.Evidence.{taken_all}
-use Rattle.rb_rules.specs.ExactStage.{present}
-use Rattle.rb_rules.specs.Majority.{majority_of}
-use Rattle.rb_rules.specs.Sense.{value_in}
+use Rattle.rb_rules.specs.{ExactStage.present, Majority.majority_of, Sense.value_in}
 use Rattle.rb_listen.specs.Lessons.{recorded_of}
 use Rattle.rb_listen.proofs.lesson.vote_on.Goals as goal
 

@@ -1,11 +1,7 @@
 use Rattle.std.proofs.Common.{◌≡◌, true, false, sym, ◌∙◌, ap}
 use Rattle.rb_base.specs.Nodes.Side.{Biu}
-use Rattle.rb_rules.specs.Core.{is_tick}
-use Rattle.rb_rules.specs.NodeState.{NodeState}
-use Rattle.rb_rules.specs.SyncStage.{new_epoch_of}
-use Rattle.rb_node.proofs.Busy.{no-turn}
-use Rattle.rb_node.proofs.Steps.{Turned, turns}
-use Rattle.rb_node.proofs.Turning.{turns-is}
+use Rattle.rb_rules.specs.{Core.is_tick, NodeState.NodeState, SyncStage.new_epoch_of}
+use Rattle.rb_node.proofs.{Busy.no-turn, Steps.{Turned, turns}, Turning.turns-is}
 use Rattle.rb_listen.proofs.parts.turn_at.Goals as goal
 
 pub window_of-requires-clause-epoch : goal.window_of-requires-clause-epoch

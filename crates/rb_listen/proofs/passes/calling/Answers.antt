@@ -2,8 +2,8 @@
 use Rattle.std.proofs.Common.{ℕ, Bool, None, get_or, ap, sym, ◌∙◌, arith}
 use Rattle.rb_base.proofs.SetLoops.{passing_none, passing_more, passing_same, passing_all}
 use Rattle.rb_listen.specs.Passes.{falls_in}
-use Rattle.rb_listen.proofs.passes.calling.Goals as goal
 use Rattle.rb_listen.proofs.passes.calling.Goals.{then-falls_in, else-falls_in}
+use Rattle.rb_listen.proofs.passes.calling.Goals as goal
 
 pub loop-j-init : goal.loop-j-init
 loop-j-init c = c.empty-calling.ensures.value ∙ passing_none (λ i. falls_in c.args.reach c.args.frame c.args.from (get_or c.args.newest.now i None))

@@ -1,7 +1,6 @@
 -- The words so far are written, and the others wait.
 use Rattle.std.proofs.Common.{◌≡◌, ◌≤◌, take}
-use Rattle.std.specs.Io.KnownBytes.{Appends}
-use Rattle.std.specs.List.{flat_map}
+use Rattle.std.specs.{Io.KnownBytes.Appends, List.flat_map}
 use Rattle.rb_long.specs.Spelling.{spelling_of}
 use Rattle.rb_report.specs.Report.{word_text}
 use Rattle.rb_long_run.proofs.Words.{left_of}

@@ -1,7 +1,6 @@
 use Rattle.std.proofs.Common.{◌+◌, ◌≤◌, Some}
 use Rattle.rb_node.specs.Aheads.{IsSooner}
-use Rattle.rb_node.proofs.Busy.{chosen-sooner, not-over, says-in, soonest-is}
-use Rattle.rb_node.proofs.Windows.{has-ticks}
+use Rattle.rb_node.proofs.{Busy.{chosen-sooner, not-over, says-in, soonest-is}, Windows.has-ticks}
 use Rattle.rb_node.proofs.ahead.busy_tick.Goals as goal
 
 pub sooner_said-requires-clause-ends : goal.sooner_said-requires-clause-ends

@@ -1,8 +1,6 @@
 use Rattle.std.proofs.Common.{◌≡◌, ◌<◌, ◌∙◌, ap, arith}
-use Rattle.rb_base.specs.Nodes.{side_of}
-use Rattle.rb_base.specs.Sizes.{sync_slot_of}
-use Rattle.rb_node.proofs.Numbering.{ends-later, numbered-here}
-use Rattle.rb_node.proofs.Windows.{has-ticks}
+use Rattle.rb_base.specs.{Nodes.side_of, Sizes.sync_slot_of}
+use Rattle.rb_node.proofs.{Numbering.{ends-later, numbered-here}, Windows.has-ticks}
 use Rattle.rb_node.proofs.ahead.sooner_said.Goals as goal
 
 pub sooner_word-requires-clause-slot : goal.sooner_word-requires-clause-slot

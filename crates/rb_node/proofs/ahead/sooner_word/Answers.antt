@@ -2,8 +2,7 @@ use Rattle.std.proofs.Common.{◌≡◌, ◌+◌, ◌-◌, ◌<◌, Some, sym, �
 use Rattle.rb_base.specs.Nodes.{side_of}
 use Rattle.rb_rules.specs.declared.plan.Plan.{Plan}
 use Rattle.rb_rules.proofs.Lawfulness.{sends_inside_all}
-use Rattle.rb_node.proofs.Numbering.{IsNumbered, numbered-here, own-stage, sent-here}
-use Rattle.rb_node.proofs.Windows.{has-ticks}
+use Rattle.rb_node.proofs.{Numbering.{IsNumbered, numbered-here, own-stage, sent-here}, Windows.has-ticks}
 use Rattle.rb_node.proofs.ahead.sooner_word.Goals as goal
 
 pub sooner_due-requires-clause-tick : goal.sooner_due-requires-clause-tick

@@ -1,8 +1,6 @@
 use Rattle.std.proofs.Common.{◌≡◌, true, false, sym, ◌∙◌, ap}
-use Rattle.rb_base.specs.Nodes.{side_of}
-use Rattle.rb_base.specs.Sizes.{Sizes}
-use Rattle.rb_rules.specs.Core.{is_tick}
-use Rattle.rb_rules.specs.SyncStage.{new_epoch_of}
+use Rattle.rb_base.specs.{Nodes.side_of, Sizes.Sizes}
+use Rattle.rb_rules.specs.{Core.is_tick, SyncStage.new_epoch_of}
 use Rattle.rb_node.specs.Wants.{slot_of_words, want_for}
 use Rattle.rb_node.proofs.Turning.{first-is-due, first-is-not, want-first, want-silent, want-turned}
 use Rattle.rb_node.proofs.ahead.want_at.Goals as goal

@@ -1,8 +1,6 @@
 use Rattle.std.proofs.Common.{◌<◌, ◌≤◌, subst, sym, arith}
 use Rattle.rb_base.specs.Nodes.{side_of}
-use Rattle.rb_node.proofs.Busy.{chosen-sooner, soonest-on}
-use Rattle.rb_node.proofs.Numbering.{ends-later, numbered-here}
-use Rattle.rb_node.proofs.Windows.{has-ticks}
+use Rattle.rb_node.proofs.{Busy.{chosen-sooner, soonest-on}, Numbering.{ends-later, numbered-here}, Windows.has-ticks}
 use Rattle.rb_node.proofs.ahead.word_or_end.Goals as goal
 
 pub sooner_word-requires-clause-had : goal.sooner_word-requires-clause-had

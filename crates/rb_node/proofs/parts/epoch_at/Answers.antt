@@ -1,7 +1,5 @@
 use Rattle.std.proofs.Common.{◌≡◌, ◌&&◌, nat_lt, not, ◌∙◌, ap, sym}
-use Rattle.rb_base.specs.Nodes.{has, set_of, side_of}
-use Rattle.rb_base.specs.Nodes.Side.{Biu, Rmu}
-use Rattle.rb_base.specs.Sizes.{Sizes}
+use Rattle.rb_base.specs.{Nodes.{has, set_of, side_of}, Nodes.Side.{Biu, Rmu}, Sizes.Sizes}
 use Rattle.rb_rules.specs.NodeSteps.{convicted_of}
 use Rattle.rb_node.proofs.Acting.{begun-is, convicted-is}
 use Rattle.rb_node.proofs.parts.epoch_at.Goals as goal

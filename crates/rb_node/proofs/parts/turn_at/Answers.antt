@@ -1,13 +1,8 @@
 use Rattle.std.proofs.Common.{◌≡◌, true, false, sym, ◌∙◌, ap}
 use Rattle.rb_base.specs.Nodes.{side_of}
-use Rattle.rb_rules.specs.declared.plan.Window.{Window}
-use Rattle.rb_rules.specs.Core.{is_tick}
-use Rattle.rb_rules.specs.NodeState.{NodeState}
-use Rattle.rb_rules.specs.SyncStage.{new_epoch_of}
+use Rattle.rb_rules.specs.{declared.plan.Window.Window, Core.is_tick, NodeState.NodeState, SyncStage.new_epoch_of}
 use Rattle.rb_slot.specs.Engines.{Seated}
-use Rattle.rb_node.proofs.Busy.{no-turn, turned-epoch}
-use Rattle.rb_node.proofs.Steps.{Turned, turns}
-use Rattle.rb_node.proofs.Turning.{silent-says, turns-is}
+use Rattle.rb_node.proofs.{Busy.{no-turn, turned-epoch}, Steps.{Turned, turns}, Turning.{silent-says, turns-is}}
 use Rattle.rb_node.proofs.parts.turn_at.Goals as goal
 
 pub window_of-ahead-requires-clause-epoch : goal.window_of-ahead-requires-clause-epoch

@@ -1,6 +1,5 @@
 -- the bytes of one more write come next
-use Rattle.std.proofs.Common.{rules}
-use Rattle.std.proofs.lemmas.List.{take_rest}
+use Rattle.std.proofs.{Common.rules, lemmas.List.take_rest}
 use Rattle.rb_outside.proofs.Known.{appends_next}
 use Rattle.rb_outside.proofs.whole.write_all.Goals as goal
 

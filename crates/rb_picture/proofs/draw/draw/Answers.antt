@@ -1,9 +1,5 @@
 use Rattle.std.proofs.Common.{◌≡◌, ◌⊎◌, inl, inr, refl, subst, sym}
-use Rattle.rb_picture.specs.declared.form.Form.TheVariants.{Draw, Show}
-use Rattle.rb_picture.specs.declared.status.Status.{Status}
-use Rattle.rb_picture.specs.declared.status.Status.TheVariants.{Done, Refused, WriteFault}
-use Rattle.rb_picture.specs.Answers.{WritesNothing}
-use Rattle.rb_picture.specs.Forms.{AskFor}
+use Rattle.rb_picture.specs.{declared.form.Form.TheVariants.{Draw, Show}, declared.status.Status.Status, declared.status.Status.TheVariants.{Done, Refused, WriteFault}, Answers.WritesNothing, Forms.AskFor}
 use Rattle.rb_picture.proofs.Words.{no_frames}
 use Rattle.rb_picture.proofs.draw.draw.Goals as goal
 

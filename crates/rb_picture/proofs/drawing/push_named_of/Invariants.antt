@@ -1,6 +1,5 @@
 use Rattle.std.proofs.Common.{◌≡◌}
-use Rattle.rb_picture.specs.Markup.{each_below}
-use Rattle.rb_picture.specs.Drawing.{with_named}
+use Rattle.rb_picture.specs.{Markup.each_below, Drawing.with_named}
 use Rattle.rb_picture.proofs.drawing.push_named_of.Given as goal
 
 abbrev pub invariant-loop-number : goal.invariant-loop-number

@@ -1,6 +1,5 @@
 use Rattle.std.proofs.Common.{◌≡◌}
-use Rattle.rb_picture.specs.Markup.{each_below}
-use Rattle.rb_picture.specs.Drawing.{with_sender}
+use Rattle.rb_picture.specs.{Markup.each_below, Drawing.with_sender}
 use Rattle.rb_picture.proofs.drawing.push_senders.Given as goal
 
 abbrev pub invariant-loop-sender : goal.invariant-loop-sender

@@ -1,6 +1,5 @@
 use Rattle.std.proofs.Common.{◌≡◌}
-use Rattle.rb_picture.specs.Markup.{each_below}
-use Rattle.rb_picture.specs.Drawing.{with_slot_number}
+use Rattle.rb_picture.specs.{Markup.each_below, Drawing.with_slot_number}
 use Rattle.rb_picture.proofs.drawing.push_slots.Given as goal
 
 abbrev pub invariant-loop-slot : goal.invariant-loop-slot

@@ -1,5 +1,4 @@
-use Rattle.std.proofs.Common.{◌∙◌}
-use Rattle.std.proofs.lemmas.List.{take_rest}
+use Rattle.std.proofs.{Common.{◌∙◌}, lemmas.List.take_rest}
 use Rattle.rb_picture.proofs.Turns.{line_turn}
 use Rattle.rb_picture.proofs.drawn.push_lines.Goals as goal
 

@@ -1,5 +1,4 @@
-use Rattle.std.proofs.Common.{◌≡◌, ◌∙◌, codes, refl, sym, arith}
-use Rattle.std.proofs.lemmas.Slice.Eq.{bytes_eq-Decides}
+use Rattle.std.proofs.{Common.{◌≡◌, ◌∙◌, codes, refl, sym, arith}, lemmas.Slice.Eq.bytes_eq-Decides}
 use Rattle.rb_base.specs.declared.values.Heard.TheVariants.{Word, Fault}
 use Rattle.rb_picture.proofs.Spaces.{no_number}
 use Rattle.rb_picture.proofs.field.heard_in.Goals as goal

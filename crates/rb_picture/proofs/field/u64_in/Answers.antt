@@ -1,6 +1,5 @@
-use Rattle.std.proofs.Common.{◌∙◌, ap}
+use Rattle.std.proofs.{Common.{◌∙◌, ap}, lemmas.Fmt.parse-decimal}
 use Rattle.std.specs.Result.{result_ok}
-use Rattle.std.proofs.lemmas.Fmt.{parse-decimal}
 use Rattle.rb_picture.proofs.field.u64_in.Goals as goal
 
 pub returns : goal.returns

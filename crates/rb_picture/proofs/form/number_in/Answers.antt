@@ -1,9 +1,5 @@
-use Rattle.std.proofs.Common.{◌≡◌, ◌∙◌, sym, ap, true, Ok, arith}
-use Rattle.std.specs.Fmt.{decimal}
-use Rattle.std.specs.Str.{bytes_eq}
-use Rattle.std.proofs.lemmas.Bool.{false≢true}
-use Rattle.std.proofs.lemmas.Fmt.{parse-decimal}
-use Rattle.std.proofs.lemmas.Slice.Eq.{bytes_eq-Decides}
+use Rattle.std.proofs.{Common.{◌≡◌, ◌∙◌, sym, ap, true, Ok, arith}, lemmas.Bool.false≢true, lemmas.Fmt.parse-decimal, lemmas.Slice.Eq.bytes_eq-Decides}
+use Rattle.std.specs.{Fmt.decimal, Str.bytes_eq}
 use Rattle.rb_picture.proofs.form.number_in.Goals as goal
 
 pub returns-in-Err-clause-none : goal.returns-in-Err-clause-none

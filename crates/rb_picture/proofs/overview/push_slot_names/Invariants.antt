@@ -1,6 +1,5 @@
 use Rattle.std.proofs.Common.{◌≡◌}
-use Rattle.rb_picture.specs.Markup.{each_below}
-use Rattle.rb_picture.specs.Overview.{with_slot_name}
+use Rattle.rb_picture.specs.{Markup.each_below, Overview.with_slot_name}
 use Rattle.rb_picture.proofs.overview.push_slot_names.Given as goal
 
 abbrev pub invariant-loop-slot : goal.invariant-loop-slot

@@ -1,6 +1,6 @@
 use Rattle.std.proofs.Common.{◌∙◌, arith}
-use Rattle.rb_picture.specs.declared.line.Line.TheVariants as line
 use Rattle.rb_picture.proofs.Parts.{part_is}
+use Rattle.rb_picture.specs.declared.line.Line.TheVariants as line
 use Rattle.rb_picture.proofs.reading.breach_in.Goals as goal
 
 pub returns : goal.returns

@@ -1,6 +1,5 @@
-use Rattle.std.proofs.Common.{◌∙◌, sym, subst}
+use Rattle.std.proofs.{Common.{◌∙◌, sym, subst}, lemmas.Str.IsUtf8-from_ascii}
 use Rattle.std.specs.Str.{IsAscii}
-use Rattle.std.proofs.lemmas.Str.{IsUtf8-from_ascii}
 use Rattle.rb_picture.proofs.Parts.{body_ascii}
 use Rattle.rb_picture.proofs.reading.line_of_text.Goals as goal
 

@@ -1,8 +1,6 @@
-use Rattle.std.proofs.Common.{Ok, Err, subst, drop, length, arith, ◌≤◌}
-use Rattle.std.proofs.lemmas.List.{take_rest}
+use Rattle.std.proofs.{Common.{Ok, Err, subst, drop, length, arith, ◌≤◌}, lemmas.List.take_rest}
 use Rattle.rb_picture.specs.Lines.{FailsBehind, FindsEach, StandsFirst}
-use Rattle.rb_picture.proofs.Orders.{ends_early, fails_here, few_more, grown}
-use Rattle.rb_picture.proofs.Whole.{goes_on, left_some, no_report_here, no_report_without_end}
+use Rattle.rb_picture.proofs.{Orders.{ends_early, fails_here, few_more, grown}, Whole.{goes_on, left_some, no_report_here, no_report_without_end}}
 use Rattle.rb_picture.proofs.reading.lines_in.Goals as goal
 
 pub loop-at-preserved : goal.loop-at-preserved

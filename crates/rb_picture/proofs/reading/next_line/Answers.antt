@@ -1,7 +1,6 @@
 use Rattle.std.proofs.Common.{◌≡◌, length, ap, arith}
 use Rattle.rb_picture.specs.Lines.{line_place, line_text}
-use Rattle.rb_picture.proofs.Orders.{some_bytes, too_early}
-use Rattle.rb_picture.proofs.Whole.{found_is, its_length, its_line, its_text, no_feed, not_spelled}
+use Rattle.rb_picture.proofs.{Orders.{some_bytes, too_early}, Whole.{found_is, its_length, its_line, its_text, no_feed, not_spelled}}
 use Rattle.rb_picture.proofs.reading.next_line.Goals as goal
 
 pub returns-in_default-clause-fault : goal.returns-in_default-clause-fault

@@ -1,6 +1,5 @@
 -- The first inequality that fails is found, or all hold.
-use Rattle.std.proofs.Common.{◌≡◌, arith, true, false}
-use Rattle.std.proofs.lemmas.Int.{to_z-of_z}
+use Rattle.std.proofs.{Common.{◌≡◌, arith, true, false}, lemmas.Int.to_z-of_z}
 use Rattle.rb_plan.proofs.Failing.{fails, fails_first, holds_next, none_fails, all_hold}
 use Rattle.rb_plan.proofs.Feasible.new.Goals as goal
 

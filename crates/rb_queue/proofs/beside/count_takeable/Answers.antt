@@ -1,8 +1,6 @@
 use Rattle.std.proofs.Common.{◌≡◌, ◌+◌, length, arith, ap, ◌∙◌}
 use Rattle.rb_base.specs.Counting.{count_if}
-use Rattle.rb_queue.specs.Waiting.{tick_at}
-use Rattle.rb_queue.specs.Queued.{senders_at, ticks_at}
-use Rattle.rb_queue.specs.Scanning.{is_between}
+use Rattle.rb_queue.specs.{Waiting.tick_at, Queued.{senders_at, ticks_at}, Scanning.is_between}
 use Rattle.rb_queue.proofs.Besides.{count_senders, count_ticks, counted, uncounted}
 use Rattle.rb_queue.proofs.beside.count_takeable.Goals as goal
 

@@ -1,5 +1,4 @@
-use Rattle.std.proofs.Common.{rules, ap, ◌∙◌, filter, nat_le, Bool}
-use Rattle.std.proofs.lemmas.Fn.{filter_same}
+use Rattle.std.proofs.{Common.{rules, ap, ◌∙◌, filter, nat_le, Bool}, lemmas.Fn.filter_same}
 use Rattle.rb_queue.specs.declared.arrival.Arrival.{Arrival}
 use Rattle.rb_queue.proofs.lane.keep_later.Goals as goal
 

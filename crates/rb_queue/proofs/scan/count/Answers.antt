@@ -1,5 +1,4 @@
-use Rattle.std.proofs.Common.{◌≡◌, ◌<◌, length, arith, cond, subst}
-use Rattle.std.proofs.lemmas.Grind.{common_steps}
+use Rattle.std.proofs.{Common.{◌≡◌, ◌<◌, length, arith, cond, subst}, lemmas.Grind.common_steps}
 use Rattle.rb_base.proofs.Counts.{once}
 use Rattle.rb_queue.specs.Scanning.{is_between}
 use Rattle.rb_queue.proofs.Sources.{count_more}

@@ -1,7 +1,6 @@
 use Rattle.std.proofs.Common.{◌≡◌, length, arith, sym, ◌∙◌}
 use Rattle.rb_queue.specs.Waiting.{arrivals_at, tick_at}
-use Rattle.rb_queue.proofs.Sources.{count_arrivals}
-use Rattle.rb_queue.proofs.Readiness.{counted, uncounted}
+use Rattle.rb_queue.proofs.{Sources.count_arrivals, Readiness.{counted, uncounted}}
 use Rattle.rb_queue.proofs.scan.count_ready.Goals as goal
 
 pub returns-then-arriving-gt0-clause-value : goal.returns-then-arriving-gt0-clause-value

@@ -1,7 +1,6 @@
 use Rattle.std.proofs.Common.{◌<◌, length, arith, sym, ◌∙◌}
-use Rattle.rb_queue.proofs.Sources.{lowest_new, lowest_stays}
+use Rattle.rb_queue.proofs.{Sources.{lowest_new, lowest_stays}, scan.lowest_source.Goals.{then-is_between, else-is_between}}
 use Rattle.rb_queue.proofs.scan.lowest_source.Goals as goal
-use Rattle.rb_queue.proofs.scan.lowest_source.Goals.{then-is_between, else-is_between}
 
 pub loop-arrival-preserved : goal.loop-arrival-preserved
 loop-arrival-preserved c =

@@ -1,9 +1,7 @@
 use Rattle.std.proofs.Common.{refl, sym, ◌∙◌, arith}
 use Rattle.std.specs.Prelude.{IsErr, IsOk}
 use Rattle.rb_run.specs.Runs.{EndsWith}
-use Rattle.rb_record.proofs.Ends.{few-going}
-use Rattle.rb_record.proofs.Observed.{cause-err, cause-ok, comes-to-end, comes-to-next, ends-with, goes-further, is-err, is-ok, none-yet, part-then}
-use Rattle.rb_record.proofs.Writing.{if-err}
+use Rattle.rb_record.proofs.{Ends.few-going, Observed.{cause-err, cause-ok, comes-to-end, comes-to-next, ends-with, goes-further, is-err, is-ok, none-yet, part-then}, Writing.if-err}
 use Rattle.rb_record.proofs.recording.record_run.Goals as goal
 
 pub loop-passed-init : goal.loop-passed-init

@@ -1,7 +1,6 @@
 use Rattle.std.proofs.Common.{◌-◌, ◌≤◌, ap, arith}
 use Rattle.rb_log.specs.Cursor.{shown}
-use Rattle.rb_replay.proofs.Events.{first-is, none-left}
-use Rattle.rb_replay.proofs.Skips.{finds, goes-past, is-over, leaves-out, passes-over}
+use Rattle.rb_replay.proofs.{Events.{first-is, none-left}, Skips.{finds, goes-past, is-over, leaves-out, passes-over}}
 use Rattle.rb_replay.proofs.overhearing.find_tick.Goals as goal
 
 pub returns-then-left-eq0-clause-found : goal.returns-then-left-eq0-clause-found

@@ -1,8 +1,7 @@
 use Rattle.std.proofs.Common.{◌+◌, rules}
 use Rattle.rb_base.proofs.Plain.{on_err}
 use Rattle.rb_replay.specs.ListeningOn.{IsDue}
-use Rattle.rb_replay.proofs.Advanced.{advances-so}
-use Rattle.rb_replay.proofs.HeedsDue.{tick-advances, tick-part}
+use Rattle.rb_replay.proofs.{Advanced.advances-so, HeedsDue.{tick-advances, tick-part}}
 use Rattle.rb_replay.proofs.overhearing.give_ticks.Goals as goal
 
 pub returns-clause-gives : goal.returns-clause-gives

@@ -1,8 +1,7 @@
 use Rattle.std.proofs.Common.{rules}
 use Rattle.rb_base.proofs.Plain.{on_err}
 use Rattle.rb_replay.specs.ListeningOn.{IsDue}
-use Rattle.rb_replay.proofs.Advanced.{advances-writes}
-use Rattle.rb_replay.proofs.HeedsDue.{ends-at-once, first-due, from-none}
+use Rattle.rb_replay.proofs.{Advanced.advances-writes, HeedsDue.{ends-at-once, first-due, from-none}}
 use Rattle.rb_replay.proofs.overhearing.listen.Goals as goal
 
 pub returns-then-not-find_tick : goal.returns-then-not-find_tick

@@ -4,9 +4,7 @@ use Rattle.rb_log.specs.Cursor.{shown}
 use Rattle.rb_report.specs.Report.{end_text}
 use Rattle.rb_listen.specs.Listening.{had_by}
 use Rattle.rb_replay.specs.ListeningOn.{IsDue}
-use Rattle.rb_replay.proofs.Advanced.{advances-is, advances-more, advances-none, advances-part, ends}
-use Rattle.rb_replay.proofs.HeedsDue.{end-is}
-use Rattle.rb_replay.proofs.Events.{first-is, none-left}
+use Rattle.rb_replay.proofs.{Advanced.{advances-is, advances-more, advances-none, advances-part, ends}, HeedsDue.end-is, Events.{first-is, none-left}}
 use Rattle.rb_replay.proofs.overhearing.listen_on.Goals as goal
 
 pub events-init : goal.events-init

@@ -1,7 +1,6 @@
 -- what was written and what is due are all that was due at first
 use Rattle.std.proofs.Common.{◌≤◌, List, ℕ, length}
-use Rattle.rb_replay.specs.Advancing.{Advances}
-use Rattle.rb_replay.specs.ListeningOn.{IsDue}
+use Rattle.rb_replay.specs.{Advancing.Advances, ListeningOn.IsDue}
 use Rattle.rb_replay.proofs.overhearing.listen_on.Given as goal
 
 abbrev pub invariant-events : goal.invariant-events

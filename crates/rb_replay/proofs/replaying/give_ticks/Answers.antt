@@ -2,8 +2,7 @@ use Rattle.std.proofs.Common.{◌+◌, rules}
 use Rattle.rb_base.specs.Nodes.{side_of}
 use Rattle.rb_base.proofs.Plain.{on_err}
 use Rattle.rb_replay.specs.Replaying.{IsDue}
-use Rattle.rb_replay.proofs.ActsDue.{tick-advances, tick-part}
-use Rattle.rb_replay.proofs.Advanced.{advances-so}
+use Rattle.rb_replay.proofs.{ActsDue.{tick-advances, tick-part}, Advanced.advances-so}
 use Rattle.rb_replay.proofs.replaying.give_ticks.Goals as goal
 
 pub returns-clause-gives : goal.returns-clause-gives

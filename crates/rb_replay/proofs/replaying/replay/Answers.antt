@@ -1,7 +1,6 @@
 use Rattle.std.proofs.Common.{ap, subst, sym}
 use Rattle.rb_base.specs.Nodes.Side.{Biu, Rmu}
-use Rattle.rb_laws_logs.specs.Given.{index_of}
-use Rattle.rb_laws_logs.specs.Replays.{replay_text}
+use Rattle.rb_laws_logs.specs.{Given.index_of, Replays.replay_text}
 use Rattle.rb_plan.specs.Timetable.{Timetable}
 use Rattle.rb_rules.specs.Lawful.{kind_of}
 use Rattle.rb_replay.specs.Replaying.{IsDue}

@@ -4,9 +4,7 @@ use Rattle.rb_base.proofs.Plain.{on_err}
 use Rattle.rb_log.specs.Cursor.{shown}
 use Rattle.rb_laws_logs.specs.Replays.{replay_text}
 use Rattle.rb_replay.specs.Replaying.{IsDue}
-use Rattle.rb_replay.proofs.ActsDue.{end-is}
-use Rattle.rb_replay.proofs.Advanced.{advances-is, advances-more, advances-none, advances-part, ends}
-use Rattle.rb_replay.proofs.Events.{first-is, none-left}
+use Rattle.rb_replay.proofs.{ActsDue.end-is, Advanced.{advances-is, advances-more, advances-none, advances-part, ends}, Events.{first-is, none-left}}
 use Rattle.rb_replay.proofs.replaying.replay_at.Goals as goal
 
 pub events-init : goal.events-init

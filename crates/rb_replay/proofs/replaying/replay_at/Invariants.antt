@@ -2,8 +2,7 @@
 use Rattle.std.proofs.Common.{◌≤◌, ◌^◌, length}
 use Rattle.rb_base.specs.Nodes.{side_of}
 use Rattle.rb_laws_logs.specs.Replays.{replay_text}
-use Rattle.rb_replay.specs.Advancing.{Advances}
-use Rattle.rb_replay.specs.Replaying.{IsDue}
+use Rattle.rb_replay.specs.{Advancing.Advances, Replaying.IsDue}
 use Rattle.rb_replay.proofs.replaying.replay_at.Given as goal
 
 abbrev pub invariant-events : goal.invariant-events

@@ -1,7 +1,6 @@
 use Rattle.std.proofs.Common.{sym}
 use Rattle.rb_base.specs.Nodes.{has}
-use Rattle.rb_eligible.specs.Inboxes.{sense_in}
-use Rattle.rb_eligible.specs.Standings.{standing_of}
+use Rattle.rb_eligible.specs.{Inboxes.sense_in, Standings.standing_of}
 use Rattle.rb_eligible.proofs.Quiet.{quiet_accuses, quiet_takes}
 use Rattle.rb_round.proofs.Closings.{nothing_closing}
 use Rattle.rb_round.proofs.close.close_in_place.Goals as goal

@@ -1,9 +1,7 @@
 use Rattle.std.proofs.Common.{◌≡◌, None, Some, refl, sym, ◌∙◌, arith}
 use Rattle.rb_world_book.specs.Records.{record_of}
 use Rattle.rb_run.specs.Runs.{end_at}
-use Rattle.rb_run.proofs.Counted.{all-counted, none-counted, one-counted}
-use Rattle.rb_run.proofs.Histories.{has-driven, moves-on, sets-out, still-on}
-use Rattle.rb_run.proofs.UnderWay.{ends-so, few-turns, goes}
+use Rattle.rb_run.proofs.{Counted.{all-counted, none-counted, one-counted}, Histories.{has-driven, moves-on, sets-out, still-on}, UnderWay.{ends-so, few-turns, goes}}
 use Rattle.rb_run.proofs.counting.tally.Goals as goal
 
 pub loop-passed-init : goal.loop-passed-init

@@ -1,7 +1,6 @@
 -- The turns so far were given and counted, and the run goes on.
 use Rattle.std.proofs.Common.{◌≡◌, ◌≤◌, ◌*◌, false}
-use Rattle.rb_run.proofs.Counted.{IsCounted}
-use Rattle.rb_run.proofs.Histories.{IsOnItsWay}
+use Rattle.rb_run.proofs.{Counted.IsCounted, Histories.IsOnItsWay}
 use Rattle.rb_run.proofs.counting.tally.Given as goal
 
 abbrev pub invariant-loop-passed : goal.invariant-loop-passed

@@ -1,5 +1,4 @@
-use Rattle.std.proofs.Common.{rules}
-use Rattle.std.proofs.lemmas.Result.{on_ok_weaker}
+use Rattle.std.proofs.{Common.rules, lemmas.Result.on_ok_weaker}
 use Rattle.rb_outside.proofs.Known.{appends_join}
 use Rattle.rb_run.proofs.Texts.{part-last}
 use Rattle.rb_run.proofs.report.write_block.Goals as goal

@@ -2,8 +2,7 @@ use Rattle.std.proofs.Common.{◌≡◌, List, subst, rules, arith}
 use Rattle.rb_base.proofs.Plain.{on_err}
 use Rattle.rb_rules.specs.declared.record.SlotLine.{SlotLine}
 use Rattle.rb_outside.specs.Bytes.{AppendsPart}
-use Rattle.rb_report.specs.Report.{delivery_text}
-use Rattle.rb_report.specs.Texts.{deliveries_text}
+use Rattle.rb_report.specs.{Report.delivery_text, Texts.deliveries_text}
 use Rattle.rb_run.proofs.Lines.{lines-more, lines-part}
 use Rattle.rb_run.proofs.report.write_deliveries.Goals as goal
 

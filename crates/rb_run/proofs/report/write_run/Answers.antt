@@ -2,9 +2,7 @@ use Rattle.std.proofs.Common.{◌≡◌, None, Some, refl, sym, ◌∙◌, rules
 use Rattle.rb_base.proofs.Plain.{on_err}
 use Rattle.rb_world_book.specs.Records.{record_of}
 use Rattle.rb_run.specs.Runs.{end_at}
-use Rattle.rb_run.proofs.Reported.{all-written, none-written, one-written, part-written}
-use Rattle.rb_run.proofs.Histories.{has-driven, has-driven-some, moves-on, sets-out, still-on}
-use Rattle.rb_run.proofs.UnderWay.{ends-so, few-turns, goes}
+use Rattle.rb_run.proofs.{Reported.{all-written, none-written, one-written, part-written}, Histories.{has-driven, has-driven-some, moves-on, sets-out, still-on}, UnderWay.{ends-so, few-turns, goes}}
 use Rattle.rb_run.proofs.report.write_run.Goals as goal
 
 pub loop-passed-init : goal.loop-passed-init

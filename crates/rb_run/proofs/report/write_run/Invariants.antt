@@ -1,7 +1,6 @@
 -- The turns so far were given and written, and the run goes on.
 use Rattle.std.proofs.Common.{◌≡◌, ◌≤◌, false}
-use Rattle.rb_run.proofs.Histories.{IsOnItsWay}
-use Rattle.rb_run.proofs.Reported.{IsWritten}
+use Rattle.rb_run.proofs.{Histories.IsOnItsWay, Reported.IsWritten}
 use Rattle.rb_run.proofs.report.write_run.Given as goal
 
 abbrev pub invariant-loop-passed : goal.invariant-loop-passed

@@ -1,13 +1,9 @@
 use Rattle.std.proofs.Common.{◌≡◌, ℕ, List, Option, true, false, not, length, sym, ap, ◌∙◌, subst}
 use Rattle.std.specs.List.{list_all}
 use Rattle.toml.specs.View.{table_view}
-use Rattle.rb_scenario.specs.Onsets.{is_good_by}
-use Rattle.rb_scenario_entries.specs.Outcome.{IsRefusalBy}
-use Rattle.rb_scenario.specs.Reading.{scenario_on}
-use Rattle.rb_scenario.specs.Rules.{are_few, are_sayers_faulty, start_together}
-use Rattle.rb_scenario_entries.specs.declared.refusal.Refusal.TheVariants.{SayOfGood}
-use Rattle.rb_scenario.proofs.Chain.{clocks_break, delays_break, few_break, none_breaks, plan_breaks, says_break, starts_break}
-use Rattle.rb_scenario.proofs.FitParts.{fit_parts}
+use Rattle.rb_scenario.specs.{Onsets.is_good_by, Reading.scenario_on, Rules.{are_few, are_sayers_faulty, start_together}}
+use Rattle.rb_scenario_entries.specs.{Outcome.IsRefusalBy, declared.refusal.Refusal.TheVariants.SayOfGood}
+use Rattle.rb_scenario.proofs.{Chain.{clocks_break, delays_break, few_break, none_breaks, plan_breaks, says_break, starts_break}, FitParts.fit_parts}
 use Rattle.rb_scenario.proofs.document.scenario_on.Goals as goal
 
 pub clocks_of-requires-clause-entries : goal.clocks_of-requires-clause-entries

@@ -1,5 +1,4 @@
-use Rattle.std.proofs.Common.{arith}
-use Rattle.std.proofs.lemmas.List.FromFn.{fill_by_all}
+use Rattle.std.proofs.{Common.arith, lemmas.List.FromFn.fill_by_all}
 use Rattle.toml.specs.View.{table_view}
 use Rattle.rb_scenario.specs.Hosts.{words_of, word_at}
 use Rattle.rb_scenario.proofs.hosts.words_of.Goals as goal

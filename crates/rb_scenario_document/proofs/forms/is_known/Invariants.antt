@@ -1,6 +1,5 @@
 use Rattle.std.proofs.Common.{◌≡◌, drop}
-use Rattle.rb_scenario_document.specs.Forms.{is_known}
-use Rattle.rb_scenario_document.specs.Shown.{fields_shown}
+use Rattle.rb_scenario_document.specs.{Forms.is_known, Shown.fields_shown}
 use Rattle.rb_scenario_document.proofs.forms.is_known.Given as goal
 
 abbrev pub invariant-loop-field : goal.invariant-loop-field

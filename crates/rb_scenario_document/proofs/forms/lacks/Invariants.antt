@@ -1,7 +1,6 @@
 use Rattle.std.proofs.Common.{◌≡◌, drop}
 use Rattle.toml.specs.View.{table_view}
-use Rattle.rb_scenario_document.specs.Forms.{lacks}
-use Rattle.rb_scenario_document.specs.Shown.{fields_shown}
+use Rattle.rb_scenario_document.specs.{Forms.lacks, Shown.fields_shown}
 use Rattle.rb_scenario_document.proofs.forms.lacks.Given as goal
 
 abbrev pub invariant-loop-field : goal.invariant-loop-field

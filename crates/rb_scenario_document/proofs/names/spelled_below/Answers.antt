@@ -1,5 +1,4 @@
-use Rattle.std.proofs.Common.{◌≡◌, arith, sym, ◌∙◌}
-use Rattle.std.proofs.lemmas.Fmt.{decimal_injective}
+use Rattle.std.proofs.{Common.{◌≡◌, arith, sym, ◌∙◌}, lemmas.Fmt.decimal_injective}
 use Rattle.rb_scenario_document.proofs.names.spelled_below.Goals as goal
 
 pub returns-in_default-clause-none : goal.returns-in_default-clause-none

@@ -1,5 +1,4 @@
-use Rattle.toml.specs.Data.{get_member}
-use Rattle.toml.specs.View.{table_view}
+use Rattle.toml.specs.{Data.get_member, View.table_view}
 use Rattle.rb_scenario_document.proofs.Walks.{listed-within}
 use Rattle.rb_scenario_document.proofs.values.listed_number.Goals as goal
 

@@ -1,5 +1,4 @@
-use Rattle.std.proofs.Common.{◌≡◌, ◌-◌, ℕ, true, arith, codes, sym, subst}
-use Rattle.std.proofs.lemmas.Bool.{leb-true}
+use Rattle.std.proofs.{Common.{◌≡◌, ◌-◌, ℕ, true, arith, codes, sym, subst}, lemmas.Bool.leb-true}
 use Rattle.toml.specs.View.{table_view}
 use Rattle.rb_scenario_entries.specs.Bus.{may_plan, planned}
 use Rattle.rb_scenario_entries.proofs.BusParts.{plan_parts, unit_parts, window_parts}

@@ -1,14 +1,9 @@
 use Rattle.std.proofs.Common.{◌≡◌, ℕ, arith, ap, ◌∙◌, subst}
 use Rattle.std.specs.List.{list_all}
 use Rattle.toml.specs.View.{table_view}
-use Rattle.rb_base.specs.Nodes.{side_of}
-use Rattle.rb_base.specs.declared.node.NodeName.{NodeName}
-use Rattle.rb_rules.specs.Clock.{Timeline}
-use Rattle.rb_rules.specs.Links.{name_of}
-use Rattle.rb_scenario_entries.specs.Clocks.{clock_for, kind_clocks}
-use Rattle.rb_scenario_entries.specs.Outcome.{IsRefusalBy}
-use Rattle.rb_scenario_entries.specs.Clocks.{keeps_time}
-use Rattle.rb_scenario_entries.specs.declared.refusal.Refusal.TheVariants.{ClockBounds}
+use Rattle.rb_base.specs.{Nodes.side_of, declared.node.NodeName.NodeName}
+use Rattle.rb_rules.specs.{Clock.Timeline, Links.name_of}
+use Rattle.rb_scenario_entries.specs.{Clocks.{clock_for, kind_clocks}, Outcome.IsRefusalBy, Clocks.keeps_time, declared.refusal.Refusal.TheVariants.ClockBounds}
 use Rattle.rb_scenario_entries.proofs.Finding.{all-below_fails, made_more, passing_more, refused_whole}
 use Rattle.rb_scenario_entries.proofs.clocks.add_clocks.Goals as goal
 

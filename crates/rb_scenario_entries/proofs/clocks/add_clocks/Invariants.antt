@@ -2,8 +2,7 @@ use Rattle.std.proofs.Common.{◌≡◌, ◌++◌, true}
 use Rattle.std.specs.List.{list_all}
 use Rattle.toml.specs.View.{table_view}
 use Rattle.rb_base.specs.Nodes.{side_of}
-use Rattle.rb_scenario_entries.specs.Clocks.{kind_clocks}
-use Rattle.rb_scenario_entries.specs.Clocks.{keeps_time}
+use Rattle.rb_scenario_entries.specs.{Clocks.kind_clocks, Clocks.keeps_time}
 use Rattle.rb_scenario_entries.proofs.clocks.add_clocks.Given as goal
 
 abbrev pub invariant-loop-index : goal.invariant-loop-index

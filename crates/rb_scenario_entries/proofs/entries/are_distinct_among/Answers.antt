@@ -1,8 +1,7 @@
 use Rattle.std.proofs.Common.{◌≡◌, ◌+◌, ◌&&◌, arith, get_or, drop, sym, ap, ◌∙◌}
 use Rattle.toml.specs.View.{items_view}
 use Rattle.rb_scenario_document.specs.Walk.{tables_in}
-use Rattle.rb_scenario_entries.specs.Entries.{nodes_in}
-use Rattle.rb_scenario_entries.specs.Seen.{are_new}
+use Rattle.rb_scenario_entries.specs.{Entries.nodes_in, Seen.are_new}
 use Rattle.rb_scenario_entries.proofs.Distinct.{are_new-more, new_at_first}
 use Rattle.rb_scenario_entries.proofs.entries.are_distinct_among.Goals as goal
 

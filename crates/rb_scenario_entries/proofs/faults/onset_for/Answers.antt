@@ -1,9 +1,7 @@
 use Rattle.std.proofs.Common.{◌≡◌, Some, codes}
 use Rattle.toml.specs.View.{table_view}
-use Rattle.rb_scenario_document.specs.Names.{node_at}
-use Rattle.rb_scenario_document.specs.Walk.{entries_at}
-use Rattle.rb_scenario_entries.specs.Entries.{entry_for, is_node}
-use Rattle.rb_scenario_entries.specs.Faults.{is_fault}
+use Rattle.rb_scenario_document.specs.{Names.node_at, Walk.entries_at}
+use Rattle.rb_scenario_entries.specs.{Entries.{entry_for, is_node}, Faults.is_fault}
 use Rattle.rb_scenario_entries.proofs.Finding.{found_passes}
 use Rattle.rb_scenario_entries.proofs.faults.onset_for.Goals as goal
 

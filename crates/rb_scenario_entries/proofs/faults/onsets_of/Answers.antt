@@ -1,5 +1,4 @@
-use Rattle.std.proofs.Common.{arith, None}
-use Rattle.std.proofs.lemmas.List.FromFn.{fill_by_all}
+use Rattle.std.proofs.{Common.{arith, None}, lemmas.List.FromFn.fill_by_all}
 use Rattle.toml.specs.View.{table_view}
 use Rattle.rb_base.specs.Nodes.{side_of}
 use Rattle.rb_rules.specs.Links.{name_of}

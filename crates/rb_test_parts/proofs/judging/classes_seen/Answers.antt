@@ -1,6 +1,5 @@
 use Rattle.std.proofs.Common.{◌∙◌, [], ap, arith}
-use Rattle.rb_base.specs.Nodes.{has}
-use Rattle.rb_base.specs.Nodes.Side.{Rmu}
+use Rattle.rb_base.specs.{Nodes.has, Nodes.Side.Rmu}
 use Rattle.rb_judge.proofs.Noting.{good_shown, noted_shown, shows_knows}
 use Rattle.rb_test_parts.proofs.judging.classes_seen.Goals as goal
 

@@ -1,6 +1,4 @@
-use Rattle.std.proofs.Common.{◌≡◌, ◌<◌, arith, refl}
-use Rattle.std.proofs.lemmas.Bool.{true≢false}
-use Rattle.std.proofs.lemmas.Option.{same_Some}
+use Rattle.std.proofs.{Common.{◌≡◌, ◌<◌, arith, refl}, lemmas.Bool.true≢false, lemmas.Option.same_Some}
 use Rattle.rb_test_rules.proofs.abstract_bus.beyond_the_nodes.Goals as goal
 
 pub returns-clause-long_frame : goal.returns-clause-long_frame

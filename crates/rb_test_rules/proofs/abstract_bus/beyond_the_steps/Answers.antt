@@ -1,5 +1,4 @@
-use Rattle.std.proofs.Common.{◌≤◌, arith, refl}
-use Rattle.std.proofs.lemmas.Bool.{true≢false}
+use Rattle.std.proofs.{Common.{◌≤◌, arith, refl}, lemmas.Bool.true≢false}
 use Rattle.rb_test_rules.proofs.abstract_bus.beyond_the_steps.Goals as goal
 
 pub returns-clause-short_frame : goal.returns-clause-short_frame

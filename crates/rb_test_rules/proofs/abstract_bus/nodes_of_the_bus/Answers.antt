@@ -1,7 +1,6 @@
 use Rattle.std.proofs.Common.{lit<, lit≤, refl}
 use Rattle.rb_base.specs.Nodes.Side.{Biu}
-use Rattle.rb_rules.specs.Book.{with_frame}
-use Rattle.rb_rules.specs.Rounds.{begin_frame}
+use Rattle.rb_rules.specs.{Book.with_frame, Rounds.begin_frame}
 use Rattle.rb_test_rules.specs.Parts.{biu}
 use Rattle.rb_test_rules.proofs.abstract_bus.nodes_of_the_bus.Goals as goal
 

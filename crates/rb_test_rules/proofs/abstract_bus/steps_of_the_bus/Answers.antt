@@ -1,9 +1,7 @@
 use Rattle.std.proofs.Common.{ℕ, zero, suc, ◌<◌, arith, refl}
-use Rattle.rb_base.specs.Nodes.{set_of, set_below}
-use Rattle.rb_base.specs.declared.values.Heard.TheVariants.{Word}
+use Rattle.rb_base.specs.{Nodes.{set_of, set_below}, declared.values.Heard.TheVariants.Word}
 use Rattle.rb_rules.specs.AbstractBus.{IsStep}
-use Rattle.rb_test_rules.specs.Abstract.{first_slots, offered}
-use Rattle.rb_test_rules.specs.Ordinary.{ordinary_use}
+use Rattle.rb_test_rules.specs.{Abstract.{first_slots, offered}, Ordinary.ordinary_use}
 use Rattle.rb_test_rules.proofs.abstract_bus.steps_of_the_bus.Goals as goal
 
 each : (n : ℕ) → n < 2 → IsStep ordinary_use offered (first_slots n) (first_slots (suc n))

@@ -1,15 +1,6 @@
 use Rattle.std.proofs.Common.{refl}
 use Rattle.rb_base.specs.Nodes.{set_of, set_below, size}
-use Rattle.rb_rules.specs.Book.{with_stage, with_frame}
-use Rattle.rb_rules.specs.Conviction.{turn, convicted_by}
-use Rattle.rb_rules.specs.Core.{state_at, said_at, act_on, act_at, tick, arrive, wants, is_busy}
-use Rattle.rb_rules.specs.ExactStage.{close_exact, outcome_of}
-use Rattle.rb_rules.specs.Hearing.{sending, row_of}
-use Rattle.rb_rules.specs.Judging.{classes_of, verdict_of}
-use Rattle.rb_rules.specs.Links.{delay_of}
-use Rattle.rb_rules.specs.Spelling.{message_in}
-use Rattle.rb_rules.specs.SyncStage.{close_sync, sync_outcome_of}
-use Rattle.rb_rules.specs.WorldStep.{ready_at, due_of, says_in, proceed, after_act, after_arrival, with_act, pass_and_tick, happens, take, go_on, first_world}
+use Rattle.rb_rules.specs.{Book.{with_stage, with_frame}, Conviction.{turn, convicted_by}, Core.{state_at, said_at, act_on, act_at, tick, arrive, wants, is_busy}, ExactStage.{close_exact, outcome_of}, Hearing.{sending, row_of}, Judging.{classes_of, verdict_of}, Links.delay_of, Spelling.message_in, SyncStage.{close_sync, sync_outcome_of}, WorldStep.{ready_at, due_of, says_in, proceed, after_act, after_arrival, with_act, pass_and_tick, happens, take, go_on, first_world}}
 use Rattle.rb_test_rules.proofs.events.runs_by_events.Goals as goal
 
 pub returns-clause-smallest_bus_by_first : goal.returns-clause-smallest_bus_by_first

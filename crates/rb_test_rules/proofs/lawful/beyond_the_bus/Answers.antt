@@ -1,9 +1,6 @@
-use Rattle.std.proofs.Common.{◌≡◌, ◌≤◌, ◌+◌, List, ◌∷◌, None, arith}
-use Rattle.std.proofs.lemmas.Bool.{false≢true}
-use Rattle.rb_rules.specs.Clock.{Timeline}
-use Rattle.rb_rules.specs.Lawful.{IsLawful}
-use Rattle.rb_test_rules.specs.Buses.{steady}
-use Rattle.rb_test_rules.specs.Ordinary.{ordinary_use}
+use Rattle.std.proofs.{Common.{◌≡◌, ◌≤◌, ◌+◌, List, ◌∷◌, None, arith}, lemmas.Bool.false≢true}
+use Rattle.rb_rules.specs.{Clock.Timeline, Lawful.IsLawful}
+use Rattle.rb_test_rules.specs.{Buses.steady, Ordinary.ordinary_use}
 use Rattle.rb_test_rules.proofs.lawful.beyond_the_bus.Goals as goal
 
 -- the first two clocks of a lawful scenario start near each other

@@ -1,8 +1,5 @@
-use Rattle.std.proofs.Common.{arith, inl, inr, refl}
-use Rattle.std.proofs.lemmas.Bool.{true≢false}
-use Rattle.rb_rules.specs.Entries.{IsListed}
-use Rattle.rb_rules.specs.Lawful.{IsSayOf}
-use Rattle.rb_rules.specs.declared.say.Say.{Say}
+use Rattle.std.proofs.{Common.{arith, inl, inr, refl}, lemmas.Bool.true≢false}
+use Rattle.rb_rules.specs.{Entries.IsListed, Lawful.IsSayOf, declared.say.Say.Say}
 use Rattle.rb_test_rules.specs.Lawful.{saying, saying_from}
 use Rattle.rb_test_rules.proofs.lawful.beyond_the_edge.Goals as goal
 

@@ -1,8 +1,5 @@
 use Rattle.std.proofs.Common.{◌≤◌, ◌<◌, arith}
-use Rattle.rb_rules.specs.Entries.{IsListed}
-use Rattle.rb_rules.specs.Lawful.{IsLawful, IsRuleOf, IsSayOf}
-use Rattle.rb_rules.specs.declared.link.Rule.{Rule}
-use Rattle.rb_rules.specs.declared.say.Say.{Say}
+use Rattle.rb_rules.specs.{Entries.IsListed, Lawful.{IsLawful, IsRuleOf, IsSayOf}, declared.link.Rule.Rule, declared.say.Say.Say}
 use Rattle.rb_test_rules.specs.Lawful.{ruled_by, saying}
 use Rattle.rb_test_rules.proofs.lawful.beyond_the_links.Goals as goal
 

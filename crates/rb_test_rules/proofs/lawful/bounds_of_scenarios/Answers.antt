@@ -1,11 +1,7 @@
-use Rattle.std.proofs.Common.{◌<◌, arith, refl}
-use Rattle.std.proofs.lemmas.Bool.{true≢false}
-use Rattle.rb_rules.specs.Entries.{IsListed}
-use Rattle.rb_rules.specs.Lawful.{IsSayOf}
-use Rattle.rb_rules.specs.declared.say.Say.{Say}
+use Rattle.std.proofs.{Common.{◌<◌, arith, refl}, lemmas.Bool.true≢false}
+use Rattle.rb_rules.specs.{Entries.IsListed, Lawful.IsSayOf, declared.say.Say.Say}
 use Rattle.rb_test_rules.proofs.LawfulTests.{lawful_by_tests}
-use Rattle.rb_test_rules.specs.Lawful.{saying}
-use Rattle.rb_test_rules.specs.Ordinary.{ordinary_use}
+use Rattle.rb_test_rules.specs.{Lawful.saying, Ordinary.ordinary_use}
 use Rattle.rb_test_rules.proofs.lawful.bounds_of_scenarios.Goals as goal
 
 -- the sole entry is one that the lawful scenario may have

@@ -1,6 +1,5 @@
 use Rattle.std.proofs.Common.{refl}
-use Rattle.rb_test_rules.specs.Floods.{flooding_rmu}
-use Rattle.rb_test_rules.specs.Ordinary.{greatest_drift}
+use Rattle.rb_test_rules.specs.{Floods.flooding_rmu, Ordinary.greatest_drift}
 use Rattle.rb_test_rules.proofs.LawfulTests.{lawful_by_tests}
 use Rattle.rb_test_rules.proofs.lawful.lawful_scenarios.Goals as goal
 

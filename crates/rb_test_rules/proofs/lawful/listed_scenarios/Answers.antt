@@ -1,7 +1,5 @@
 use Rattle.std.proofs.Common.{refl}
-use Rattle.rb_test_rules.specs.Lawful.{lies_at_the_edge}
-use Rattle.rb_test_rules.specs.Lies.{two_sided}
-use Rattle.rb_test_rules.specs.Resynchronisation.{apart_in_time}
+use Rattle.rb_test_rules.specs.{Lawful.lies_at_the_edge, Lies.two_sided, Resynchronisation.apart_in_time}
 use Rattle.rb_test_rules.proofs.LawfulTests.{lawful_by_tests, listed_by_tests}
 use Rattle.rb_test_rules.proofs.lawful.listed_scenarios.Goals as goal
 

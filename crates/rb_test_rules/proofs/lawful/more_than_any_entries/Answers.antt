@@ -1,9 +1,6 @@
-use Rattle.std.proofs.Common.{◌≡◌, filter, length, replicate, ap, arith}
-use Rattle.std.proofs.lemmas.List.{length-replicate}
+use Rattle.std.proofs.{Common.{◌≡◌, filter, length, replicate, ap, arith}, lemmas.List.length-replicate}
 use Rattle.rb_base.specs.Nodes.Side.{Biu}
-use Rattle.rb_rules.specs.Behavior.{Span}
-use Rattle.rb_rules.specs.Entries.{is_said, said_of}
-use Rattle.rb_rules.specs.Goodness.{Scenario, clock_of}
+use Rattle.rb_rules.specs.{Behavior.Span, Entries.{is_said, said_of}, Goodness.{Scenario, clock_of}}
 use Rattle.rb_laws_events.proofs.FewThere.{length-mapped, length-passed}
 use Rattle.rb_test_rules.specs.Floods.{flooding_rmu, word_of_its_own}
 use Rattle.rb_test_rules.proofs.lawful.more_than_any_entries.Goals as goal

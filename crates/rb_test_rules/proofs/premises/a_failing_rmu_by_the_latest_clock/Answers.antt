@@ -1,21 +1,7 @@
-use Rattle.std.proofs.Common.{◌≡◌, ℕ, zero, suc, ◌<◌, nat_lt, true, Option, Some, None, [], get_or, option_map, slice_get, lit<, lit≤, refl, sym, ◌∙◌, ap, arith}
-use Rattle.std.proofs.lemmas.Bool.{ltb-true}
-use Rattle.std.proofs.lemmas.Option.{same_Some}
-use Rattle.rb_base.specs.Nodes.{Side, set_below, set_of, size}
-use Rattle.rb_base.specs.Nodes.Side.{Biu, Rmu}
+use Rattle.std.proofs.{Common.{◌≡◌, ℕ, zero, suc, ◌<◌, nat_lt, true, Option, Some, None, [], get_or, option_map, slice_get, lit<, lit≤, refl, sym, ◌∙◌, ap, arith}, lemmas.Bool.ltb-true, lemmas.Option.same_Some}
+use Rattle.rb_base.specs.{Nodes.{Side, set_below, set_of, size}, Nodes.Side.{Biu, Rmu}}
 use Rattle.rb_base.proofs.Plain.{and_first}
-use Rattle.rb_rules.specs.Book.{of_kind, with_frame, with_stage}
-use Rattle.rb_rules.specs.Conviction.{convicted_by, turn}
-use Rattle.rb_rules.specs.ExactStage.{close_exact, outcome_of}
-use Rattle.rb_rules.specs.Goodness.{is_before, is_good}
-use Rattle.rb_rules.specs.Hearing.{heard_from, row_of, sending}
-use Rattle.rb_rules.specs.Judging.{classes_of, verdict_of}
-use Rattle.rb_rules.specs.Links.{delay_of}
-use Rattle.rb_rules.specs.Moments.{IsGoodBefore, before_slot, time_in_frame}
-use Rattle.rb_rules.specs.NodeState.{NodeState}
-use Rattle.rb_rules.specs.Rounds.{after_window, begin_frame, close_on, go_through, results_of, sent_in, step}
-use Rattle.rb_rules.specs.Spelling.{message_in}
-use Rattle.rb_rules.specs.SyncStage.{close_sync, sync_outcome_of}
+use Rattle.rb_rules.specs.{Book.{of_kind, with_frame, with_stage}, Conviction.{convicted_by, turn}, ExactStage.{close_exact, outcome_of}, Goodness.{is_before, is_good}, Hearing.{heard_from, row_of, sending}, Judging.{classes_of, verdict_of}, Links.delay_of, Moments.{IsGoodBefore, before_slot, time_in_frame}, NodeState.NodeState, Rounds.{after_window, begin_frame, close_on, go_through, results_of, sent_in, step}, Spelling.message_in, SyncStage.{close_sync, sync_outcome_of}}
 use Rattle.rb_laws_listener_near.specs.Laws.{LieWithin}
 use Rattle.rb_test_rules.specs.Receiver.{failing_rmu}
 use Rattle.rb_test_rules.proofs.LawfulTests.{lawful_by_tests}

@@ -1,19 +1,7 @@
-use Rattle.std.proofs.Common.{◌≡◌, ◌<◌, true, All, [], ◌∷◌, get_or, lit<, refl, sym}
-use Rattle.std.proofs.lemmas.List.{append-nil}
-use Rattle.std.proofs.lemmas.List.Elements.{All-cons, All-nil}
+use Rattle.std.proofs.{Common.{◌≡◌, ◌<◌, true, All, [], ◌∷◌, get_or, lit<, refl, sym}, lemmas.List.append-nil, lemmas.List.Elements.{All-cons, All-nil}}
 use Rattle.rb_base.specs.Nodes.{set_below, set_of, size}
-use Rattle.rb_rules.specs.Book.{Record, with_frame, with_stage}
-use Rattle.rb_rules.specs.Book.Record.{Breach, Ended, Frame, Slot}
-use Rattle.rb_rules.specs.Conviction.{convicted_by, turn}
-use Rattle.rb_rules.specs.ExactStage.{close_exact, outcome_of}
-use Rattle.rb_rules.specs.Hearing.{heard_from, row_of, sending}
-use Rattle.rb_rules.specs.Judging.{classes_of, verdict_of}
-use Rattle.rb_rules.specs.Links.{delay_of}
-use Rattle.rb_rules.specs.Rounds.{after_window, begin_frame, close_on, go_through, results_of, sent_in, step}
-use Rattle.rb_rules.specs.Spelling.{message_in}
-use Rattle.rb_rules.specs.SyncStage.{close_sync, sync_outcome_of}
-use Rattle.rb_laws_letters.specs.Offers.{is_good_in}
-use Rattle.rb_laws_letters.specs.Sent.{IsLetter}
+use Rattle.rb_rules.specs.{Book.{Record, with_frame, with_stage}, Book.Record.{Breach, Ended, Frame, Slot}, Conviction.{convicted_by, turn}, ExactStage.{close_exact, outcome_of}, Hearing.{heard_from, row_of, sending}, Judging.{classes_of, verdict_of}, Links.delay_of, Rounds.{after_window, begin_frame, close_on, go_through, results_of, sent_in, step}, Spelling.message_in, SyncStage.{close_sync, sync_outcome_of}}
+use Rattle.rb_laws_letters.specs.{Offers.is_good_in, Sent.IsLetter}
 use Rattle.rb_test_rules.specs.Letters.{letter, letter_records, one_sender}
 use Rattle.rb_test_rules.proofs.LawfulTests.{lawful_by_tests}
 use Rattle.rb_test_rules.proofs.premises.a_letter_over_the_bus.Goals as goal

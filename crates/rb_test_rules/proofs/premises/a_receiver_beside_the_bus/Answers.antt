@@ -1,28 +1,9 @@
-use Rattle.std.proofs.Common.{◌≡◌, ℕ, zero, suc, ◌<◌, ◌≤◌, ◌==◌, nat_lt, Bool, true, false, Option, Some, None, List, [], ◌∷◌, get_or, is_some, length, option_and_then, slice_get, if◌then◌else◌, lit<, lit≤, refl, sym, ◌∙◌, ap, subst, arith}
-use Rattle.std.proofs.lemmas.Bool.{ltb-true}
-use Rattle.std.proofs.lemmas.Bool.Decides.{nat_tests}
-use Rattle.std.proofs.lemmas.Option.{same_Some}
-use Rattle.rb_base.specs.Nodes.{Side, has, set_below, set_of, size}
-use Rattle.rb_base.specs.Nodes.Side.{Biu, Rmu}
+use Rattle.std.proofs.{Common.{◌≡◌, ℕ, zero, suc, ◌<◌, ◌≤◌, ◌==◌, nat_lt, Bool, true, false, Option, Some, None, List, [], ◌∷◌, get_or, is_some, length, option_and_then, slice_get, if◌then◌else◌, lit<, lit≤, refl, sym, ◌∙◌, ap, subst, arith}, lemmas.Bool.ltb-true, lemmas.Bool.Decides.nat_tests, lemmas.Option.same_Some}
+use Rattle.rb_base.specs.{Nodes.{Side, has, set_below, set_of, size}, Nodes.Side.{Biu, Rmu}}
 use Rattle.rb_base.proofs.Plain.{and_first}
-use Rattle.rb_rules.specs.Book.{of_kind, with_frame, with_stage}
-use Rattle.rb_rules.specs.Clock.{stamp_of, time_of}
-use Rattle.rb_rules.specs.Conviction.{convicted_by, turn}
-use Rattle.rb_rules.specs.ExactStage.{close_exact, outcome_of}
-use Rattle.rb_rules.specs.Goodness.{clock_of, is_before, is_good}
-use Rattle.rb_rules.specs.Hearing.{heard_from, judged_see, row_of, sending}
-use Rattle.rb_rules.specs.Judging.{JudgedStage, classes_of, verdict_of}
-use Rattle.rb_rules.specs.Links.{delay_of}
-use Rattle.rb_rules.specs.Moments.{before_stage}
-use Rattle.rb_rules.specs.NodeState.{NodeState, trusted_of}
-use Rattle.rb_rules.specs.Rounds.{after_window, begin_frame, close_on, go_through, results_of, sent_in, step}
-use Rattle.rb_rules.specs.Spelling.{message_in}
-use Rattle.rb_rules.specs.SyncStage.{call_tick_of, close_sync, see_time, sync_outcome_of}
-use Rattle.rb_laws_listener_near.specs.Calls.{ComesAfter, SawTheTimes}
-use Rattle.rb_laws_listener_near.specs.Judged.{verdict_with}
-use Rattle.rb_test_rules.specs.Buses.{steady}
-use Rattle.rb_test_rules.specs.Ordinary.{smallest_bus}
-use Rattle.rb_test_rules.specs.Receiver.{call_seen, call_taken, call_time}
+use Rattle.rb_rules.specs.{Book.{of_kind, with_frame, with_stage}, Clock.{stamp_of, time_of}, Conviction.{convicted_by, turn}, ExactStage.{close_exact, outcome_of}, Goodness.{clock_of, is_before, is_good}, Hearing.{heard_from, judged_see, row_of, sending}, Judging.{JudgedStage, classes_of, verdict_of}, Links.delay_of, Moments.before_stage, NodeState.{NodeState, trusted_of}, Rounds.{after_window, begin_frame, close_on, go_through, results_of, sent_in, step}, Spelling.message_in, SyncStage.{call_tick_of, close_sync, see_time, sync_outcome_of}}
+use Rattle.rb_laws_listener_near.specs.{Calls.{ComesAfter, SawTheTimes}, Judged.verdict_with}
+use Rattle.rb_test_rules.specs.{Buses.steady, Ordinary.smallest_bus, Receiver.{call_seen, call_taken, call_time}}
 use Rattle.rb_test_rules.proofs.LawfulTests.{lawful_by_tests}
 use Rattle.rb_test_rules.proofs.premises.a_receiver_beside_the_bus.Goals as goal
 

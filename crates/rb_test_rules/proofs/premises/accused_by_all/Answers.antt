@@ -1,20 +1,7 @@
-use Rattle.std.proofs.Common.{◌≡◌, ℕ, zero, suc, ◌+◌, ◌<◌, ◌||◌, nat_lt, Bool, true, false, Option, Some, None, get_or, slice_get, [], refl, sym, ◌∙◌, ap, arith}
-use Rattle.std.proofs.lemmas.Bool.{ltb-true}
-use Rattle.rb_base.specs.Nodes.{has, set_of, set_below, size}
-use Rattle.rb_base.specs.Nodes.Side.{Biu}
+use Rattle.std.proofs.{Common.{◌≡◌, ℕ, zero, suc, ◌+◌, ◌<◌, ◌||◌, nat_lt, Bool, true, false, Option, Some, None, get_or, slice_get, [], refl, sym, ◌∙◌, ap, arith}, lemmas.Bool.ltb-true}
+use Rattle.rb_base.specs.{Nodes.{has, set_of, set_below, size}, Nodes.Side.Biu}
 use Rattle.rb_base.proofs.Plain.{and_first}
-use Rattle.rb_rules.specs.Book.{of_kind, with_stage, with_frame}
-use Rattle.rb_rules.specs.Conviction.{turn, convicted_by}
-use Rattle.rb_rules.specs.ExactStage.{close_exact, outcome_of}
-use Rattle.rb_rules.specs.Goodness.{is_before}
-use Rattle.rb_rules.specs.Hearing.{sending, heard_from, row_of}
-use Rattle.rb_rules.specs.Judging.{classes_of, verdict_of}
-use Rattle.rb_rules.specs.Links.{delay_of}
-use Rattle.rb_rules.specs.Moments.{before_slot}
-use Rattle.rb_rules.specs.NodeState.{NodeState}
-use Rattle.rb_rules.specs.Rounds.{sent_in, close_on, go_through, results_of, after_window, begin_frame, step}
-use Rattle.rb_rules.specs.Spelling.{message_in}
-use Rattle.rb_rules.specs.SyncStage.{close_sync, sync_outcome_of}
+use Rattle.rb_rules.specs.{Book.{of_kind, with_stage, with_frame}, Conviction.{turn, convicted_by}, ExactStage.{close_exact, outcome_of}, Goodness.is_before, Hearing.{sending, heard_from, row_of}, Judging.{classes_of, verdict_of}, Links.delay_of, Moments.before_slot, NodeState.NodeState, Rounds.{sent_in, close_on, go_through, results_of, after_window, begin_frame, step}, Spelling.message_in, SyncStage.{close_sync, sync_outcome_of}}
 use Rattle.rb_test_rules.specs.Lies.{silent_rmu}
 use Rattle.rb_test_rules.proofs.LawfulTests.{lawful_by_tests}
 use Rattle.rb_test_rules.proofs.premises.accused_by_all.Goals as goal

@@ -1,16 +1,6 @@
 use Rattle.std.proofs.Common.{[], unwrap_or, slice_get, refl, arith}
-use Rattle.rb_base.specs.Nodes.{set_of, set_below, size}
-use Rattle.rb_base.specs.Nodes.Side.{Rmu}
-use Rattle.rb_rules.specs.Book.{of_kind, with_stage, with_frame}
-use Rattle.rb_rules.specs.Conviction.{turn, convicted_by}
-use Rattle.rb_rules.specs.ExactStage.{close_exact, outcome_of}
-use Rattle.rb_rules.specs.Hearing.{sending, heard_from, row_of}
-use Rattle.rb_rules.specs.Judging.{classes_of, verdict_of}
-use Rattle.rb_rules.specs.Links.{delay_of}
-use Rattle.rb_rules.specs.NodeState.{NodeState, first_state}
-use Rattle.rb_rules.specs.Rounds.{moment, sent_in, close_on, go_through, results_of, after_window, begin_frame, step}
-use Rattle.rb_rules.specs.Spelling.{message_in}
-use Rattle.rb_rules.specs.SyncStage.{close_sync, sync_outcome_of}
+use Rattle.rb_base.specs.{Nodes.{set_of, set_below, size}, Nodes.Side.Rmu}
+use Rattle.rb_rules.specs.{Book.{of_kind, with_stage, with_frame}, Conviction.{turn, convicted_by}, ExactStage.{close_exact, outcome_of}, Hearing.{sending, heard_from, row_of}, Judging.{classes_of, verdict_of}, Links.delay_of, NodeState.{NodeState, first_state}, Rounds.{moment, sent_in, close_on, go_through, results_of, after_window, begin_frame, step}, Spelling.message_in, SyncStage.{close_sync, sync_outcome_of}}
 use Rattle.rb_test_rules.specs.Frames.{probation_passed}
 use Rattle.rb_test_rules.proofs.LawfulTests.{lawful_by_tests}
 use Rattle.rb_test_rules.proofs.premises.evidence_that_lapses.Goals as goal

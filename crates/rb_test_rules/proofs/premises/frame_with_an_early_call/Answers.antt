@@ -1,23 +1,9 @@
-use Rattle.std.proofs.Common.{◌≡◌, ℕ, zero, suc, ◌+◌, ◌<◌, ◌≤◌, ◌==◌, ◌&&◌, nat_lt, not, Bool, true, false, None, Some, is_some, if◌then◌else◌, lit<, lit≤, inl, refl, sym, ◌∙◌, ap, subst, arith}
-use Rattle.std.proofs.lemmas.Bool.{ltb-true}
-use Rattle.std.proofs.lemmas.Option.{same_Some}
-use Rattle.rb_base.specs.Counting.{count_if, numbers}
-use Rattle.rb_base.specs.Nodes.{Side, other, set_of, set_below}
-use Rattle.rb_base.specs.Nodes.Side.{Biu, Rmu}
-use Rattle.rb_rules.specs.declared.role.Role.TheVariants.{Sync}
-use Rattle.rb_rules.specs.declared.sense.Sense.{Sense}
-use Rattle.rb_rules.specs.declared.sense.Sense.TheVariants.{Silent}
-use Rattle.rb_rules.specs.NodeState.{first_state}
-use Rattle.rb_rules.specs.Sense.{stamp_in}
-use Rattle.rb_rules.specs.Slots.{listens}
-use Rattle.rb_rules.specs.Standing.{Standing, is_eligible, taken_of}
-use Rattle.rb_rules.specs.SyncStage.{call_of, call_tick_of, close_sync, expects_call, sync_outcome_of}
+use Rattle.std.proofs.{Common.{◌≡◌, ℕ, zero, suc, ◌+◌, ◌<◌, ◌≤◌, ◌==◌, ◌&&◌, nat_lt, not, Bool, true, false, None, Some, is_some, if◌then◌else◌, lit<, lit≤, inl, refl, sym, ◌∙◌, ap, subst, arith}, lemmas.Bool.ltb-true, lemmas.Option.same_Some}
+use Rattle.rb_base.specs.{Counting.{count_if, numbers}, Nodes.{Side, other, set_of, set_below}, Nodes.Side.{Biu, Rmu}}
+use Rattle.rb_rules.specs.{declared.role.Role.TheVariants.Sync, declared.sense.Sense.Sense, declared.sense.Sense.TheVariants.Silent, NodeState.first_state, Sense.stamp_in, Slots.listens, Standing.{Standing, is_eligible, taken_of}, SyncStage.{call_of, call_tick_of, close_sync, expects_call, sync_outcome_of}}
 use Rattle.rb_rules.proofs.Feasibility.{feasible_exactly}
-use Rattle.rb_laws_synchrony.specs.OneFrame.{BringsTheCall, HearsGoodNodes, listener, state_through}
-use Rattle.rb_laws_synchrony.specs.OneStage.{stamp_taken}
-use Rattle.rb_test_rules.specs.Buses.{plan}
-use Rattle.rb_test_rules.specs.OneFrame.{calls_of_bius, early_call}
-use Rattle.rb_test_rules.specs.OneSlot.{two_and_three}
+use Rattle.rb_laws_synchrony.specs.{OneFrame.{BringsTheCall, HearsGoodNodes, listener, state_through}, OneStage.stamp_taken}
+use Rattle.rb_test_rules.specs.{Buses.plan, OneFrame.{calls_of_bius, early_call}, OneSlot.two_and_three}
 use Rattle.rb_test_rules.proofs.premises.frame_with_an_early_call.Goals as goal
 
 -- the good nodes of a kind are 0 and 1

@@ -1,7 +1,6 @@
 use Rattle.std.proofs.Common.{refl}
 use Rattle.rb_base.specs.Nodes.{set_below, set_of}
-use Rattle.rb_rules.specs.Book.{with_frame}
-use Rattle.rb_rules.specs.Rounds.{begin_frame}
+use Rattle.rb_rules.specs.{Book.with_frame, Rounds.begin_frame}
 use Rattle.rb_test_rules.proofs.premises.good_sender.Goals as goal
 
 pub returns : goal.returns

@@ -1,25 +1,9 @@
-use Rattle.std.proofs.Common.{◌≡◌, ℕ, ◌==◌, ◌&&◌, Bool, true, false, Option, Some, None, is_some, slice_get, List, [], lit≤, inl, refl, sym, ◌∙◌, ap, subst, arith}
-use Rattle.std.proofs.lemmas.Bool.{and_parts, eqb-true, false≢true}
-use Rattle.rb_base.specs.Nodes.{Side, set_of, set_below, size}
-use Rattle.rb_base.specs.Nodes.Side.{Biu, Rmu}
-use Rattle.rb_rules.specs.Book.{Milestone, of_kind, with_stage, with_frame}
-use Rattle.rb_rules.specs.Book.Milestone.{Begin, Stage, End}
-use Rattle.rb_rules.specs.Conviction.{turn, convicted_by}
-use Rattle.rb_rules.specs.Core.{state_at, said_at, act_on, act_at, tick, arrive, wants, is_busy}
-use Rattle.rb_rules.specs.ExactStage.{close_exact, outcome_of}
-use Rattle.rb_rules.specs.Hearing.{sending, heard_from, row_of}
-use Rattle.rb_rules.specs.Judging.{classes_of, verdict_of}
-use Rattle.rb_rules.specs.Links.{delay_of}
-use Rattle.rb_rules.specs.Moments.{IsComplete, IsRunning, before_stage}
-use Rattle.rb_rules.specs.Ports.{HandIn}
-use Rattle.rb_rules.specs.Rounds.{sent_in, close_on, go_through, results_of, after_window, begin_frame, step}
-use Rattle.rb_rules.specs.Spelling.{message_in}
-use Rattle.rb_rules.specs.SyncStage.{close_sync, sync_outcome_of}
-use Rattle.rb_rules.specs.WorldStep.{Site, Timed, World, ready_at, due_of, says_in, proceed, after_act, after_arrival, with_act, pass_and_tick, happens, take, go_on, first_world}
+use Rattle.std.proofs.{Common.{◌≡◌, ℕ, ◌==◌, ◌&&◌, Bool, true, false, Option, Some, None, is_some, slice_get, List, [], lit≤, inl, refl, sym, ◌∙◌, ap, subst, arith}, lemmas.Bool.{and_parts, eqb-true, false≢true}}
+use Rattle.rb_base.specs.{Nodes.{Side, set_of, set_below, size}, Nodes.Side.{Biu, Rmu}}
+use Rattle.rb_rules.specs.{Book.{Milestone, of_kind, with_stage, with_frame}, Book.Milestone.{Begin, Stage, End}, Conviction.{turn, convicted_by}, Core.{state_at, said_at, act_on, act_at, tick, arrive, wants, is_busy}, ExactStage.{close_exact, outcome_of}, Hearing.{sending, heard_from, row_of}, Judging.{classes_of, verdict_of}, Links.delay_of, Moments.{IsComplete, IsRunning, before_stage}, Ports.HandIn, Rounds.{sent_in, close_on, go_through, results_of, after_window, begin_frame, step}, Spelling.message_in, SyncStage.{close_sync, sync_outcome_of}, WorldStep.{Site, Timed, World, ready_at, due_of, says_in, proceed, after_act, after_arrival, with_act, pass_and_tick, happens, take, go_on, first_world}}
 use Rattle.rb_laws_agreement.specs.Histories.{AreAlike}
 use Rattle.rb_laws_events.specs.OwnMoments.{IsBeforeTheBreak, RunningNode, open_window, ready_state}
-use Rattle.rb_test_rules.specs.Ordinary.{one_state}
-use Rattle.rb_test_rules.specs.Premises.{RunsAfterSlot, RunsInSlot, third_stage}
+use Rattle.rb_test_rules.specs.{Ordinary.one_state, Premises.{RunsAfterSlot, RunsInSlot, third_stage}}
 use Rattle.rb_test_rules.proofs.premises.running_nodes.Goals as goal
 
 -- the node runs, has a tick to come, and is in the third stage of slot 2

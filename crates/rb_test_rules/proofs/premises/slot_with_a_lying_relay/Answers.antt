@@ -1,15 +1,6 @@
-use Rattle.std.proofs.Common.{◌≡◌, ℕ, zero, suc, ◌+◌, ◌<◌, ◌≤◌, ◌==◌, ◌&&◌, nat_lt, Bool, true, false, None, [], if◌then◌else◌, lit<, lit≤, inl, refl, sym, ◌∙◌, ap, arith}
-use Rattle.std.proofs.lemmas.Bool.{ltb-true}
-use Rattle.std.proofs.lemmas.Bool.Decides.{nat_tests}
-use Rattle.rb_base.specs.Nodes.{Side, other, has, set_of, set_below}
-use Rattle.rb_base.specs.Nodes.Side.{Biu, Rmu}
-use Rattle.rb_rules.specs.declared.sense.Sense.{Sense}
-use Rattle.rb_rules.specs.declared.sense.Sense.TheVariants.{Silent}
-use Rattle.rb_rules.specs.ExactStage.{close_exact, outcome_of, says}
-use Rattle.rb_rules.specs.NodeState.{first_state, trusted_of}
-use Rattle.rb_rules.specs.Sense.{value_in}
-use Rattle.rb_rules.specs.Slots.{count_of}
-use Rattle.rb_rules.specs.Standing.{Standing, is_eligible, taken_of}
+use Rattle.std.proofs.{Common.{◌≡◌, ℕ, zero, suc, ◌+◌, ◌<◌, ◌≤◌, ◌==◌, ◌&&◌, nat_lt, Bool, true, false, None, [], if◌then◌else◌, lit<, lit≤, inl, refl, sym, ◌∙◌, ap, arith}, lemmas.Bool.ltb-true, lemmas.Bool.Decides.nat_tests}
+use Rattle.rb_base.specs.{Nodes.{Side, other, has, set_of, set_below}, Nodes.Side.{Biu, Rmu}}
+use Rattle.rb_rules.specs.{declared.sense.Sense.Sense, declared.sense.Sense.TheVariants.Silent, ExactStage.{close_exact, outcome_of, says}, NodeState.{first_state, trusted_of}, Sense.value_in, Slots.count_of, Standing.{Standing, is_eligible, taken_of}}
 use Rattle.rb_laws_agreement.specs.OneSlot.{Brings, GoodOutnumber, HoldsAlike, IsSpared, state_after, takes_after}
 use Rattle.rb_laws_agreement.proofs.ExactWindows.{expected_at}
 use Rattle.rb_test_rules.specs.OneSlot.{all_trusted, comes_to, from_bius, lying_relay, two_and_three}

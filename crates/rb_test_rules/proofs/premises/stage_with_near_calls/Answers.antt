@@ -1,17 +1,8 @@
-use Rattle.std.proofs.Common.{◌≡◌, ℕ, zero, suc, ◌<◌, ◌==◌, ◌&&◌, Bool, true, false, None, if◌then◌else◌, lit<, lit≤, inl, inr, refl, ◌∙◌, ap, arith}
-use Rattle.std.proofs.lemmas.Bool.{ltb-true}
-use Rattle.std.proofs.lemmas.Bool.Decides.{nat_tests}
-use Rattle.rb_base.specs.Nodes.{set_of, set_below}
-use Rattle.rb_base.specs.Nodes.Side.{Biu}
-use Rattle.rb_rules.specs.declared.sense.Sense.{Sense}
-use Rattle.rb_rules.specs.declared.sense.Sense.TheVariants.{Silent}
-use Rattle.rb_rules.specs.Clock.{Timeline}
-use Rattle.rb_rules.specs.Sense.{stamp_in}
-use Rattle.rb_rules.specs.Standing.{Standing, is_eligible, taken_of}
-use Rattle.rb_rules.specs.SyncStage.{expects_call}
+use Rattle.std.proofs.{Common.{◌≡◌, ℕ, zero, suc, ◌<◌, ◌==◌, ◌&&◌, Bool, true, false, None, if◌then◌else◌, lit<, lit≤, inl, inr, refl, ◌∙◌, ap, arith}, lemmas.Bool.ltb-true, lemmas.Bool.Decides.nat_tests}
+use Rattle.rb_base.specs.{Nodes.{set_of, set_below}, Nodes.Side.Biu}
+use Rattle.rb_rules.specs.{declared.sense.Sense.Sense, declared.sense.Sense.TheVariants.Silent, Clock.Timeline, Sense.stamp_in, Standing.{Standing, is_eligible, taken_of}, SyncStage.expects_call}
 use Rattle.rb_laws_synchrony.specs.OneStage.{HearsGoodCalls, IsCalledBetween, TakeNear}
-use Rattle.rb_test_rules.specs.OneStage.{a_call, calls_of, early_clock, early_listener, first_two, late_clock, late_listener}
-use Rattle.rb_test_rules.specs.Parts.{plan}
+use Rattle.rb_test_rules.specs.{OneStage.{a_call, calls_of, early_clock, early_listener, first_two, late_clock, late_listener}, Parts.plan}
 use Rattle.rb_test_rules.proofs.premises.stage_with_near_calls.Goals as goal
 
 good-cases : (P : ℕ → Type 0) → P 0 → P 1 → (j : ℕ) → first_two j ≡ true → P j

@@ -1,8 +1,6 @@
 use Rattle.std.proofs.Common.{refl}
 use Rattle.rb_base.specs.Nodes.{set_below, set_of, size}
-use Rattle.rb_rules.specs.Book.{with_frame, with_stage}
-use Rattle.rb_rules.specs.Judging.{classes_of, verdict_of}
-use Rattle.rb_rules.specs.WorldStep.{first_world, hand, happens}
+use Rattle.rb_rules.specs.{Book.{with_frame, with_stage}, Judging.{classes_of, verdict_of}, WorldStep.{first_world, hand, happens}}
 use Rattle.rb_test_rules.proofs.steps.settled_and_handed.Goals as goal
 
 pub returns-clause-stage_and_frame : goal.returns-clause-stage_and_frame

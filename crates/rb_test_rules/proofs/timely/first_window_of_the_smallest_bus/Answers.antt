@@ -1,17 +1,7 @@
-use Rattle.std.proofs.Common.{◌≡◌, ℕ, zero, suc, Bool, true, false, ◌&&◌, nat_lt, Some, IfSome, [], ◌∷◌, All, sym, subst, lit≤, arith}
-use Rattle.std.proofs.lemmas.Bool.{le-ltb}
-use Rattle.std.proofs.lemmas.List.Elements.{All-cons, All-nil}
-use Rattle.rb_base.specs.Nodes.{Side, other, set_of, set_below}
-use Rattle.rb_base.specs.Nodes.Side.{Biu, Rmu}
-use Rattle.rb_rules.specs.Book.{with_frame}
-use Rattle.rb_rules.specs.Clock.{stamp_of}
-use Rattle.rb_rules.specs.Goodness.{clock_of}
-use Rattle.rb_rules.specs.Hearing.{Coming, heard_from, sending, span_of}
-use Rattle.rb_rules.specs.Links.{delay_of}
-use Rattle.rb_rules.specs.NodeState.{NodeState, first_state}
-use Rattle.rb_rules.specs.Rounds.{IsGoodIn, IsTickOf, begin_frame, heard_at, sending_in, sent_in, window_in}
-use Rattle.rb_test_rules.specs.Ordinary.{smallest_bus}
-use Rattle.rb_test_rules.specs.Timely.{first_window}
+use Rattle.std.proofs.{Common.{◌≡◌, ℕ, zero, suc, Bool, true, false, ◌&&◌, nat_lt, Some, IfSome, [], ◌∷◌, All, sym, subst, lit≤, arith}, lemmas.Bool.le-ltb, lemmas.List.Elements.{All-cons, All-nil}}
+use Rattle.rb_base.specs.{Nodes.{Side, other, set_of, set_below}, Nodes.Side.{Biu, Rmu}}
+use Rattle.rb_rules.specs.{Book.with_frame, Clock.stamp_of, Goodness.clock_of, Hearing.{Coming, heard_from, sending, span_of}, Links.delay_of, NodeState.{NodeState, first_state}, Rounds.{IsGoodIn, IsTickOf, begin_frame, heard_at, sending_in, sent_in, window_in}}
+use Rattle.rb_test_rules.specs.{Ordinary.smallest_bus, Timely.first_window}
 use Rattle.rb_test_rules.proofs.timely.first_window_of_the_smallest_bus.Goals as goal
 
 first_of : (i : ℕ) (b : Bool) → (nat_lt i 1 && b) ≡ true → i ≡ 0

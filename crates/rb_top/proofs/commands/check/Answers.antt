@@ -1,10 +1,6 @@
 use Rattle.std.proofs.Common.{subst}
-use Rattle.rb_top.specs.CheckText.{check_text}
-use Rattle.rb_top.proofs.CommandAnswers.{Writes, check_reads, none_answers, not_two, of_two, sides_answer}
-use Rattle.rb_top.specs.Commands.{check_command}
-use Rattle.rb_top.proofs.Completeness.{check_sound}
-use Rattle.rb_top.specs.declared.form.Form.TheVariants.{Check}
-use Rattle.rb_top.proofs.Called.{answers_alone}
+use Rattle.rb_top.specs.{CheckText.check_text, Commands.check_command, declared.form.Form.TheVariants.Check}
+use Rattle.rb_top.proofs.{CommandAnswers.{Writes, check_reads, none_answers, not_two, of_two, sides_answer}, Completeness.check_sound, Called.answers_alone}
 use Rattle.rb_top.proofs.commands.check.Goals as goal
 
 pub returns-in-Ok : goal.returns-in-Ok

@@ -1,13 +1,7 @@
-use Rattle.std.proofs.Common.{◌∙◌, ℕ, subst, sym, refl}
+use Rattle.std.proofs.{Common.{◌∙◌, ℕ, subst, sym, refl}, lemmas.Bool.false≢true}
 use Rattle.rb_group_run.specs.Members.{AreMembers}
-use Rattle.std.proofs.lemmas.Bool.{false≢true}
-use Rattle.rb_top.proofs.CommandAnswers.{Lacks, Reports, group_reads, group_reports, group_tells, is_memory, is_memory_only, lack_answers, lacks_member, neither_is_silent, none_answers, report_answers}
-use Rattle.rb_top.specs.Inputs.{member_text}
-use Rattle.rb_top.specs.Texts.{told_by_group}
-use Rattle.rb_top.specs.Commands.{group_command}
-use Rattle.rb_top.proofs.Completeness.{group_sound}
-use Rattle.rb_top.specs.declared.form.Form.TheVariants.{Group}
-use Rattle.rb_top.proofs.Called.{answers_driven}
+use Rattle.rb_top.proofs.{CommandAnswers.{Lacks, Reports, group_reads, group_reports, group_tells, is_memory, is_memory_only, lack_answers, lacks_member, neither_is_silent, none_answers, report_answers}, Completeness.group_sound, Called.answers_driven}
+use Rattle.rb_top.specs.{Inputs.member_text, Texts.told_by_group, Commands.group_command, declared.form.Form.TheVariants.Group}
 use Rattle.rb_top.proofs.commands.group.Goals as goal
 
 pub returns-in-Err : goal.returns-in-Err

@@ -1,10 +1,6 @@
 use Rattle.std.proofs.Common.{◌∙◌, subst, refl}
-use Rattle.rb_top.proofs.CommandAnswers.{Reports, is_memory, is_memory_only, letters_report_so, none_answers, report_answers, telling_reads, telling_tells}
-use Rattle.rb_top.proofs.Completeness.{telling_sound}
-use Rattle.rb_top.specs.Commands.{letters_command}
-use Rattle.rb_top.specs.Texts.{told_by_letters}
-use Rattle.rb_top.specs.declared.form.Form.TheVariants.{Letters}
-use Rattle.rb_top.proofs.Called.{answers_driven}
+use Rattle.rb_top.proofs.{CommandAnswers.{Reports, is_memory, is_memory_only, letters_report_so, none_answers, report_answers, telling_reads, telling_tells}, Completeness.telling_sound, Called.answers_driven}
+use Rattle.rb_top.specs.{Commands.letters_command, Texts.told_by_letters, declared.form.Form.TheVariants.Letters}
 use Rattle.rb_top.proofs.commands.letters.Goals as goal
 
 pub returns-in-Ok : goal.returns-in-Ok

@@ -1,11 +1,7 @@
 use Rattle.std.proofs.Common.{ℕ, List, subst, sym, refl}
 use Rattle.rb_outside.specs.Bytes.{ReadsToEnd}
-use Rattle.rb_top.specs.Commands.{IsNotForListeners, IsOverheard, listen_command}
-use Rattle.rb_top.specs.Inputs.{log_limit}
-use Rattle.rb_top.proofs.CommandAnswers.{alone_answers, logs_write, unread_answers}
-use Rattle.rb_top.proofs.Completeness.{listen_sound}
-use Rattle.rb_top.specs.declared.form.Form.TheVariants.{Listen}
-use Rattle.rb_top.proofs.Called.{answers_alone}
+use Rattle.rb_top.specs.{Commands.{IsNotForListeners, IsOverheard, listen_command}, Inputs.log_limit, declared.form.Form.TheVariants.Listen}
+use Rattle.rb_top.proofs.{CommandAnswers.{alone_answers, logs_write, unread_answers}, Completeness.listen_sound, Called.answers_alone}
 use Rattle.rb_top.proofs.commands.listen.Goals as goal
 
 pub returns-in-Ok : goal.returns-in-Ok

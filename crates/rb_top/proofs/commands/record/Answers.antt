@@ -1,12 +1,7 @@
-use Rattle.std.proofs.Common.{◌∙◌, subst, sym}
-use Rattle.std.proofs.lemmas.Bool.{false≢true}
+use Rattle.std.proofs.{Common.{◌∙◌, subst, sym}, lemmas.Bool.false≢true}
 use Rattle.rb_scenario_entries.specs.declared.refusal.Refusal.TheVariants.{NoSuchNode}
-use Rattle.rb_top.proofs.CommandAnswers.{Lacks, Logs, is_memory, lack_answers, lacks_node, log_answers, neither_is_silent, none_answers, record_reads}
-use Rattle.rb_top.specs.Inputs.{rule_text}
-use Rattle.rb_top.specs.Commands.{record_command}
-use Rattle.rb_top.proofs.Completeness.{record_sound}
-use Rattle.rb_top.specs.declared.form.Form.TheVariants.{Record}
-use Rattle.rb_top.proofs.Called.{answers_alone}
+use Rattle.rb_top.proofs.{CommandAnswers.{Lacks, Logs, is_memory, lack_answers, lacks_node, log_answers, neither_is_silent, none_answers, record_reads}, Completeness.record_sound, Called.answers_alone}
+use Rattle.rb_top.specs.{Inputs.rule_text, Commands.record_command, declared.form.Form.TheVariants.Record}
 use Rattle.rb_top.proofs.commands.record.Goals as goal
 
 pub returns-in-Err : goal.returns-in-Err

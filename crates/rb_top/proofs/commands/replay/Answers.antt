@@ -1,11 +1,7 @@
 use Rattle.std.proofs.Common.{ℕ, List, subst, sym, refl}
 use Rattle.rb_outside.specs.Bytes.{ReadsToEnd}
-use Rattle.rb_top.specs.Commands.{IsReplay, replay_command}
-use Rattle.rb_top.specs.Inputs.{BreaksLog, log_limit}
-use Rattle.rb_top.proofs.CommandAnswers.{alone_answers, logs_write, unread_answers}
-use Rattle.rb_top.proofs.Completeness.{replay_sound}
-use Rattle.rb_top.specs.declared.form.Form.TheVariants.{Replay}
-use Rattle.rb_top.proofs.Called.{answers_alone}
+use Rattle.rb_top.specs.{Commands.{IsReplay, replay_command}, Inputs.{BreaksLog, log_limit}, declared.form.Form.TheVariants.Replay}
+use Rattle.rb_top.proofs.{CommandAnswers.{alone_answers, logs_write, unread_answers}, Completeness.replay_sound, Called.answers_alone}
 use Rattle.rb_top.proofs.commands.replay.Goals as goal
 
 pub returns-in-Ok : goal.returns-in-Ok

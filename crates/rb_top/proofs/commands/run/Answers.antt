@@ -1,12 +1,7 @@
 use Rattle.std.proofs.Common.{◌∙◌, subst, refl}
-use Rattle.rb_top.proofs.CommandAnswers.{Reports, is_memory, is_memory_only, never_both, none_answers, run_reports, report_answers, telling_reads, telling_tells}
-use Rattle.rb_top.proofs.Completeness.{telling_sound}
-use Rattle.rb_top.specs.Commands.{run_command}
-use Rattle.rb_top.specs.Texts.{told_by_run}
-use Rattle.rb_top.specs.declared.form.Form.TheVariants.{Run}
-use Rattle.rb_top.specs.Reading.{ReadsScenario}
+use Rattle.rb_top.proofs.{CommandAnswers.{Reports, is_memory, is_memory_only, never_both, none_answers, run_reports, report_answers, telling_reads, telling_tells}, Completeness.telling_sound, Called.{answers_driven, with_drive}}
+use Rattle.rb_top.specs.{Commands.run_command, Texts.told_by_run, declared.form.Form.TheVariants.Run, Reading.ReadsScenario}
 use Rattle.rb_scenario.specs.Acceptance.{as_scenario}
-use Rattle.rb_top.proofs.Called.{answers_driven, with_drive}
 use Rattle.rb_top.proofs.commands.run.Goals as goal
 
 pub returns-in-Ok : goal.returns-in-Ok

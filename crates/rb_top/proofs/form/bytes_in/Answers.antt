@@ -1,11 +1,9 @@
-use Rattle.std.proofs.Common.{◌≡◌, ◌<◌, ◌/◌, ◌⊎◌, ℕ, List, length, None, Result, Ok, Err, arith, sym, refl, rules, inl, inr}
-use Rattle.std.proofs.lemmas.Grind.{common_steps}
-use Rattle.hex.specs.Hex.{decode_of}
-use Rattle.hex.specs.declared.FromHexError.{FromHexError}
+use Rattle.std.proofs.{Common.{◌≡◌, ◌<◌, ◌/◌, ◌⊎◌, ℕ, List, length, None, Result, Ok, Err, arith, sym, refl, rules, inl, inr}, lemmas.Grind.common_steps}
+use Rattle.hex.specs.{Hex.decode_of, declared.FromHexError.FromHexError}
 use Rattle.hex.proofs.HexLemmas.{decode_of-ok}
 use Rattle.rb_top.specs.Words.{letter_bytes}
-use Rattle.rb_top.proofs.form.bytes_in.Goals as goal
 use Rattle.rb_top.proofs.form.bytes_in.Goals.{then-len-eq0-via-then-len-eq0, then-len-eq0-via-else-len-eq0+then-len-gt255}
+use Rattle.rb_top.proofs.form.bytes_in.Goals as goal
 
 none_short : (text : List ℕ) (r : Result (List ℕ) FromHexError) → decode_of text ≡ r → (length text / 2 ≡ 0) ⊎ (255 < length text / 2) → letter_bytes r ≡ None
 none_short text (Err e) d h = refl

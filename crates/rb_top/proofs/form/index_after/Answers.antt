@@ -1,7 +1,5 @@
-use Rattle.std.proofs.Common.{◌≡◌, ◌∙◌, length, drop, sym, ap, arith}
+use Rattle.std.proofs.{Common.{◌≡◌, ◌∙◌, length, drop, sym, ap, arith}, Math.Seq.drop-append_seam, lemmas.Fmt.decimal_injective}
 use Rattle.std.specs.Fmt.{decimal}
-use Rattle.std.proofs.Math.Seq.{drop-append_seam}
-use Rattle.std.proofs.lemmas.Fmt.{decimal_injective}
 use Rattle.rb_top.proofs.form.index_after.Goals as goal
 
 pub returns-in_default-clause-none : goal.returns-in_default-clause-none

@@ -1,5 +1,4 @@
-use Rattle.std.proofs.Common.{◌∙◌, sym, refl, ap}
-use Rattle.std.proofs.lemmas.Bool.{false≢true}
+use Rattle.std.proofs.{Common.{◌∙◌, sym, refl, ap}, lemmas.Bool.false≢true}
 use Rattle.hex.specs.Hex.{decode_of, encode_lower}
 use Rattle.rb_top.proofs.Spelled.{letter_is, none_read, one_read}
 use Rattle.rb_top.proofs.form.letter_in.Goals as goal

@@ -1,5 +1,4 @@
-use Rattle.std.proofs.Common.{◌≡◌, ◌∙◌, sym, arith}
-use Rattle.std.proofs.lemmas.Fmt.{decimal_injective}
+use Rattle.std.proofs.{Common.{◌≡◌, ◌∙◌, sym, arith}, lemmas.Fmt.decimal_injective}
 use Rattle.rb_top.proofs.form.tick_in.Goals as goal
 
 pub returns-in_default-clause-none : goal.returns-in_default-clause-none

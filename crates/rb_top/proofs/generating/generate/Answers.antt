@@ -1,6 +1,5 @@
 use Rattle.std.proofs.Common.{subst}
-use Rattle.std.specs.Io.KnownBytes.{Appends}
-use Rattle.std.specs.List.{flat_map}
+use Rattle.std.specs.{Io.KnownBytes.Appends, List.flat_map}
 use Rattle.rb_outside.specs.Bytes.{AppendsPart}
 use Rattle.rb_rules.specs.Goodness.{Scenario}
 use Rattle.rb_gen.specs.Text.{lines_of}

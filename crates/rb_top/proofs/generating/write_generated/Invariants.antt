@@ -2,8 +2,7 @@ use Rattle.std.proofs.Common.{◌-◌, ◌≤◌}
 use Rattle.std.specs.List.{flat_map}
 use Rattle.rb_scenario.specs.Acceptance.{as_scenario}
 use Rattle.rb_gen.specs.Text.{lines_of}
-use Rattle.rb_top.proofs.Rest.{rest_of}
-use Rattle.rb_top.proofs.Writing.{Owes}
+use Rattle.rb_top.proofs.{Rest.rest_of, Writing.Owes}
 use Rattle.rb_top.proofs.generating.write_generated.Given as goal
 
 abbrev pub invariant-loop-text : goal.invariant-loop-text

@@ -1,12 +1,9 @@
 use Rattle.std.proofs.Common.{subst, sym}
-use Rattle.rb_rules.specs.Goodness.{Scenario}
-use Rattle.rb_rules.specs.Lawful.{IsNodeOf}
-use Rattle.rb_rules.specs.WorldStep.{first_world}
+use Rattle.rb_rules.specs.{Goodness.Scenario, Lawful.IsNodeOf, WorldStep.first_world}
 use Rattle.rb_run.specs.declared.ending.Ending.{Ending}
-use Rattle.rb_run.specs.declared.ending.Ending.TheVariants as ending
 use Rattle.rb_world.specs.Worlds.{Stands}
-use Rattle.rb_top.specs.Commands.{status_of}
-use Rattle.rb_top.specs.Serving.{IsOfRun}
+use Rattle.rb_top.specs.{Commands.status_of, Serving.IsOfRun}
+use Rattle.rb_run.specs.declared.ending.Ending.TheVariants as ending
 use Rattle.rb_top.proofs.recording.write_log.Goals as goal
 
 pub record-requires-clause-begin : goal.record-requires-clause-begin

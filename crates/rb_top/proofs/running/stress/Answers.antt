@@ -1,10 +1,8 @@
 use Rattle.std.proofs.Common.{◌∙◌, subst, sym}
-use Rattle.rb_rules.specs.Entries.{IsListed}
-use Rattle.rb_rules.specs.Lawful.{IsLawful}
+use Rattle.rb_rules.specs.{Entries.IsListed, Lawful.IsLawful}
 use Rattle.rb_scenario.specs.Acceptance.{as_scenario}
 use Rattle.rb_run.proofs.Opened.{just-opened}
-use Rattle.rb_top.proofs.Promised.{summed_headline}
-use Rattle.rb_top.proofs.Summing.{not_summed, summed, summed_in_part}
+use Rattle.rb_top.proofs.{Promised.summed_headline, Summing.{not_summed, summed, summed_in_part}}
 use Rattle.rb_top.proofs.running.stress.Goals as goal
 
 pub tally-ending-requires : goal.tally-ending-requires

@@ -1,5 +1,4 @@
-use Rattle.std.proofs.Common.{ℕ, List, rules}
-use Rattle.std.proofs.lemmas.Result.{on_err_weaker, on_ok_weaker}
+use Rattle.std.proofs.{Common.{ℕ, List, rules}, lemmas.Result.{on_err_weaker, on_ok_weaker}}
 use Rattle.rb_base.proofs.Plain.{on_err}
 use Rattle.rb_report.specs.Report.{summary_text}
 use Rattle.rb_outside.proofs.Known.{part_widens}

@@ -1,11 +1,7 @@
 use Rattle.std.proofs.Common.{subst, sym}
-use Rattle.rb_top.specs.declared.form.Form.{Form}
+use Rattle.rb_top.specs.{declared.form.Form.Form, Answers.{CommandAnswers, command_of}, Commands.group_command, Pages.page_text, Texts.generated_text}
 use Rattle.rb_long_run.specs.Reports.{spelling_text}
 use Rattle.rb_group_run.specs.declared.asked.Asked.{Asked}
-use Rattle.rb_top.specs.Answers.{CommandAnswers, command_of}
-use Rattle.rb_top.specs.Commands.{group_command}
-use Rattle.rb_top.specs.Pages.{page_text}
-use Rattle.rb_top.specs.Texts.{generated_text}
 use Rattle.rb_top.proofs.CommandAnswers.{not_two, of_two, sum_answers, text_answers}
 use Rattle.rb_top.proofs.serving.serve.Goals as goal
 

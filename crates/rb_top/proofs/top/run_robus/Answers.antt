@@ -1,10 +1,6 @@
 use Rattle.std.proofs.Common.{◌≡◌, true, subst}
-use Rattle.rb_top.specs.declared.form.Form.{Form}
-use Rattle.rb_top.specs.Answers.{Completes, Ends, FailsToWrite, IsUnread, Refuses, command_of}
-use Rattle.rb_top.specs.Promise.{KeepsItsPromise}
-use Rattle.rb_top.proofs.Completeness.{completes, is_sound}
-use Rattle.rb_top.proofs.OneForm.{one_form}
-use Rattle.rb_top.proofs.Promised.{promised}
+use Rattle.rb_top.specs.{declared.form.Form.Form, Answers.{Completes, Ends, FailsToWrite, IsUnread, Refuses, command_of}, Promise.KeepsItsPromise}
+use Rattle.rb_top.proofs.{Completeness.{completes, is_sound}, OneForm.one_form, Promised.promised}
 use Rattle.rb_top.proofs.top.run_robus.Goals as goal
 
 pub returns-in-Some-clause-untouched : goal.returns-in-Some-clause-untouched

@@ -1,5 +1,4 @@
-use Rattle.std.proofs.Common.{take, subst, arith}
-use Rattle.std.proofs.lemmas.List.{take_all, take_more}
+use Rattle.std.proofs.{Common.{take, subst, arith}, lemmas.List.{take_all, take_more}}
 use Rattle.rb_base.specs.declared.values.Heard.TheVariants.{Word}
 use Rattle.rb_vote.specs.Tallies.{IsTally}
 use Rattle.rb_vote.proofs.Leading.{leader_is}

@@ -1,9 +1,8 @@
 use Rattle.std.proofs.Common.{sym, ap, ◌∙◌}
 use Rattle.rb_base.specs.Nodes.{side_of}
 use Rattle.rb_rules.specs.WorldStep.{event_of}
-use Rattle.rb_world.specs.Sites.{number_of}
+use Rattle.rb_world.specs.{Sites.number_of, Buses.scenario_of}
 use Rattle.rb_world.proofs.Showing.{arrival-shows, tick-shows}
-use Rattle.rb_world.specs.Buses.{scenario_of}
 use Rattle.rb_world.proofs.due.show.Goals as goal
 
 pub show_tick-requires : goal.show_tick-requires

@@ -1,19 +1,13 @@
 use Rattle.std.proofs.Common.{◌≡◌, ◌-◌, Some, sym, ap, ◌∙◌, subst}
 use Rattle.std.specs.Prelude.{unwrap_or}
 use Rattle.rb_base.specs.Nodes.{side_of}
-use Rattle.rb_base.specs.declared.event.EventKind.TheVariants as kind
-use Rattle.rb_rules.specs.Core.{pass_to}
-use Rattle.rb_rules.specs.WorldStep.{wants_in, word_of}
-use Rattle.rb_node.specs.Cores.{IsCore, next_of}
-use Rattle.rb_node.specs.Wants.{want_then}
-use Rattle.rb_world.specs.Sites.{number_of}
+use Rattle.rb_rules.specs.{Core.pass_to, WorldStep.{wants_in, word_of}}
+use Rattle.rb_node.specs.{Cores.{IsCore, next_of}, Wants.want_then}
+use Rattle.rb_world.specs.{Sites.number_of, Steps.CanWant, Buses.scenario_of}
 use Rattle.rb_world_traffic.specs.Arriving.{number_of as number_in}
 use Rattle.rb_world_traffic.proofs.Says.{number-of}
-use Rattle.rb_world.specs.Steps.{CanWant}
-use Rattle.rb_world.proofs.Acting.{next-is, want-is}
-use Rattle.rb_world.proofs.Showing.{event-same}
-use Rattle.rb_world.proofs.Words.{can-want, wants-words}
-use Rattle.rb_world.specs.Buses.{scenario_of}
+use Rattle.rb_world.proofs.{Acting.{next-is, want-is}, Showing.event-same, Words.{can-want, wants-words}}
+use Rattle.rb_base.specs.declared.event.EventKind.TheVariants as kind
 use Rattle.rb_world.proofs.due.show_tick.Goals as goal
 
 pub word_for-word-requires-clause-want : goal.word_for-word-requires-clause-want

@@ -1,12 +1,8 @@
 use Rattle.std.proofs.Common.{◌≡◌, sym, ap, ◌∙◌, []}
 use Rattle.rb_base.specs.Nodes.{side_of}
-use Rattle.rb_rules.specs.Hearing.{Coming}
-use Rattle.rb_rules.specs.WorldStep.{event_of}
-use Rattle.rb_rules.specs.WorldStep.Pending.{Arrival}
-use Rattle.rb_world.specs.Sites.{number_of}
-use Rattle.rb_world.proofs.Observed.{arrival-shown, arrival-there, told-as}
-use Rattle.rb_world.proofs.OneTaken.{coming-is}
-use Rattle.rb_world.specs.Buses.{scenario_of}
+use Rattle.rb_rules.specs.{Hearing.Coming, WorldStep.event_of, WorldStep.Pending.Arrival}
+use Rattle.rb_world.specs.{Sites.number_of, Buses.scenario_of}
+use Rattle.rb_world.proofs.{Observed.{arrival-shown, arrival-there, told-as}, OneTaken.coming-is}
 use Rattle.rb_world.proofs.observing.tell_arrival.Goals as goal
 
 pub show_arrival-event-requires : goal.show_arrival-event-requires

@@ -1,8 +1,7 @@
 use Rattle.rb_base.specs.Nodes.{side_of}
 use Rattle.rb_rules.specs.WorldStep.Pending.{Tick}
-use Rattle.rb_world.specs.Sites.{number_of}
+use Rattle.rb_world.specs.{Sites.number_of, Buses.scenario_of}
 use Rattle.rb_world.proofs.Observed.{told-as}
-use Rattle.rb_world.specs.Buses.{scenario_of}
 use Rattle.rb_world.proofs.observing.tell_tick.Goals as goal
 
 pub returns : goal.returns

@@ -1,6 +1,5 @@
 use Rattle.std.proofs.Common.{ℕ, nat_lt, ◌∙◌, ap, subst}
-use Rattle.rb_base.specs.Nodes.{set_of}
-use Rattle.rb_base.specs.Sizes.{IsShape, Sizes}
+use Rattle.rb_base.specs.{Nodes.set_of, Sizes.{IsShape, Sizes}}
 use Rattle.rb_rules.specs.Book.{each_of}
 use Rattle.rb_queue.specs.Waiting.{empty_lane}
 use Rattle.rb_world.proofs.FirstStands.{before-surrounds}

@@ -2,8 +2,7 @@ use Rattle.std.proofs.Common.{sym, ap, ◌∙◌, subst}
 use Rattle.rb_base.specs.Nodes.{side_of}
 use Rattle.rb_rules.specs.Clock.{time_of}
 use Rattle.rb_node.specs.Cores.{IsCore, next_of}
-use Rattle.rb_world.proofs.Going.{await-push, await-still}
-use Rattle.rb_world.proofs.Lanes.{has-lane}
+use Rattle.rb_world.proofs.{Going.{await-push, await-still}, Lanes.has-lane}
 use Rattle.rb_world.specs.Buses.{scenario_of}
 use Rattle.rb_world.proofs.proceeding.await_tick.Goals as goal
 

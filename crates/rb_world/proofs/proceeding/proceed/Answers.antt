@@ -2,9 +2,8 @@ use Rattle.std.proofs.Common.{sym, ap, ◌∙◌}
 use Rattle.rb_base.specs.Nodes.{side_of}
 use Rattle.rb_slot.specs.Engines.{Seated}
 use Rattle.rb_node.specs.Cores.{Running}
-use Rattle.rb_world.specs.Sites.{number_of}
+use Rattle.rb_world.specs.{Sites.number_of, Buses.scenario_of}
 use Rattle.rb_world.proofs.Entering.{after-calm}
-use Rattle.rb_world.specs.Buses.{scenario_of}
 use Rattle.rb_world.proofs.proceeding.proceed.Goals as goal
 
 pub returns-then-is_calm : goal.returns-then-is_calm

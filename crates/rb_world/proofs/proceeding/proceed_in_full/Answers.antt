@@ -1,22 +1,13 @@
 use Rattle.std.proofs.Common.{◌+◌, ◌≤◌, sym, ap, ◌∙◌, subst, arith}
 use Rattle.std.specs.Prelude.{length, option_map}
 use Rattle.rb_base.specs.Nodes.{other, side_of}
-use Rattle.rb_rules.specs.Book.{of_kind}
-use Rattle.rb_rules.specs.Lawful.{IsNodeOf, kind_of}
-use Rattle.rb_rules.specs.WorldStep.{says_in}
+use Rattle.rb_rules.specs.{Book.of_kind, Lawful.{IsNodeOf, kind_of}, WorldStep.says_in}
 use Rattle.rb_queue.specs.Waiting.{lane_of, spare_of}
 use Rattle.rb_node.specs.Acts.{span_in}
-use Rattle.rb_world.specs.Sites.{number_of}
-use Rattle.rb_world_traffic.specs.Arriving.{number_of as number_in}
-use Rattle.rb_world_traffic.specs.Saying.{hears, with_arrivals}
-use Rattle.rb_world.specs.declared.scene.Scene.{Scene}
-use Rattle.rb_world.specs.Steps.{OthersStay, moved}
-use Rattle.rb_world.specs.Worlds.{Surrounds}
-use Rattle.rb_world.proofs.Entering.{AwaitsTick, after-none, after-some, after-stop, others-named, says-around, spare-said}
-use Rattle.rb_world.proofs.Lanes.{has-lane, node-named}
+use Rattle.rb_world.specs.{Sites.number_of, declared.scene.Scene.Scene, Steps.{OthersStay, moved}, Worlds.Surrounds, Buses.scenario_of}
+use Rattle.rb_world_traffic.specs.{Arriving.number_of as number_in, Saying.{hears, with_arrivals}}
+use Rattle.rb_world.proofs.{Entering.{AwaitsTick, after-none, after-some, after-stop, others-named, says-around, spare-said}, Lanes.{has-lane, node-named}, proceeding.proceed_in_full.Goals.{in-Some+else-not-is_good, in_default}}
 use Rattle.rb_world.proofs.proceeding.proceed_in_full.Goals as goal
-use Rattle.rb_world.specs.Buses.{scenario_of}
-use Rattle.rb_world.proofs.proceeding.proceed_in_full.Goals.{in-Some+else-not-is_good, in_default}
 
 pub returns-then-not-is_good : goal.returns-then-not-is_good
 returns-then-not-is_good g c =

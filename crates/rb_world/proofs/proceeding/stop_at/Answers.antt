@@ -1,5 +1,4 @@
-use Rattle.rb_world.proofs.Going.{stop-biu, stop-rmu}
-use Rattle.rb_world.proofs.Lanes.{has-lane}
+use Rattle.rb_world.proofs.{Going.{stop-biu, stop-rmu}, Lanes.has-lane}
 use Rattle.rb_world.specs.Buses.{scenario_of}
 use Rattle.rb_world.proofs.proceeding.stop_at.Goals as goal
 

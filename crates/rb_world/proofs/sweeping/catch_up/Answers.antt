@@ -1,12 +1,8 @@
 use Rattle.std.proofs.Common.{Some, refl, sym, subst}
 use Rattle.rb_base.specs.Nodes.Side.{Biu}
 use Rattle.rb_rules.specs.Slots.{count_of}
-use Rattle.rb_world.specs.Observing.{WasTold, left_for}
-use Rattle.rb_world.specs.Runs.{nodes_of}
-use Rattle.rb_world.specs.Trailing.{Trails, swept_first, until_from}
-use Rattle.rb_world.proofs.CaughtUp.{all-caught, may-all, may-others, none-caught}
-use Rattle.rb_world.proofs.LeftTold.{left-none, told-all}
-use Rattle.rb_world.specs.Buses.{scenario_of}
+use Rattle.rb_world.specs.{Observing.{WasTold, left_for}, Runs.nodes_of, Trailing.{Trails, swept_first, until_from}, Buses.scenario_of}
+use Rattle.rb_world.proofs.{CaughtUp.{all-caught, may-all, may-others, none-caught}, LeftTold.{left-none, told-all}}
 use Rattle.rb_world.proofs.sweeping.catch_up.Goals as goal
 
 pub catch_up_all-requires-clause-may : goal.catch_up_all-requires-clause-may

@@ -1,13 +1,8 @@
 use Rattle.std.proofs.Common.{◌≡◌, Some, [], refl, sym, subst, ◌∙◌, arith, if◌then◌else◌}
 use Rattle.rb_base.specs.Nodes.{side_of}
-use Rattle.rb_rules.specs.Links.{name_of, same_node}
-use Rattle.rb_rules.specs.Slots.{count_of}
-use Rattle.rb_world.specs.Observing.{WasTold, left_below, left_for}
-use Rattle.rb_world.specs.Trailing.{HaveCaughtUp, until_from}
-use Rattle.rb_world.proofs.CaughtUp.{catch-begins}
-use Rattle.rb_world.proofs.LeftTold.{below-next, below-none}
-use Rattle.rb_world.proofs.Observed.{was-both}
-use Rattle.rb_world.specs.Buses.{scenario_of}
+use Rattle.rb_rules.specs.{Links.{name_of, same_node}, Slots.count_of}
+use Rattle.rb_world.specs.{Observing.{WasTold, left_below, left_for}, Trailing.{HaveCaughtUp, until_from}, Buses.scenario_of}
+use Rattle.rb_world.proofs.{CaughtUp.catch-begins, LeftTold.{below-next, below-none}, Observed.was-both}
 use Rattle.rb_world.proofs.sweeping.catch_up_all.Goals as goal
 
 pub loop-i-init : goal.loop-i-init

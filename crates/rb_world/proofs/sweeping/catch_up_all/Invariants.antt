@@ -1,12 +1,8 @@
 -- The nodes so far have been swept.
 use Rattle.std.proofs.Common.{◌≡◌, Some, length}
-use Rattle.rb_base.specs.Nodes.{side_of}
-use Rattle.rb_rules.specs.Book.{Each}
-use Rattle.rb_rules.specs.WorldStep.{Site as WorldSite}
-use Rattle.rb_base.specs.declared.node.NodeName.{NodeName}
-use Rattle.rb_world.specs.Observing.{WasTold, left_below}
-use Rattle.rb_world.specs.Trailing.{HaveCaughtUp, MayCatchUp, until_from}
-use Rattle.rb_world.specs.Buses.{scenario_of}
+use Rattle.rb_base.specs.{Nodes.side_of, declared.node.NodeName.NodeName}
+use Rattle.rb_rules.specs.{Book.Each, WorldStep.Site as WorldSite}
+use Rattle.rb_world.specs.{Observing.{WasTold, left_below}, Trailing.{HaveCaughtUp, MayCatchUp, until_from}, Buses.scenario_of}
 use Rattle.rb_world.proofs.sweeping.catch_up_all.Given as goal
 
 abbrev pub invariant-loop-i : goal.invariant-loop-i

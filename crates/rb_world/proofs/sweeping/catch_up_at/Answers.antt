@@ -1,10 +1,7 @@
 use Rattle.std.proofs.Common.{◌≡◌, Some, slice_get}
 use Rattle.rb_base.specs.Nodes.{side_of}
-use Rattle.rb_world.specs.Trailing.{swept_first, until_from}
-use Rattle.rb_world.proofs.Behind.{indexed}
-use Rattle.rb_world.proofs.CaughtUp.{catch-may, catch-then}
-use Rattle.rb_world.proofs.LeftTold.{catch-told}
-use Rattle.rb_world.specs.Buses.{scenario_of}
+use Rattle.rb_world.specs.{Trailing.{swept_first, until_from}, Buses.scenario_of}
+use Rattle.rb_world.proofs.{Behind.indexed, CaughtUp.{catch-may, catch-then}, LeftTold.catch-told}
 use Rattle.rb_world.proofs.sweeping.catch_up_at.Goals as goal
 
 pub sweep_for-requires-clause-name : goal.sweep_for-requires-clause-name

@@ -1,25 +1,12 @@
-use Rattle.std.proofs.Common.{◌≡◌, ◌<◌, ◌≤◌, None, refl, sym, ap, subst, ◌∙◌, arith}
+use Rattle.std.proofs.{Common.{◌≡◌, ◌<◌, ◌≤◌, None, refl, sym, ap, subst, ◌∙◌, arith}, lemmas.Option.slice_get_within}
 use Rattle.rb_base.specs.Nodes.{other, side_of}
-use Rattle.rb_rules.specs.Clock.{ComesBy}
-use Rattle.rb_rules.specs.Goodness.{clock_of}
-use Rattle.rb_rules.specs.Hearing.{Coming}
-use Rattle.rb_rules.specs.Lawful.{IsNodeOf}
-use Rattle.rb_rules.specs.Links.{name_of}
-use Rattle.rb_rules.specs.Slots.{count_of}
-use Rattle.rb_rules.specs.WorldStep.{after_arrival, at_node}
+use Rattle.rb_rules.specs.{Clock.ComesBy, Goodness.clock_of, Hearing.Coming, Lawful.IsNodeOf, Links.name_of, Slots.count_of, WorldStep.{after_arrival, at_node}}
 use Rattle.std.specs.Prelude.{unwrap_or}
-use Rattle.std.proofs.lemmas.Option.{slice_get_within}
-use Rattle.rb_queue.specs.Waiting.{HasLane, Held, IsFirstBefore, IsReadyBefore, event_with, lane_of, tick_time_of, with_lane, without_ready, without_tick}
-use Rattle.rb_queue.specs.Waiting.Ready.{Comes, Ticks}
+use Rattle.rb_queue.specs.{Waiting.{HasLane, Held, IsFirstBefore, IsReadyBefore, event_with, lane_of, tick_time_of, with_lane, without_ready, without_tick}, Waiting.Ready.{Comes, Ticks}}
 use Rattle.rb_world_agenda.specs.Agenda.{key_of}
 use Rattle.rb_node.specs.Cores.{passing_end}
-use Rattle.rb_world.specs.Sites.{Stands as StandsFor, number_of}
-use Rattle.rb_world.specs.Trailing.{TakesArrival, TakesTick, NoneBefore}
-use Rattle.rb_world.proofs.Lanes.{node-named}
-use Rattle.rb_world.proofs.OneTaken.{ComesFirst, comes-first, coming-is, first-dropped, none-first, takes-arrival, takes-tick, tick-dropped, tick-first, tick-is, ticks-first}
-use Rattle.rb_world.proofs.Swept.{clock-named, comes-in-time, may-come, sweep-begins, sweep-ends, sweep-goes, sweep-ticks}
-use Rattle.rb_world.proofs.Taken.{fewer-taken, lanes-taken, nothing-next, rooms-taken}
-use Rattle.rb_world.specs.Buses.{scenario_of}
+use Rattle.rb_world.specs.{Sites.{Stands as StandsFor, number_of}, Trailing.{TakesArrival, TakesTick, NoneBefore}, Buses.scenario_of}
+use Rattle.rb_world.proofs.{Lanes.node-named, OneTaken.{ComesFirst, comes-first, coming-is, first-dropped, none-first, takes-arrival, takes-tick, tick-dropped, tick-first, tick-is, ticks-first}, Swept.{clock-named, comes-in-time, may-come, sweep-begins, sweep-ends, sweep-goes, sweep-ticks}, Taken.{fewer-taken, lanes-taken, nothing-next, rooms-taken}}
 use Rattle.rb_world.proofs.sweeping.sweep.Goals as goal
 
 pub clock-clock-requires : goal.clock-clock-requires

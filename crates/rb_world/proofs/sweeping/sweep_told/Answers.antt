@@ -1,14 +1,9 @@
 use Rattle.std.proofs.Common.{◌≤◌, None, refl, sym, ap, subst, ◌∙◌, arith}
 use Rattle.rb_base.specs.Nodes.{side_of}
-use Rattle.rb_rules.specs.Links.{name_of}
-use Rattle.rb_rules.specs.WorldStep.{at_node}
+use Rattle.rb_rules.specs.{Links.name_of, WorldStep.at_node}
 use Rattle.rb_queue.specs.Waiting.{HasLane, IsFirstBefore, IsReadyBefore, lane_of, without_place}
-use Rattle.rb_world.specs.Sites.{number_of}
-use Rattle.rb_world.specs.Steps.{CanHear}
-use Rattle.rb_world.specs.Trailing.{MaySweep, Sweeps}
-use Rattle.rb_world.proofs.SweptTold.{hears-next, sweep-rest, told-begins, told-ends, told-goes}
-use Rattle.rb_world.proofs.Taken.{fewer-taken, lanes-taken}
-use Rattle.rb_world.specs.Buses.{scenario_of}
+use Rattle.rb_world.specs.{Sites.number_of, Steps.CanHear, Trailing.{MaySweep, Sweeps}, Buses.scenario_of}
+use Rattle.rb_world.proofs.{SweptTold.{hears-next, sweep-rest, told-begins, told-ends, told-goes}, Taken.{fewer-taken, lanes-taken}}
 use Rattle.rb_world.proofs.sweeping.sweep_told.Goals as goal
 
 pub events-init : goal.events-init

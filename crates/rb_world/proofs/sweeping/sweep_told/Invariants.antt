@@ -1,13 +1,9 @@
 use Rattle.std.proofs.Common.{◌≡◌, length}
-use Rattle.rb_base.specs.Nodes.{side_of}
-use Rattle.rb_base.specs.declared.node.NodeName.{NodeName}
-use Rattle.rb_rules.specs.Book.{Each}
-use Rattle.rb_rules.specs.WorldStep.{Site as WorldSite}
+use Rattle.rb_base.specs.{Nodes.side_of, declared.node.NodeName.NodeName}
+use Rattle.rb_rules.specs.{Book.Each, WorldStep.Site as WorldSite}
 use Rattle.rb_queue.specs.Waiting.{HasLane, lane_of}
-use Rattle.rb_world.specs.Sites.{number_of}
-use Rattle.rb_world.specs.Trailing.{MaySweep}
+use Rattle.rb_world.specs.{Sites.number_of, Trailing.MaySweep, Buses.scenario_of}
 use Rattle.rb_world.proofs.SweptTold.{SweepsTold}
-use Rattle.rb_world.specs.Buses.{scenario_of}
 use Rattle.rb_world.proofs.sweeping.sweep_told.Given as goal
 
 abbrev pub invariant-events : goal.invariant-events

@@ -1,16 +1,12 @@
-use Rattle.std.proofs.Common.{◌≡◌, ◌<◌, List, get_or, length, take, refl, sym, ap, subst, ◌∙◌, arith}
-use Rattle.std.proofs.lemmas.List.{take_all}
-use Rattle.rb_base.specs.Nodes.{other, side_of}
-use Rattle.rb_base.specs.Sizes.{Sizes}
-use Rattle.rb_rules.specs.Hearing.{Coming}
-use Rattle.rb_rules.specs.Slots.{count_of}
+use Rattle.std.proofs.{Common.{◌≡◌, ◌<◌, List, get_or, length, take, refl, sym, ap, subst, ◌∙◌, arith}, lemmas.List.take_all}
+use Rattle.rb_base.specs.{Nodes.{other, side_of}, Sizes.Sizes}
+use Rattle.rb_rules.specs.{Hearing.Coming, Slots.count_of}
 use Rattle.rb_queue.specs.Waiting.{lane_of, with_lane, without_before, without_tick}
 use Rattle.rb_world_agenda.proofs.Keeping.{lane-with}
 use Rattle.rb_slot.specs.Engines.{Seated}
-use Rattle.rb_world.specs.Sites.{Stands as StandsFor}
+use Rattle.rb_world.specs.{Sites.Stands as StandsFor, Unstamped.{due_before, taken_all}}
 use Rattle.rb_laws_sweeps.proofs.Sweeps.{all-every}
 use Rattle.rb_world_traffic.proofs.Arrivals.{lane-again}
-use Rattle.rb_world.specs.Unstamped.{due_before, taken_all}
 use Rattle.rb_world.proofs.TakenIn.{every-at, taken-more}
 use Rattle.rb_world.proofs.sweeping.take_in_all.Goals as goal
 

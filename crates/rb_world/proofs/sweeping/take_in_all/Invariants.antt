@@ -1,10 +1,8 @@
 use Rattle.std.proofs.Common.{◌≡◌, take}
 use Rattle.rb_base.specs.Nodes.{side_of}
-use Rattle.rb_rules.specs.Goodness.{Scenario}
-use Rattle.rb_rules.specs.WorldStep.{Site as WorldSite}
+use Rattle.rb_rules.specs.{Goodness.Scenario, WorldStep.Site as WorldSite}
 use Rattle.rb_queue.specs.Waiting.{lane_of}
-use Rattle.rb_world.specs.Sites.{Stands as StandsFor}
-use Rattle.rb_world.specs.Unstamped.{due_before, taken_all}
+use Rattle.rb_world.specs.{Sites.Stands as StandsFor, Unstamped.{due_before, taken_all}}
 use Rattle.rb_world.proofs.sweeping.take_in_all.Given as goal
 
 abbrev pub invariant-loop-arrival : goal.invariant-loop-arrival

@@ -1,25 +1,12 @@
-use Rattle.std.proofs.Common.{◌≡◌, sym, ap, ◌∙◌, subst, arith}
+use Rattle.std.proofs.{Common.{◌≡◌, sym, ap, ◌∙◌, subst, arith}, lemmas.Option.get_or_from_slice_get}
 use Rattle.std.specs.Prelude.{◌<◌, get_or, None, slice_set}
-use Rattle.std.proofs.lemmas.Option.{get_or_from_slice_get}
 use Rattle.rb_base.specs.Nodes.Side.{Biu, Rmu}
-use Rattle.rb_rules.specs.WorldStep.Pending.{Tick}
-use Rattle.rb_rules.specs.Clock.{ComesBy}
-use Rattle.rb_rules.specs.Goodness.{clock_of}
-use Rattle.rb_rules.specs.Hearing.{Coming}
-use Rattle.rb_rules.specs.Slots.{count_of}
+use Rattle.rb_rules.specs.{WorldStep.Pending.Tick, Clock.ComesBy, Goodness.clock_of, Hearing.Coming, Slots.count_of, WorldStep.{Site as WorldSite, after_arrival}, Lawful.{IsNodeOf, kind_of}}
 use Rattle.rb_world_agenda.specs.Holding.{coming_with, without_waiting}
 use Rattle.rb_node.specs.Cores.{passing_end}
-use Rattle.rb_world.specs.Runs.{nodes_of}
-use Rattle.rb_world.specs.Sites.{Stands as StandsFor, number_of}
+use Rattle.rb_world.specs.{Runs.nodes_of, Sites.{Stands as StandsFor, number_of}, Steps.{Happens, MayTick, Ticks, act_at, moved}, Buses.scenario_of}
 use Rattle.rb_world_traffic.specs.Arriving.{number_of as number_in}
-use Rattle.rb_rules.specs.WorldStep.{Site as WorldSite, after_arrival}
-use Rattle.rb_world.specs.Steps.{Happens, MayTick, Ticks, act_at, moved}
-use Rattle.rb_world.proofs.Arrivals.{arrival-acts, arrival-ready, in-time}
-use Rattle.rb_world.proofs.Happening.{biu-happens, rmu-happens, tick-acts}
-use Rattle.rb_world.proofs.Ready.{node-there, tick-ready}
-use Rattle.rb_world.proofs.Lanes.{node-named}
-use Rattle.rb_rules.specs.Lawful.{IsNodeOf, kind_of}
-use Rattle.rb_world.specs.Buses.{scenario_of}
+use Rattle.rb_world.proofs.{Arrivals.{arrival-acts, arrival-ready, in-time}, Happening.{biu-happens, rmu-happens, tick-acts}, Ready.{node-there, tick-ready}, Lanes.node-named}
 use Rattle.rb_world.proofs.taking.happen.Goals as goal
 
 pub index_mut-requires : goal.index_mut-requires

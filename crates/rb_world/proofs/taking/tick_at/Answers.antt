@@ -1,11 +1,8 @@
-use Rattle.std.proofs.Common.{sym, ap, ◌∙◌, subst}
-use Rattle.std.proofs.lemmas.Option.{none-some, same_Some}
+use Rattle.std.proofs.{Common.{sym, ap, ◌∙◌, subst}, lemmas.Option.{none-some, same_Some}}
 use Rattle.rb_base.specs.Nodes.{side_of}
 use Rattle.rb_node.specs.Cores.{IsCore, next_of}
-use Rattle.rb_world.specs.Sites.{number_of}
-use Rattle.rb_world.specs.Steps.{MayTick, Ticks, act_at}
+use Rattle.rb_world.specs.{Sites.number_of, Steps.{MayTick, Ticks, act_at}, Buses.scenario_of}
 use Rattle.rb_world.proofs.Acting.{next-is}
-use Rattle.rb_world.specs.Buses.{scenario_of}
 use Rattle.rb_world.proofs.taking.tick_at.Goals as goal
 
 pub tick-requires-clause-may : goal.tick-requires-clause-may

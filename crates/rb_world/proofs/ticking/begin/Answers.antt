@@ -1,10 +1,8 @@
 use Rattle.std.proofs.Common.{sym, ap, ◌∙◌, subst}
-use Rattle.rb_rules.specs.Clock.{time_of}
-use Rattle.rb_rules.specs.Lawful.{kind_of}
+use Rattle.rb_rules.specs.{Clock.time_of, Lawful.kind_of}
 use Rattle.rb_world_traffic.specs.Arriving.{number_of}
 use Rattle.rb_world.proofs.Told.{begin-biu, begin-none, begin-rmu}
-use Rattle.rb_world.specs.Worlds.{HoldsPorts}
-use Rattle.rb_world.specs.Buses.{scenario_of}
+use Rattle.rb_world.specs.{Worlds.HoldsPorts, Buses.scenario_of}
 use Rattle.rb_world.proofs.ticking.begin.Goals as goal
 
 pub returns-in-Biu-clause-around : goal.returns-in-Biu-clause-around

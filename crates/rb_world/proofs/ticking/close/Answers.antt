@@ -1,13 +1,10 @@
 use Rattle.std.proofs.Common.{refl, ap, ◌∙◌, subst}
-use Rattle.rb_base.specs.Nodes.{side_of}
-use Rattle.rb_base.specs.Nodes.Side.{Biu, Rmu}
-use Rattle.rb_rules.specs.NodeState.{trusted_of}
-use Rattle.rb_rules.specs.WorldStep.{with_delivery}
+use Rattle.rb_base.specs.{Nodes.side_of, Nodes.Side.{Biu, Rmu}}
+use Rattle.rb_rules.specs.{NodeState.trusted_of, WorldStep.with_delivery}
 use Rattle.rb_node.specs.Cores.{Running}
 use Rattle.rb_slot.specs.Engines.{Seated}
-use Rattle.rb_world.specs.Worlds.{HoldsPorts}
+use Rattle.rb_world.specs.{Worlds.HoldsPorts, Buses.scenario_of}
 use Rattle.rb_world.proofs.Told.{close-is}
-use Rattle.rb_world.specs.Buses.{scenario_of}
 use Rattle.rb_world.proofs.ticking.close.Goals as goal
 
 pub returns-clause-around : goal.returns-clause-around

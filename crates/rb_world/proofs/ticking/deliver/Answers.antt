@@ -1,11 +1,9 @@
-use Rattle.std.proofs.Common.{Some, sym, subst, ◌∙◌, arith}
+use Rattle.std.proofs.{Common.{Some, sym, subst, ◌∙◌, arith}, lemmas.Option.get_or_from_slice_get}
 use Rattle.std.specs.Prelude.{slice_set}
-use Rattle.std.proofs.lemmas.Option.{get_or_from_slice_get}
 use Rattle.rb_rules.specs.WorldStep.{with_delivery}
 use Rattle.rb_port.specs.Keeping.{HoldsPort}
-use Rattle.rb_world.specs.Worlds.{HoldsPorts}
+use Rattle.rb_world.specs.{Worlds.HoldsPorts, Buses.scenario_of}
 use Rattle.rb_world.proofs.Told.{delivers}
-use Rattle.rb_world.specs.Buses.{scenario_of}
 use Rattle.rb_world.proofs.ticking.deliver.Goals as goal
 
 pub returns-then-from-len : goal.returns-then-from-len

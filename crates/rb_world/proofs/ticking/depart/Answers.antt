@@ -1,13 +1,9 @@
 use Rattle.std.proofs.Common.{◌≡◌, true, sym, subst}
 use Rattle.rb_base.specs.Nodes.{has, other}
-use Rattle.rb_rules.specs.Lawful.{kind_of}
-use Rattle.rb_rules.specs.Links.{name_of}
-use Rattle.rb_rules.specs.WorldStep.{with_message}
+use Rattle.rb_rules.specs.{Lawful.kind_of, Links.name_of, WorldStep.with_message}
 use Rattle.rb_world_traffic.specs.Arriving.{AreRunning, number_of}
-use Rattle.rb_world.specs.Worlds.{Surrounds}
-use Rattle.rb_world.proofs.Around.{sent-more}
-use Rattle.rb_world.proofs.Lanes.{has-lane, node-named}
-use Rattle.rb_world.specs.Buses.{scenario_of}
+use Rattle.rb_world.specs.{Worlds.Surrounds, Buses.scenario_of}
+use Rattle.rb_world.proofs.{Around.sent-more, Lanes.{has-lane, node-named}}
 use Rattle.rb_world.proofs.ticking.depart.Goals as goal
 
 pub send-requires-clause-room : goal.send-requires-clause-room

@@ -1,8 +1,6 @@
-use Rattle.std.proofs.Common.{◌≡◌, Some, slice_get, sym, ap, ◌∙◌, arith}
+use Rattle.std.proofs.{Common.{◌≡◌, Some, slice_get, sym, ap, ◌∙◌, arith}, lemmas.Option.slice_get-get_or}
 use Rattle.std.specs.Prelude.{get_or}
-use Rattle.std.proofs.lemmas.Option.{slice_get-get_or}
-use Rattle.rb_rules.specs.Hearing.{port_at}
-use Rattle.rb_rules.specs.Ports.{fresh_port}
+use Rattle.rb_rules.specs.{Hearing.port_at, Ports.fresh_port}
 use Rattle.rb_port.specs.Keeping.{HoldsPort}
 use Rattle.rb_world.proofs.Told.{line-is}
 use Rattle.rb_world.specs.Buses.{scenario_of}

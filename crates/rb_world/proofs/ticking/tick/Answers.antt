@@ -1,17 +1,10 @@
 use Rattle.std.proofs.Common.{refl, sym, ap, ◌∙◌, subst, None, true}
 use Rattle.rb_base.specs.Nodes.{side_of}
-use Rattle.rb_rules.specs.Lawful.{kind_of}
-use Rattle.rb_rules.specs.Links.{name_of}
+use Rattle.rb_rules.specs.{Lawful.kind_of, Links.name_of}
 use Rattle.rb_node.specs.declared.act.Step.{Step}
-use Rattle.rb_world.specs.Sites.{after_tick, number_of}
-use Rattle.rb_world.specs.Tells.{IsTicked}
+use Rattle.rb_world.specs.{Sites.{after_tick, number_of}, Tells.IsTicked, Steps.{MayProceed, Proceeds, SeesOnlyNodes}, Buses.scenario_of}
 use Rattle.rb_world_traffic.specs.Arriving.{number_of as number_in}
-use Rattle.rb_world.specs.Steps.{MayProceed, Proceeds, SeesOnlyNodes}
-use Rattle.rb_world.proofs.Acting.{told_in}
-use Rattle.rb_world.proofs.Lanes.{kind-named}
-use Rattle.rb_world.proofs.Told.{begin-none}
-use Rattle.rb_world.proofs.Whole.{act_of, may-then, sees-nodes, told-then, whole}
-use Rattle.rb_world.specs.Buses.{scenario_of}
+use Rattle.rb_world.proofs.{Acting.told_in, Lanes.kind-named, Told.begin-none, Whole.{act_of, may-then, sees-nodes, told-then, whole}}
 use Rattle.rb_world.proofs.ticking.tick.Goals as goal
 
 -- the step in which a window ends and nothing else happens

@@ -1,15 +1,9 @@
 use Rattle.std.proofs.Common.{sym, ap, ◌∙◌, subst}
 use Rattle.rb_base.specs.Nodes.{side_of}
-use Rattle.rb_rules.specs.Core.{pass_to}
-use Rattle.rb_rules.specs.WorldStep.{wants_in, word_of}
-use Rattle.rb_node.specs.Cores.{IsCore, next_of}
-use Rattle.rb_node.specs.Wants.{want_then}
-use Rattle.rb_world.specs.Sites.{number_of}
-use Rattle.rb_world.specs.Steps.{CanWant}
-use Rattle.rb_world.specs.Worlds.{HoldsPorts}
-use Rattle.rb_world.proofs.Acting.{want-is}
-use Rattle.rb_world.proofs.Words.{can-want, wants-words}
-use Rattle.rb_world.specs.Buses.{scenario_of}
+use Rattle.rb_rules.specs.{Core.pass_to, WorldStep.{wants_in, word_of}}
+use Rattle.rb_node.specs.{Cores.{IsCore, next_of}, Wants.want_then}
+use Rattle.rb_world.specs.{Sites.number_of, Steps.CanWant, Worlds.HoldsPorts, Buses.scenario_of}
+use Rattle.rb_world.proofs.{Acting.want-is, Words.{can-want, wants-words}}
 use Rattle.rb_world.proofs.ticking.tick_in_full.Goals as goal
 
 pub word_for-word-requires-clause-want : goal.word_for-word-requires-clause-want

@@ -1,18 +1,11 @@
 use Rattle.std.proofs.Common.{◌≤◌, ◌^◌, sym, ap, ◌∙◌, subst, arith}
 use Rattle.std.specs.Prelude.{IfSome}
 use Rattle.rb_base.specs.Nodes.{other, side_of}
-use Rattle.rb_rules.specs.Lawful.{kind_of}
-use Rattle.rb_rules.specs.WorldStep.{proceed}
+use Rattle.rb_rules.specs.{Lawful.kind_of, WorldStep.proceed}
 use Rattle.rb_node.specs.Cores.{Running}
 use Rattle.rb_slot.specs.Engines.{Seated}
-use Rattle.rb_world.specs.Sites.{after_tick, number_of}
-use Rattle.rb_world.specs.Tells.{IsTicked}
-use Rattle.rb_world.specs.declared.scene.Scene.{Scene}
-use Rattle.rb_world.specs.Steps.{moved, HasRoomFor, MayProceed, Proceeds, SeesOnlyNodes}
-use Rattle.rb_world.proofs.Acting.{told_in}
-use Rattle.rb_world.proofs.Lanes.{kind-named}
-use Rattle.rb_world.proofs.Whole.{act_of, epoch-tick, may-then, room-then, sees-nodes, told-then, whole}
-use Rattle.rb_world.specs.Buses.{scenario_of}
+use Rattle.rb_world.specs.{Sites.{after_tick, number_of}, Tells.IsTicked, declared.scene.Scene.Scene, Steps.{moved, HasRoomFor, MayProceed, Proceeds, SeesOnlyNodes}, Buses.scenario_of}
+use Rattle.rb_world.proofs.{Acting.told_in, Lanes.kind-named, Whole.{act_of, epoch-tick, may-then, room-then, sees-nodes, told-then, whole}}
 use Rattle.rb_world.proofs.ticking.tick_with_word.Goals as goal
 
 pub begin-requires-clause-tick : goal.begin-requires-clause-tick

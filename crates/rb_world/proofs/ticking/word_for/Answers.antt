@@ -1,11 +1,8 @@
-use Rattle.std.proofs.Common.{◌≡◌, ◌<◌, Some, slice_get, sym, ap, ◌∙◌, subst, arith}
+use Rattle.std.proofs.{Common.{◌≡◌, ◌<◌, Some, slice_get, sym, ap, ◌∙◌, subst, arith}, lemmas.Option.slice_get-get_or}
 use Rattle.std.specs.Prelude.{get_or}
-use Rattle.std.proofs.lemmas.Option.{slice_get-get_or}
-use Rattle.rb_rules.specs.Hearing.{port_at}
-use Rattle.rb_rules.specs.Ports.{fresh_port}
-use Rattle.rb_world.specs.Steps.{CanWant}
+use Rattle.rb_rules.specs.{Hearing.port_at, Ports.fresh_port}
+use Rattle.rb_world.specs.{Steps.CanWant, Buses.scenario_of}
 use Rattle.rb_world.proofs.Words.{word-data}
-use Rattle.rb_world.specs.Buses.{scenario_of}
 use Rattle.rb_world.proofs.ticking.word_for.Goals as goal
 
 pub returns-in-Data : goal.returns-in-Data

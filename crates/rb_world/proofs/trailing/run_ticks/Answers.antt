@@ -1,12 +1,7 @@
 use Rattle.std.proofs.Common.{ap, arith}
 use Rattle.rb_world_book.specs.Records.{record_of}
-use Rattle.rb_world.specs.Runs.{nodes_of}
-use Rattle.rb_world.specs.Trailing.{until_from}
-use Rattle.rb_world.proofs.Along.{comes-quiet}
-use Rattle.rb_world.proofs.NextRecord.{some-record}
-use Rattle.rb_world.proofs.Running.{along-first, comes-to, few-along}
-use Rattle.rb_world.proofs.ToldOn.{told-first, told-quiet, told-to-record}
-use Rattle.rb_world.specs.Buses.{scenario_of}
+use Rattle.rb_world.specs.{Runs.nodes_of, Trailing.until_from, Buses.scenario_of}
+use Rattle.rb_world.proofs.{Along.comes-quiet, NextRecord.some-record, Running.{along-first, comes-to, few-along}, ToldOn.{told-first, told-quiet, told-to-record}}
 use Rattle.rb_world.proofs.trailing.run_ticks.Goals as goal
 
 pub loop-passed-init : goal.loop-passed-init

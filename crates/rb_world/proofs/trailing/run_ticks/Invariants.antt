@@ -1,14 +1,10 @@
 -- At least this number of steps gave no record.
 use Rattle.std.proofs.Common.{◌≡◌, ℕ, ◌<◌, Some}
 use Rattle.std.specs.Prelude.{IfSome}
-use Rattle.rb_rules.specs.WorldStep.{World as RunWorld}
-use Rattle.rb_world_book.specs.declared.turn.Turn.TheVariants as shown
+use Rattle.rb_rules.specs.{WorldStep.World as RunWorld, Lawful.IsNodeOf}
 use Rattle.rb_base.specs.declared.node.NodeName.{NodeName}
-use Rattle.rb_rules.specs.Lawful.{IsNodeOf}
-use Rattle.rb_world.specs.Observing.{AlongTold}
-use Rattle.rb_world.specs.Runs.{nodes_of}
-use Rattle.rb_world.specs.Trailing.{Along, MayRun, until_from}
-use Rattle.rb_world.specs.Buses.{scenario_of}
+use Rattle.rb_world.specs.{Observing.AlongTold, Runs.nodes_of, Trailing.{Along, MayRun, until_from}, Buses.scenario_of}
+use Rattle.rb_world_book.specs.declared.turn.Turn.TheVariants as shown
 use Rattle.rb_world.proofs.trailing.run_ticks.Given as goal
 
 abbrev pub invariant-loop-passed : goal.invariant-loop-passed

@@ -1,13 +1,7 @@
 use Rattle.std.proofs.Common.{◌≡◌, true, false, sym, ◌∙◌}
-use Rattle.rb_rules.specs.WorldStep.{needs_no_event}
-use Rattle.rb_world.specs.Runs.{nodes_of}
-use Rattle.rb_world.specs.Trailing.{until_from}
-use Rattle.rb_rules.specs.Book.{Each}
-use Rattle.rb_world.specs.Sites.{KeptSite}
-use Rattle.rb_world.proofs.Along.{comes-by-itself}
-use Rattle.rb_world.proofs.Running.{may-tick-along, ticks-along}
-use Rattle.rb_world.proofs.ToldOn.{told-by-itself, told-by-tick}
-use Rattle.rb_world.specs.Buses.{scenario_of}
+use Rattle.rb_rules.specs.{WorldStep.needs_no_event, Book.Each}
+use Rattle.rb_world.specs.{Runs.nodes_of, Trailing.until_from, Sites.KeptSite, Buses.scenario_of}
+use Rattle.rb_world.proofs.{Along.comes-by-itself, Running.{may-tick-along, ticks-along}, ToldOn.{told-by-itself, told-by-tick}}
 use Rattle.rb_world.proofs.trailing.step_on.Goals as goal
 
 pub returns-then-needs_no_event-clause-comes : goal.returns-then-needs_no_event-clause-comes

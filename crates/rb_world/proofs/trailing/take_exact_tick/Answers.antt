@@ -1,10 +1,8 @@
 use Rattle.std.proofs.Common.{◌+◌, sym, ap, ◌∙◌}
 use Rattle.rb_base.specs.Nodes.{side_of}
 use Rattle.rb_slot.specs.Engines.{Seated}
-use Rattle.rb_world.specs.Steps.{moved}
-use Rattle.rb_world.specs.Unstamped.{bare_with}
+use Rattle.rb_world.specs.{Steps.moved, Unstamped.bare_with, Buses.scenario_of}
 use Rattle.rb_world.proofs.Readied.{TakesIn, kept_core, lane-known, may-tick-now, node-at, takes-now}
-use Rattle.rb_world.specs.Buses.{scenario_of}
 use Rattle.rb_world.proofs.trailing.take_exact_tick.Goals as goal
 
 pub take_in_all-requires-clause-lane : goal.take_in_all-requires-clause-lane

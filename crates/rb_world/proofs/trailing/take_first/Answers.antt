@@ -1,12 +1,9 @@
 use Rattle.std.proofs.Common.{refl, sym, ◌∙◌, subst}
 use Rattle.rb_base.specs.Nodes.Side.{Biu, Rmu}
-use Rattle.rb_base.specs.declared.node.NodeName.TheVariants as node
 use Rattle.rb_rules.specs.Book.{Each}
-use Rattle.rb_world.specs.Runs.{nodes_of}
-use Rattle.rb_world.specs.Sites.{KeptSite}
-use Rattle.rb_world.proofs.Running.{FirstHere, may-same, biu-may, biu-named, biu-taken, first-here, rmu-may, rmu-named, rmu-taken}
-use Rattle.rb_world.proofs.ToldOn.{alone-moved}
-use Rattle.rb_world.specs.Buses.{scenario_of}
+use Rattle.rb_world.specs.{Runs.nodes_of, Sites.KeptSite, Buses.scenario_of}
+use Rattle.rb_world.proofs.{Running.{FirstHere, may-same, biu-may, biu-named, biu-taken, first-here, rmu-may, rmu-named, rmu-taken}, ToldOn.alone-moved}
+use Rattle.rb_base.specs.declared.node.NodeName.TheVariants as node
 use Rattle.rb_world.proofs.trailing.take_first.Goals as goal
 
 pub take_tick-requires-clause-within : goal.take_tick-requires-clause-within

@@ -1,21 +1,11 @@
 use Rattle.std.proofs.Common.{◌≡◌, ◌+◌, Some, false, [], ◌∷◌, ◌++◌, get_or, slice_get, refl, sym, ap, subst, ◌∙◌, if◌then◌else◌}
 use Rattle.std.specs.Prelude.{slice_set}
 use Rattle.rb_base.specs.Nodes.{other, side_of}
-use Rattle.rb_rules.specs.Book.{of_kind}
-use Rattle.rb_rules.specs.Links.{name_of, same_node}
-use Rattle.rb_rules.specs.WorldStep.Pending.{Tick}
+use Rattle.rb_rules.specs.{Book.of_kind, Links.{name_of, same_node}, WorldStep.Pending.Tick}
 use Rattle.rb_world_agenda.specs.Holding.{without_waiting}
-use Rattle.rb_world.specs.Sites.{number_of}
+use Rattle.rb_world.specs.{Sites.number_of, Observing.{WasTold, alone_for}, Showing.MayShowTick, Steps.{MayTick, Ticks, act_at, moved}, Trailing.{MaySweep, Sweeps, TakesFirst, alone, bare}, Unstamped.MayTakeExactly, Buses.scenario_of}
 use Rattle.rb_laws_sweeps.specs.Told.{heard, telling}
-use Rattle.rb_world.specs.Observing.{WasTold, alone_for}
-use Rattle.rb_world.specs.Showing.{MayShowTick}
-use Rattle.rb_world.specs.Steps.{MayTick, Ticks, act_at, moved}
-use Rattle.rb_world.specs.Trailing.{MaySweep, Sweeps, TakesFirst, alone, bare}
-use Rattle.rb_world.specs.Unstamped.{MayTakeExactly}
-use Rattle.rb_world.proofs.Behind.{indexed, may-take, may-then, takes-first}
-use Rattle.rb_world.proofs.Observed.{was-both}
-use Rattle.rb_world.proofs.ToldOn.{alone-told, tick-shown}
-use Rattle.rb_world.specs.Buses.{scenario_of}
+use Rattle.rb_world.proofs.{Behind.{indexed, may-take, may-then, takes-first}, Observed.was-both, ToldOn.{alone-told, tick-shown}}
 use Rattle.rb_world.proofs.trailing.take_tick.Goals as goal
 
 pub sweep_for-requires-clause-name : goal.sweep_for-requires-clause-name

@@ -1,10 +1,6 @@
-use Rattle.rb_rules.specs.WorldStep.{happens}
-use Rattle.rb_rules.specs.WorldStep.Pending.{Tick}
-use Rattle.rb_world.specs.Runs.{nodes_of}
-use Rattle.rb_world.specs.Trailing.{alone}
-use Rattle.rb_world.proofs.Behind.{some-first}
-use Rattle.rb_world.proofs.Running.{tick-goes}
-use Rattle.rb_world.specs.Buses.{scenario_of}
+use Rattle.rb_rules.specs.{WorldStep.happens, WorldStep.Pending.Tick}
+use Rattle.rb_world.specs.{Runs.nodes_of, Trailing.alone, Buses.scenario_of}
+use Rattle.rb_world.proofs.{Behind.some-first, Running.tick-goes}
 use Rattle.rb_world.proofs.trailing.tick_first.Goals as goal
 
 pub take_first-node-requires : goal.take_first-node-requires

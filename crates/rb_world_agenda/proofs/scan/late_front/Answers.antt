@@ -1,9 +1,7 @@
-use Rattle.std.proofs.Common.{◌≡◌, ◌<◌, get_or, length, arith, sym, ap, subst, ◌∙◌}
-use Rattle.std.proofs.lemmas.List.{take_all}
+use Rattle.std.proofs.{Common.{◌≡◌, ◌<◌, get_or, length, arith, sym, ap, subst, ◌∙◌}, lemmas.List.take_all}
 use Rattle.rb_queue.specs.Waiting.{HasLane, lane_of, tick_time_of}
 use Rattle.rb_world_agenda.specs.Agenda.{tick_times}
-use Rattle.rb_world_agenda.proofs.Fronts.{first-few, front-all, front-key, front-none}
-use Rattle.rb_world_agenda.proofs.Ticks.{time-here}
+use Rattle.rb_world_agenda.proofs.{Fronts.{first-few, front-all, front-key, front-none}, Ticks.time-here}
 use Rattle.rb_world_agenda.proofs.scan.late_front.Goals as goal
 
 pub loop-position-init : goal.loop-position-init

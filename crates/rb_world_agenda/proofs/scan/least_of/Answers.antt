@@ -1,6 +1,4 @@
-use Rattle.std.proofs.Common.{◌≡◌, ◌<◌, ◌≤◌, All, get_or, length, take, refl, arith, sym, ap, subst, ◌∙◌}
-use Rattle.std.proofs.lemmas.List.{take_all, take_more}
-use Rattle.std.proofs.lemmas.List.Elements.{All-nil, All-push}
+use Rattle.std.proofs.{Common.{◌≡◌, ◌<◌, ◌≤◌, All, get_or, length, take, refl, arith, sym, ap, subst, ◌∙◌}, lemmas.List.{take_all, take_more}, lemmas.List.Elements.{All-nil, All-push}}
 use Rattle.rb_queue.specs.Waiting.{HasLane, lane_of}
 use Rattle.rb_world_agenda.specs.Agenda.{key_of, keys_of, least_key}
 use Rattle.rb_world_agenda.proofs.Scans.{few-here, least-more, many-few}

@@ -1,9 +1,8 @@
 use Rattle.std.proofs.Common.{◌≡◌, ◌≤◌, get_or, length, arith, subst, sym, ap, ◌∙◌}
 use Rattle.rb_queue.specs.Waiting.{HasLane, lane_of}
-use Rattle.rb_world_agenda.specs.Agenda.{StandsAt, due_in, keys_of}
+use Rattle.rb_world_agenda.specs.{Agenda.{StandsAt, due_in, keys_of}, Agenda.due_count}
 use Rattle.rb_world_agenda.proofs.Scans.{count-all, count-more, few-here, many-few, stands-here}
 use Rattle.rb_world_agenda.proofs.scan.locate.Goals as goal
-use Rattle.rb_world_agenda.specs.Agenda.{due_count}
 
 pub node_at-node-requires-clause-bius : goal.node_at-node-requires-clause-bius
 node_at-node-requires-clause-bius c = let few = c.requires.few.few_bius in let split = c.requires.few.split in omega (arith, few, split)

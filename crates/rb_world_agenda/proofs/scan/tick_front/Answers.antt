@@ -1,6 +1,5 @@
 use Rattle.rb_world_agenda.specs.Agenda.{tick_times}
-use Rattle.rb_world_agenda.proofs.Marks.{front-read}
-use Rattle.rb_world_agenda.proofs.Ticks.{few-times}
+use Rattle.rb_world_agenda.proofs.{Marks.front-read, Ticks.few-times}
 use Rattle.rb_world_agenda.proofs.scan.tick_front.Goals as goal
 
 pub returns-clause-front : goal.returns-clause-front

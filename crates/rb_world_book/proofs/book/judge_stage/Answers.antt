@@ -1,12 +1,7 @@
 use Rattle.std.proofs.Common.{◌≡◌, ℕ, ◌-◌, ◌&&◌, not, nat_lt, map, ◌∙◌, ap, subst}
-use Rattle.rb_base.specs.Nodes.{Side, has, set_of}
-use Rattle.rb_base.specs.Nodes.Side.{Biu, Rmu}
-use Rattle.rb_base.specs.Sizes.{Sizes, IsShape}
-use Rattle.rb_rules.specs.Book.{in_order, judged_of, trusted_by}
-use Rattle.rb_rules.specs.ExactStage.{present}
-use Rattle.rb_world_book.specs.Holding.{without_lasting}
-use Rattle.rb_world_book.specs.Settling.{rows_found}
-use Rattle.rb_world_book.specs.Waiting.{was_taken, was_unlike}
+use Rattle.rb_base.specs.{Nodes.{Side, has, set_of}, Nodes.Side.{Biu, Rmu}, Sizes.{Sizes, IsShape}}
+use Rattle.rb_rules.specs.{Book.{in_order, judged_of, trusted_by}, ExactStage.present}
+use Rattle.rb_world_book.specs.{Holding.without_lasting, Settling.rows_found, Waiting.{was_taken, was_unlike}}
 use Rattle.rb_world_book.proofs.Judged.{rows-found, rows_of, sets-are}
 use Rattle.rb_world_book.proofs.book.judge_stage.Goals as goal
 

@@ -1,6 +1,5 @@
 use Rattle.std.proofs.Common.{◌≡◌, ◌<◌, ℕ, get_or, length, refl, subst, sym}
-use Rattle.rb_base.specs.Nodes.{TakesFirst}
-use Rattle.rb_base.specs.declared.values.See.TheVariants.{Nothing}
+use Rattle.rb_base.specs.{Nodes.TakesFirst, declared.values.See.TheVariants.Nothing}
 use Rattle.rb_world_book.specs.Telling.{timed_in}
 use Rattle.rb_world_book.proofs.Kept.{kept-all, kept-first, kept-next, kept_but, left-before}
 use Rattle.rb_world_book.proofs.told.keep_seen.Goals as goal

@@ -1,6 +1,5 @@
 use Rattle.std.proofs.Common.{◌≡◌, ◌<◌, ℕ, true, length, get_or}
-use Rattle.rb_base.specs.Nodes.{has}
-use Rattle.rb_base.specs.declared.values.See.TheVariants.{Nothing}
+use Rattle.rb_base.specs.{Nodes.has, declared.values.See.TheVariants.Nothing}
 use Rattle.rb_world_book.specs.Telling.{timed_in}
 use Rattle.rb_world_book.proofs.Kept.{kept_but}
 use Rattle.rb_world_book.proofs.told.keep_seen.Given as goal

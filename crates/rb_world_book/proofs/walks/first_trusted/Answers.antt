@@ -2,9 +2,7 @@ use Rattle.std.proofs.Common.{◌≡◌, refl, sym, ◌∙◌, ap, arith}
 use Rattle.std.specs.Prelude.{option_to_list}
 use Rattle.rb_base.specs.Nodes.{TakesFirst}
 use Rattle.rb_rules.specs.WorldStep.{row_for}
-use Rattle.rb_world_book.specs.declared.milestone.Milestone.TheVariants.{Stage}
-use Rattle.rb_world_book.specs.Telling.{has_told, row_told, told_at}
-use Rattle.rb_world_book.specs.Waiting.{first_trusted}
+use Rattle.rb_world_book.specs.{declared.milestone.Milestone.TheVariants.Stage, Telling.{has_told, row_told, told_at}, Waiting.first_trusted}
 use Rattle.rb_world_book.proofs.Popped.{all_left, first_told, is_below, nobody_told, one_less, untold}
 use Rattle.rb_world_book.proofs.walks.first_trusted.Goals as goal
 

@@ -1,10 +1,8 @@
 use Rattle.std.proofs.Common.{ℕ, ◌<◌, ◌^◌, refl, sym, ◌∙◌, ap, subst}
-use Rattle.rb_base.specs.Nodes.{TakesFirst}
-use Rattle.rb_base.specs.declared.values.See.{See}
+use Rattle.rb_base.specs.{Nodes.TakesFirst, declared.values.See.See}
 use Rattle.rb_base.proofs.Sets.{set_of-lt}
 use Rattle.rb_world_book.specs.Telling.{see_of, told_at}
-use Rattle.rb_world_book.proofs.Popped.{is_below}
-use Rattle.rb_world_book.proofs.Sights.{all_are_left, heard_all, not_yet, one_noted, unlike_all}
+use Rattle.rb_world_book.proofs.{Popped.is_below, Sights.{all_are_left, heard_all, not_yet, one_noted, unlike_all}}
 use Rattle.rb_world_book.proofs.walks.sights_of.Goals as goal
 
 pub loop-receiver-init : goal.loop-receiver-init

@@ -1,7 +1,6 @@
 use Rattle.std.proofs.Common.{[], true, refl, sym, ◌∙◌, ap, arith}
 use Rattle.rb_base.specs.Nodes.{TakesFirst, has}
-use Rattle.rb_world_book.specs.Telling.{told_at}
-use Rattle.rb_world_book.specs.Waiting.{line_of}
+use Rattle.rb_world_book.specs.{Telling.told_at, Waiting.line_of}
 use Rattle.rb_world_book.proofs.Popped.{all_followed, follows_none, has_room, one_follows}
 use Rattle.rb_world_book.proofs.walks.slot_lines.Goals as goal
 

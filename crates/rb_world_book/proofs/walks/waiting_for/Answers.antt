@@ -1,7 +1,6 @@
 use Rattle.std.proofs.Common.{ℕ, Bool, not, refl, ◌∙◌, ap}
 use Rattle.rb_base.specs.Nodes.{TakesFirst, has}
-use Rattle.rb_world_book.specs.Telling.{has_told, told_at}
-use Rattle.rb_world_book.specs.Waiting.{waiting_for}
+use Rattle.rb_world_book.specs.{Telling.{has_told, told_at}, Waiting.waiting_for}
 use Rattle.rb_world_book.proofs.Popped.{all_gone, is_below, none_gone, one_more}
 use Rattle.rb_world_book.proofs.walks.waiting_for.Goals as goal
 

@@ -1,6 +1,5 @@
 use Rattle.std.proofs.Common.{None, ◌∙◌, subst}
-use Rattle.rb_world_onset.specs.Faults.{Faults}
-use Rattle.rb_world_onset.specs.Search.{IsNextAmong}
+use Rattle.rb_world_onset.specs.{Faults.Faults, Search.IsNextAmong}
 use Rattle.rb_world_onset.proofs.Changes.{next_change}
 use Rattle.rb_world_onset.proofs.Onsets.next_change.Goals as goal
 

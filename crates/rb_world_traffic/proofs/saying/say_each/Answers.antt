@@ -1,11 +1,9 @@
 use Rattle.std.proofs.Common.{◌<◌, ◌≤◌, ◌+◌, arith, length, subst, sym, ◌∙◌}
 use Rattle.rb_base.proofs.Plain.{take-all}
 use Rattle.rb_queue.specs.Waiting.{HasLane, lane_of, spare_of}
-use Rattle.rb_world_traffic.specs.Saying.{Brings, entries_at}
-use Rattle.rb_world_traffic.specs.Spans.{span_of}
-use Rattle.rb_world_traffic.proofs.Arrivals.{so-far-none, so-far-said, with-nothing}
+use Rattle.rb_world_traffic.specs.{Saying.{Brings, entries_at}, Spans.span_of}
+use Rattle.rb_world_traffic.proofs.{Arrivals.{so-far-none, so-far-said, with-nothing}, saying.say_each.Goals.{then-number-len, else-number-len}}
 use Rattle.rb_world_traffic.proofs.saying.say_each.Goals as goal
-use Rattle.rb_world_traffic.proofs.saying.say_each.Goals.{then-number-len, else-number-len}
 
 pub loop-number-init : goal.loop-number-init
 loop-number-init c = record { lane = c.requires.lane; spare = omega arith; so_far = λ sc is. sym (with-nothing c.args.agenda.now c.args.to c.requires.lane) }

@@ -1,7 +1,6 @@
 use Rattle.std.proofs.Common.{◌+◌, ◌≤◌, take}
 use Rattle.rb_queue.specs.Waiting.{HasLane, lane_of, spare_of}
-use Rattle.rb_world_traffic.specs.Saying.{Brings, entries_at}
-use Rattle.rb_world_traffic.specs.Spans.{span_of}
+use Rattle.rb_world_traffic.specs.{Saying.{Brings, entries_at}, Spans.span_of}
 use Rattle.rb_world_traffic.proofs.saying.say_each.Given as goal
 
 abbrev pub invariant-loop-number : goal.invariant-loop-number

@@ -1,11 +1,7 @@
 use Rattle.std.proofs.Common.{◌+◌, ◌-◌, false, true, ap, sym, ◌∙◌}
 use Rattle.rb_queue.specs.Waiting.{Held, lane_of, with_arrival, with_lane}
-use Rattle.rb_rules.specs.Book.{Each}
-use Rattle.rb_rules.specs.Clock.{time_of}
-use Rattle.rb_rules.specs.Hearing.{Coming}
-use Rattle.rb_world_traffic.specs.Arriving.{number_of}
-use Rattle.rb_world_traffic.specs.Saying.{KeptSayings, brought, with_arrivals}
-use Rattle.rb_world_traffic.specs.Spans.{span_of}
+use Rattle.rb_rules.specs.{Book.Each, Clock.time_of, Hearing.Coming}
+use Rattle.rb_world_traffic.specs.{Arriving.number_of, Saying.{KeptSayings, brought, with_arrivals}, Spans.span_of}
 use Rattle.rb_world_traffic.proofs.Arrivals.{one-brought, one-place, with-nothing}
 use Rattle.rb_world_traffic.proofs.saying.say_one.Goals as goal
 

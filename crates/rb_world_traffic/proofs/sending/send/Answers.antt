@@ -1,10 +1,8 @@
 use Rattle.std.proofs.Common.{◌≡◌, sym, ap, subst, ◌∙◌}
 use Rattle.rb_base.specs.Nodes.{has, other}
-use Rattle.rb_rules.specs.Clock.{time_of}
-use Rattle.rb_rules.specs.Lawful.{kind_of}
+use Rattle.rb_rules.specs.{Clock.time_of, Lawful.kind_of}
 use Rattle.rb_world_agenda.specs.Holding.{HoldsSites}
-use Rattle.rb_world_traffic.specs.Arriving.{coming_to, lanes_with}
-use Rattle.rb_world_traffic.specs.Departing.{place_of, with_departure, with_sent}
+use Rattle.rb_world_traffic.specs.{Arriving.{coming_to, lanes_with}, Departing.{place_of, with_departure, with_sent}}
 use Rattle.rb_world_traffic.proofs.Sent.{sent-holds}
 use Rattle.rb_world_traffic.proofs.sending.send.Goals as goal
 

@@ -1,8 +1,6 @@
 use Rattle.std.proofs.Common.{◌≡◌, ◌≤◌, ◌+◌, ◌<◌, ◌^◌, ℕ, sym, ap, subst, ◌∙◌, arith, refl, true}
 use Rattle.rb_base.specs.Nodes.{TakesFirst, has, other}
-use Rattle.rb_rules.specs.Hearing.{Coming}
-use Rattle.rb_rules.specs.Lawful.{kind_of}
-use Rattle.rb_rules.specs.Links.{name_of}
+use Rattle.rb_rules.specs.{Hearing.Coming, Lawful.kind_of, Links.name_of}
 use Rattle.rb_queue.specs.Waiting.{HasLane, lane_of, spare_of, with_arrival, with_lane}
 use Rattle.rb_world_traffic.specs.Arriving.{coming_to, lanes_with}
 use Rattle.rb_world_traffic.proofs.Lanes.{gone-all, gone-more, gone-none, left-before, room-left, those_gone}

@@ -1,7 +1,5 @@
 -- The parts are what the split gives, and all of it is collected.
-use Rattle.std.proofs.Common.{lit<}
-use Rattle.std.proofs.lemmas.Iterator.Consumers.{map_from_collect}
-use Rattle.std.proofs.lemmas.Iterator.Splits.{YieldsList-from_str_split}
+use Rattle.std.proofs.{Common.lit<, lemmas.Iterator.Consumers.map_from_collect, lemmas.Iterator.Splits.YieldsList-from_str_split}
 use Rattle.robus_c.proofs.spelled.parts_of.Goals as goal
 
 pub returns : goal.returns

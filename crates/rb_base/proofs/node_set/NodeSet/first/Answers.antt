@@ -1,5 +1,4 @@
-use Rattle.std.proofs.Common.{◌≡◌, ◌≤◌, ◌*◌, ◌-◌, ◌%◌, ◌^◌, ◌∙◌, ap, arith}
-use Rattle.std.proofs.Math.Pow.{pow_mono}
+use Rattle.std.proofs.{Common.{◌≡◌, ◌≤◌, ◌*◌, ◌-◌, ◌%◌, ◌^◌, ◌∙◌, ap, arith}, Math.Pow.pow_mono}
 use Rattle.rb_base.proofs.Sets.{first_is}
 use Rattle.rb_base.proofs.node_set.NodeSet.first.Goals as goal
 

@@ -1,5 +1,4 @@
-use Rattle.std.proofs.Common.{◌∙◌, sym, arith}
-use Rattle.std.proofs.lemmas.Bool.{le-ltb}
+use Rattle.std.proofs.{Common.{◌∙◌, sym, arith}, lemmas.Bool.le-ltb}
 use Rattle.rb_base.proofs.Sets.{has_above}
 use Rattle.rb_base.proofs.node_set.NodeSet.has.Goals as goal
 

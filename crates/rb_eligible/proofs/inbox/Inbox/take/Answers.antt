@@ -1,10 +1,8 @@
-use Rattle.std.proofs.Common.{◌≡◌, ◌<◌, List, ◌++◌, ◌∷◌, [], false, length, sym, ◌∙◌, ap, arith}
-use Rattle.std.proofs.Math.ListN.{length-set}
+use Rattle.std.proofs.{Common.{◌≡◌, ◌<◌, List, ◌++◌, ◌∷◌, [], false, length, sym, ◌∙◌, ap, arith}, Math.ListN.length-set}
 use Rattle.rb_base.specs.Nodes.{has}
 use Rattle.rb_eligible.specs.Inboxes.{KeptArrivals, Received, HoldsArrivals}
-use Rattle.rb_eligible.proofs.Shown.{shows_first, shows_spoilt, short_first, up_to_first, up_to_spoilt}
+use Rattle.rb_eligible.proofs.{Shown.{shows_first, shows_spoilt, short_first, up_to_first, up_to_spoilt}, inbox.Inbox.take.Goals.{else-not-again-via-then-not-again+else-bytes-le-MOST_BYTES, else-not-again-via-else-not-again}}
 use Rattle.rb_eligible.proofs.inbox.Inbox.take.Goals as goal
-use Rattle.rb_eligible.proofs.inbox.Inbox.take.Goals.{else-not-again-via-then-not-again+else-bytes-le-MOST_BYTES, else-not-again-via-else-not-again}
 
 pub invariant_of-self : goal.invariant_of-self
 invariant_of-self g c =

@@ -1,13 +1,9 @@
-use Rattle.std.proofs.Common.{◌≡◌, ◌<◌, ◌≤◌, List, ◌++◌, ◌∷◌, [], false, length, refl, sym, ◌∙◌, ap, arith}
-use Rattle.std.proofs.Math.ListN.{length-set}
+use Rattle.std.proofs.{Common.{◌≡◌, ◌<◌, ◌≤◌, List, ◌++◌, ◌∷◌, [], false, length, refl, sym, ◌∙◌, ap, arith}, Math.ListN.length-set}
 use Rattle.rb_base.specs.Nodes.{has}
 use Rattle.rb_frame.specs.Spellings.{len_of}
-use Rattle.rb_eligible.specs.declared.reading.Sole.{Sole}
-use Rattle.rb_eligible.specs.Readings.{bytes_of}
-use Rattle.rb_eligible.specs.Inboxes.{KeptArrivals, Received, HoldsArrivals}
-use Rattle.rb_eligible.proofs.Shown.{shows_first, shows_spoilt, short_first, up_to_first, up_to_spoilt}
+use Rattle.rb_eligible.specs.{declared.reading.Sole.Sole, Readings.bytes_of, Inboxes.{KeptArrivals, Received, HoldsArrivals}}
+use Rattle.rb_eligible.proofs.{Shown.{shows_first, shows_spoilt, short_first, up_to_first, up_to_spoilt}, inbox.Inbox.take_spelled.Goals.{else-not-again-via-then-not-again+else-tail, else-not-again-via-else-not-again}}
 use Rattle.rb_eligible.proofs.inbox.Inbox.take_spelled.Goals as goal
-use Rattle.rb_eligible.proofs.inbox.Inbox.take_spelled.Goals.{else-not-again-via-then-not-again+else-tail, else-not-again-via-else-not-again}
 
 pub invariant_of-self : goal.invariant_of-self
 invariant_of-self g c =

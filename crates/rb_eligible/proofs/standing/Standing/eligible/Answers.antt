@@ -1,7 +1,6 @@
 use Rattle.std.proofs.Common.{◌<◌, ◌&&◌, ◌==◌, ◌∙◌, ap}
 use Rattle.rb_base.specs.Nodes.{has}
-use Rattle.rb_base.proofs.Plain.{eq_self}
-use Rattle.rb_base.proofs.Sets.{has-is}
+use Rattle.rb_base.proofs.{Plain.eq_self, Sets.has-is}
 use Rattle.rb_rules.specs.Standing.{is_eligible}
 use Rattle.rb_eligible.specs.Standings.{standing_of}
 use Rattle.rb_eligible.proofs.standing.Standing.eligible.Goals as goal

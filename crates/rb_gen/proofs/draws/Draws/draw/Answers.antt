@@ -1,5 +1,4 @@
-use Rattle.std.proofs.Common.{◌*◌, refl}
-use Rattle.std.proofs.Math.Nat.{mod-add-mod}
+use Rattle.std.proofs.{Common.{◌*◌, refl}, Math.Nat.mod-add-mod}
 use Rattle.rb_gen.specs.Draws.{next_state, number_of}
 use Rattle.rb_gen.proofs.draws.Draws.draw.Goals as goal
 

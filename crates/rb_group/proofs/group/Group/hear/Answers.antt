@@ -2,9 +2,8 @@ use Rattle.std.proofs.Common.{◌≡◌, List, [], ◌∷◌, ◌++◌, false, t
 use Rattle.rb_base.specs.Nodes.{has}
 use Rattle.rb_base.proofs.Sets.{has_above}
 use Rattle.rb_group.specs.Keeping.{HasHeard, KeptGroup}
-use Rattle.rb_group.proofs.Heards.{hears, hears_no_member}
+use Rattle.rb_group.proofs.{Heards.{hears, hears_no_member}, group.Group.hear.Goals.{else-delivery-lt16-via-then-delivery-lt16+else-has, else-delivery-lt16-via-else-delivery-lt16}}
 use Rattle.rb_group.proofs.group.Group.hear.Goals as goal
-use Rattle.rb_group.proofs.group.Group.hear.Goals.{else-delivery-lt16-via-then-delivery-lt16+else-has, else-delivery-lt16-via-else-delivery-lt16}
 
 pub returns-then-has-clause-heard : goal.returns-then-has-clause-heard
 returns-then-has-clause-heard c = λ deliveries is.

@@ -1,7 +1,6 @@
 use Rattle.std.proofs.Common.{◌≡◌, ◌==◌, true, false, not, ◌||◌, sym, ◌∙◌, ap, arith}
 use Rattle.rb_base.specs.Nodes.{has, set_of}
-use Rattle.rb_base.proofs.Plain.{eq_self}
-use Rattle.rb_base.proofs.Sets.{eq_other}
+use Rattle.rb_base.proofs.{Plain.eq_self, Sets.eq_other}
 use Rattle.rb_judge.specs.Sights.{is_unlike}
 use Rattle.rb_judge.proofs.Sights.{not_nothing, nothing_noted, something_noted}
 use Rattle.rb_judge.proofs.seen.SourceSights.noted.Goals as goal

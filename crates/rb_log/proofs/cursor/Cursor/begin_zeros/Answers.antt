@@ -1,7 +1,6 @@
 -- The record at the place is of ticks with word 0, or it is another.
 use Rattle.std.proofs.Common.{◌≤◌, ◌<◌, ◌+◌, length, sym, ◌∙◌, arith}
-use Rattle.rb_log.proofs.Cursors.{not_refused}
-use Rattle.rb_log.proofs.QuietTicks.{begins, no_front}
+use Rattle.rb_log.proofs.{Cursors.not_refused, QuietTicks.{begins, no_front}}
 use Rattle.rb_log.proofs.cursor.Cursor.begin_zeros.Goals as goal
 
 pub unreachable-requires : goal.unreachable-requires

@@ -1,7 +1,7 @@
 -- The first event, and the others.
 use Rattle.std.proofs.Common.{refl, arith}
-use Rattle.rb_rules.specs.Core as event
 use Rattle.rb_log.proofs.Cursors.{first_is, first_of_ticks, gives_zero, leaves_zeros, none_is_left}
+use Rattle.rb_rules.specs.Core as event
 use Rattle.rb_log.proofs.cursor.Cursor.next.Goals as goal
 
 pub returns-then-self-gt0-clause-event : goal.returns-then-self-gt0-clause-event

@@ -1,7 +1,6 @@
 -- What is passed is what stood in front.
 use Rattle.std.proofs.Common.{◌≡◌, sym, ap, ◌∙◌}
-use Rattle.rb_log.specs.Cursor.{events_left}
-use Rattle.rb_log.specs.LogText.{Log}
+use Rattle.rb_log.specs.{Cursor.events_left, LogText.Log}
 use Rattle.rb_log.proofs.QuietTicks.{split_passed}
 use Rattle.rb_log.proofs.reader.LogReader.skip.Goals as goal
 

@@ -1,8 +1,5 @@
-use Rattle.std.proofs.Common.{get_or, ap, sym, ◌∙◌}
-use Rattle.std.proofs.lemmas.Bool.{ltb-true, ltb-false}
-use Rattle.rb_long.specs.Spelling.{spelling_of}
-use Rattle.rb_long.specs.Senders.{waiting_in}
-use Rattle.rb_long.specs.Waiting.{without_word}
+use Rattle.std.proofs.{Common.{get_or, ap, sym, ◌∙◌}, lemmas.Bool.{ltb-true, ltb-false}}
+use Rattle.rb_long.specs.{Spelling.spelling_of, Senders.waiting_in, Waiting.without_word}
 use Rattle.rb_long.proofs.Words.{goes-on, is-sent, never-none}
 use Rattle.rb_long.proofs.sender.LongSender.next_word.Goals as goal
 

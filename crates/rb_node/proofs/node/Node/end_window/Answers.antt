@@ -2,9 +2,7 @@ use Rattle.std.proofs.Common.{rules, ◌≡◌, ◌<◌, ◌≤◌, ◌^◌, tru
 use Rattle.rb_base.specs.Nodes.{Side, side_of}
 use Rattle.rb_slot.specs.Engines.{IsSameFrame, Seated}
 use Rattle.rb_node.specs.Aheads.{following}
-use Rattle.rb_node.proofs.Acting.{closes-same}
-use Rattle.rb_node.proofs.Alone.{alone-ends, alone-follows, alone-gives, alone-soon, alone-stage, kept-alone, kept-otherwise}
-use Rattle.rb_node.proofs.Cores.{next-is}
+use Rattle.rb_node.proofs.{Acting.closes-same, Alone.{alone-ends, alone-follows, alone-gives, alone-soon, alone-stage, kept-alone, kept-otherwise}, Cores.next-is}
 use Rattle.rb_node.proofs.node.Node.end_window.Goals as goal
 
 true-false : true ≡ false → ⊥

@@ -1,13 +1,9 @@
-use Rattle.std.proofs.Common.{rules, ◌≡◌, ◌+◌, ◌<◌, ◌≤◌, ap, sym, ◌∙◌, subst, arith, not}
-use Rattle.std.proofs.lemmas.Bool.{eq-eqb, eqb-true, not-true}
-use Rattle.rb_base.specs.Nodes.{Side, side_of}
-use Rattle.rb_base.specs.Sizes.{sync_slot_of}
+use Rattle.std.proofs.{Common.{rules, ◌≡◌, ◌+◌, ◌<◌, ◌≤◌, ap, sym, ◌∙◌, subst, arith, not}, lemmas.Bool.{eq-eqb, eqb-true, not-true}}
+use Rattle.rb_base.specs.{Nodes.{Side, side_of}, Sizes.sync_slot_of}
 use Rattle.rb_rules.specs.Core.{is_tick}
 use Rattle.rb_slot.specs.Engines.{Seated}
 use Rattle.rb_node.specs.declared.ahead.Ahead.{Ahead}
-use Rattle.rb_node.proofs.Alone.{alone-ends, alone-stays}
-use Rattle.rb_node.proofs.Ending.{ShowsEnd, ends-kept, kept-ends, kept-stays, not-below, stays-kept}
-use Rattle.rb_node.proofs.node.Node.ends_exact_window.Goals.{then-self-sync_slot, else-self-sync_slot}
+use Rattle.rb_node.proofs.{Alone.{alone-ends, alone-stays}, Ending.{ShowsEnd, ends-kept, kept-ends, kept-stays, not-below, stays-kept}, node.Node.ends_exact_window.Goals.{then-self-sync_slot, else-self-sync_slot}}
 use Rattle.rb_node.proofs.node.Node.ends_exact_window.Goals as goal
 
 pub returns-then-self : goal.returns-then-self

@@ -1,7 +1,6 @@
 use Rattle.std.proofs.Common.{◌≡◌, ◌+◌, true, false, sym, ◌∙◌, ap}
 use Rattle.rb_base.specs.Nodes.{side_of}
-use Rattle.rb_rules.specs.Core.{is_tick}
-use Rattle.rb_rules.specs.SyncStage.{new_epoch_of}
+use Rattle.rb_rules.specs.{Core.is_tick, SyncStage.new_epoch_of}
 use Rattle.rb_node.specs.Saids.{span_if}
 use Rattle.rb_node.proofs.Turning.{span-staying, span-turned}
 use Rattle.rb_node.proofs.node.Node.entering.Goals as goal

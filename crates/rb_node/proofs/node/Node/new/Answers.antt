@@ -1,6 +1,5 @@
 use Rattle.std.proofs.Common.{◌<◌, ◌≤◌, ◌^◌, sym, subst, ap, arith}
-use Rattle.rb_base.specs.Nodes.{side_of}
-use Rattle.rb_base.specs.Sizes.{IsShape}
+use Rattle.rb_base.specs.{Nodes.side_of, Sizes.IsShape}
 use Rattle.rb_rules.specs.Slots.{count_of}
 use Rattle.rb_slot.specs.Engines.{Seated}
 use Rattle.rb_node.proofs.Acting.{few-nodes}

@@ -1,7 +1,6 @@
 use Rattle.std.proofs.Common.{◌≡◌, ◌≤◌, ◌^◌, ◌∙◌, sym, arith}
 use Rattle.rb_node.specs.Cores.{Running}
-use Rattle.rb_node.proofs.Between.{passing-is}
-use Rattle.rb_node.proofs.Cores.{next-is, next-none}
+use Rattle.rb_node.proofs.{Between.passing-is, Cores.{next-is, next-none}}
 use Rattle.rb_node.proofs.node.Node.next_tick.Goals as goal
 
 pub returns-then-self-lt-MOST_TICKS-clause-core : goal.returns-then-self-lt-MOST_TICKS-clause-core

@@ -1,7 +1,6 @@
 use Rattle.std.proofs.Common.{◌+◌, ◌≤◌, ◌^◌, sym, ap, subst, arith}
 use Rattle.rb_node.specs.Cores.{IsCore, Running}
-use Rattle.rb_node.proofs.Between.{passing-is, runs-on}
-use Rattle.rb_node.proofs.Cores.{passes}
+use Rattle.rb_node.proofs.{Between.{passing-is, runs-on}, Cores.passes}
 use Rattle.rb_node.proofs.node.Node.pass.Goals as goal
 
 -- the ticks pass at most up to the tick that is kept

@@ -1,9 +1,7 @@
 use Rattle.std.proofs.Common.{◌≡◌, ◌+◌, ◌<◌, ◌≤◌, sym, subst, arith}
 use Rattle.rb_base.specs.Nodes.{side_of}
-use Rattle.rb_node.specs.Aheads.{SaysIn}
-use Rattle.rb_node.specs.Cores.{Running}
-use Rattle.rb_node.proofs.Going.{going}
-use Rattle.rb_node.proofs.Steps.{Kept, Parts, gives, keeps, quiet-gives, spent-gives}
+use Rattle.rb_node.specs.{Aheads.SaysIn, Cores.Running}
+use Rattle.rb_node.proofs.{Going.going, Steps.{Kept, Parts, gives, keeps, quiet-gives, spent-gives}}
 use Rattle.rb_node.proofs.node.Node.step.Goals as goal
 
 pub returns-then-now-ge-MOST_TICKS-clause-core : goal.returns-then-now-ge-MOST_TICKS-clause-core

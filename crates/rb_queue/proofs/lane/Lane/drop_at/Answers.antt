@@ -1,5 +1,4 @@
-use Rattle.std.proofs.Common.{◌≡◌, ◌+◌, ◌-◌, ◌<◌, ◌≤◌, arith, drop, length, subst, sym}
-use Rattle.std.proofs.lemmas.List.{length-drop}
+use Rattle.std.proofs.{Common.{◌≡◌, ◌+◌, ◌-◌, ◌<◌, ◌≤◌, arith, drop, length, subst, sym}, lemmas.List.length-drop}
 use Rattle.rb_queue.specs.Waiting.{Held}
 use Rattle.rb_queue.proofs.Arrivals.{by_without, lane_without}
 use Rattle.rb_queue.proofs.lane.Lane.drop_at.Goals as goal

@@ -1,7 +1,6 @@
 use Rattle.std.proofs.Common.{◌≡◌, ◌<◌, ◌≤◌, get_or, length, arith, subst, sym, ap, ◌∙◌}
 use Rattle.rb_rules.specs.Hearing.{Coming}
-use Rattle.rb_queue.specs.Waiting.{Held}
-use Rattle.rb_queue.specs.Scanning.{is_sooner}
+use Rattle.rb_queue.specs.{Waiting.Held, Scanning.is_sooner}
 use Rattle.rb_queue.proofs.Readiness.{before_late, before_none, before_some, before_tick}
 use Rattle.rb_queue.proofs.lane.Lane.first_before.Goals as goal
 

@@ -1,8 +1,7 @@
 use Rattle.std.proofs.Common.{◌≡◌, ◌<◌, length, subst, sym, ap, ◌∙◌}
 use Rattle.std.specs.Prelude.{unwrap_or}
 use Rattle.rb_base.specs.Counting.{count_if}
-use Rattle.rb_queue.specs.Waiting.{Held, arrivals_at, head_of}
-use Rattle.rb_queue.specs.Scanning.{StandsAt, is_between}
+use Rattle.rb_queue.specs.{Waiting.{Held, arrivals_at, head_of}, Scanning.{StandsAt, is_between}}
 use Rattle.rb_queue.proofs.Readiness.{arrival_below, comes_at_place, tick_at_place}
 use Rattle.rb_queue.proofs.lane.Lane.place_among.Goals as goal
 

@@ -1,8 +1,7 @@
 use Rattle.std.proofs.Common.{◌++◌, map, List, ◌∙◌, ap}
 use Rattle.std.specs.Prelude.{option_to_list}
 use Rattle.rb_rules.specs.WorldStep.{least}
-use Rattle.rb_queue.specs.declared.pending.Pending.{Pending}
-use Rattle.rb_queue.specs.Queued.{least_time_of}
+use Rattle.rb_queue.specs.{declared.pending.Pending.Pending, Queued.least_time_of}
 use Rattle.rb_queue.proofs.Bare.{none_at_all}
 use Rattle.rb_queue.proofs.queue.Queue.head.Goals as goal
 

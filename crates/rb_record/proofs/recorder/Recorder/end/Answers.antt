@@ -1,11 +1,9 @@
-use Rattle.std.proofs.Common.{[], subst, sym, rules}
-use Rattle.std.proofs.lemmas.Result.{on_ok_weaker}
+use Rattle.std.proofs.{Common.{[], subst, sym, rules}, lemmas.Result.on_ok_weaker}
 use Rattle.std.specs.Io.KnownBytes.{Appends}
 use Rattle.rb_log.specs.Writing.{written}
 use Rattle.rb_outside.proofs.Known.{appends_join, part_widens}
 use Rattle.rb_record.specs.Buffering.{PassesOn}
-use Rattle.rb_record.proofs.Passing.{part-after}
-use Rattle.rb_record.proofs.Writing.{err-map, on-err}
+use Rattle.rb_record.proofs.{Passing.part-after, Writing.{err-map, on-err}}
 use Rattle.rb_record.proofs.recorder.Recorder.end.Goals as goal
 
 pub returns-in_err-push-clause-writes : goal.returns-in_err-push-clause-writes

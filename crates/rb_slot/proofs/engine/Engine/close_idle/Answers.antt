@@ -1,13 +1,9 @@
 use Rattle.std.proofs.Common.{rules, List, sym, ◌∙◌, ap}
 use Rattle.rb_base.specs.Nodes.{has, side_of}
 use Rattle.rb_eligible.specs.Inboxes.{Received, HoldsArrivals}
-use Rattle.rb_rules.specs.ExactStage.{closing_of}
-use Rattle.rb_rules.specs.NodeState.{sender_at}
-use Rattle.rb_rules.specs.Slots.{role_of}
-use Rattle.rb_rules.specs.Standing.{has_evidence, with_evidence}
+use Rattle.rb_rules.specs.{ExactStage.closing_of, NodeState.sender_at, Slots.role_of, Standing.{has_evidence, with_evidence}}
 use Rattle.rb_slot.specs.Engines.{Seated, senses_in}
-use Rattle.rb_slot.proofs.Idle.{idle_shows, idle_steps, owned_state}
-use Rattle.rb_slot.proofs.Stages.{Steps, closes_so}
+use Rattle.rb_slot.proofs.{Idle.{idle_shows, idle_steps, owned_state}, Stages.{Steps, closes_so}}
 use Rattle.rb_slot.proofs.engine.Engine.close_idle.Goals as goal
 
 pub pass_stage-requires : goal.pass_stage-requires

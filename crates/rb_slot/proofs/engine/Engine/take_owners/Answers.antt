@@ -1,9 +1,7 @@
 use Rattle.std.proofs.Common.{take, refl, ◌∙◌, ap}
-use Rattle.rb_base.specs.Sizes.{IsShape, sync_slot_of}
+use Rattle.rb_base.specs.{Sizes.{IsShape, sync_slot_of}, Nodes.side_of}
 use Rattle.rb_rules.specs.Owners.{owners_of}
-use Rattle.rb_slot.proofs.Owning.{requests_are}
-use Rattle.rb_slot.proofs.Keeping.{sound_with}
-use Rattle.rb_base.specs.Nodes.{side_of}
+use Rattle.rb_slot.proofs.{Owning.requests_are, Keeping.sound_with}
 use Rattle.rb_slot.proofs.engine.Engine.take_owners.Goals as goal
 
 pub returns : goal.returns

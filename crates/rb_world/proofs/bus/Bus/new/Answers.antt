@@ -1,8 +1,6 @@
 use Rattle.std.proofs.Common.{◌≡◌, ◌∙◌, refl, ap}
-use Rattle.rb_base.specs.Nodes.Side.{Biu as biu, Rmu as rmu}
-use Rattle.rb_base.specs.Sizes.{Sizes}
-use Rattle.rb_rules.specs.declared.plan.Plan.{Plan}
-use Rattle.rb_rules.specs.Goodness.{Scenario}
+use Rattle.rb_base.specs.{Nodes.Side.{Biu as biu, Rmu as rmu}, Sizes.Sizes}
+use Rattle.rb_rules.specs.{declared.plan.Plan.Plan, Goodness.Scenario}
 use Rattle.rb_world_onset.specs.Faults.{faults_of}
 use Rattle.rb_scenario.specs.Acceptance.{as_scenario}
 use Rattle.rb_world_traffic.specs.Saying.{kept_of}

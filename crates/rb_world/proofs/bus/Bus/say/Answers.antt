@@ -2,8 +2,7 @@ use Rattle.std.proofs.Common.{ap, arith}
 use Rattle.std.specs.Prelude.{length}
 use Rattle.rb_world_traffic.specs.Saying.{senders_to}
 use Rattle.rb_world.specs.Buses.{KeptBus, scenario_of}
-use Rattle.rb_world.proofs.Calmness.{says-so}
-use Rattle.rb_world.proofs.Entries.{entries-few}
+use Rattle.rb_world.proofs.{Calmness.says-so, Entries.entries-few}
 use Rattle.rb_world.proofs.bus.Bus.say.Goals as goal
 
 pub say-requires-clause-room : goal.say-requires-clause-room

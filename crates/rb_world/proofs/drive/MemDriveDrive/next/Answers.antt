@@ -1,9 +1,6 @@
 use Rattle.std.proofs.Common.{◌≡◌, is_some, sym, ap, ◌∙◌, subst}
 use Rattle.rb_world_book.specs.Records.{record_of}
-use Rattle.rb_world.specs.Driving.{KeptTurns, bare, given_for}
-use Rattle.rb_world.specs.Nexts.{GoesToNext}
-use Rattle.rb_world.specs.Numbering.{GoesInRounds}
-use Rattle.rb_world.specs.declared.ties.Ties.TheVariants.{First}
+use Rattle.rb_world.specs.{Driving.{KeptTurns, bare, given_for}, Nexts.GoesToNext, Numbering.GoesInRounds, declared.ties.Ties.TheVariants.First}
 use Rattle.rb_world.proofs.Masks.{bare-given, given-plain, record-given}
 use Rattle.rb_world.proofs.drive.MemDriveDrive.next.Goals as goal
 

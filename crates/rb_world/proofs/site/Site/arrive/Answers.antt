@@ -1,8 +1,6 @@
 use Rattle.std.proofs.Common.{ℕ, ◌≤◌, ◌^◌, ◌∙◌, ap, arith}
 use Rattle.rb_base.specs.Nodes.{Side, side_of}
-use Rattle.rb_rules.specs.Clock.{Timeline, stamp_of}
-use Rattle.rb_rules.specs.Core.{pass_to}
-use Rattle.rb_rules.specs.Hearing.{Coming}
+use Rattle.rb_rules.specs.{Clock.{Timeline, stamp_of}, Core.pass_to, Hearing.Coming}
 use Rattle.rb_node.specs.Cores.{IsSameNode, Running, passing_end}
 use Rattle.rb_world.specs.Sites.{KeptSite, number_of}
 use Rattle.rb_world.proofs.Standing.{arrived, passed, passing-most}

@@ -1,9 +1,7 @@
 use Rattle.std.proofs.Common.{◌≡◌, ℕ, true, None, Some, refl, sym, ap, ◌∙◌, subst}
 use Rattle.rb_base.specs.Nodes.{Side, side_of}
-use Rattle.rb_rules.specs.Core.{next_tick, pass_to}
-use Rattle.rb_rules.specs.WorldStep.{wants_in, word_of}
-use Rattle.rb_node.specs.Cores.{IsSameNode, next_of}
-use Rattle.rb_node.specs.Ends.{EndsExactWindow}
+use Rattle.rb_rules.specs.{Core.{next_tick, pass_to}, WorldStep.{wants_in, word_of}}
+use Rattle.rb_node.specs.{Cores.{IsSameNode, next_of}, Ends.EndsExactWindow}
 use Rattle.rb_world.specs.Sites.{KeptSite, number_of}
 use Rattle.rb_world.proofs.Standing.{ticks}
 use Rattle.rb_world.proofs.site.Site.end_window.Goals as goal

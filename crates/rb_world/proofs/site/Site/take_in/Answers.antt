@@ -1,9 +1,6 @@
 use Rattle.std.proofs.Common.{◌<◌, ap, subst}
-use Rattle.rb_base.specs.Nodes.{Side, other, side_of}
-use Rattle.rb_base.specs.Sizes.{Sizes}
-use Rattle.rb_rules.specs.Core.{arrive}
-use Rattle.rb_rules.specs.Hearing.{Coming}
-use Rattle.rb_rules.specs.Slots.{count_of}
+use Rattle.rb_base.specs.{Nodes.{Side, other, side_of}, Sizes.Sizes}
+use Rattle.rb_rules.specs.{Core.arrive, Hearing.Coming, Slots.count_of}
 use Rattle.rb_node.specs.Cores.{IsCore, IsSameNode, Running}
 use Rattle.rb_world.specs.Sites.{KeptSite}
 use Rattle.rb_world.proofs.Standing.{takes}

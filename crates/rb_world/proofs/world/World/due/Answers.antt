@@ -1,11 +1,8 @@
 use Rattle.std.proofs.Common.{◌≡◌, length, sym, ◌∙◌, subst}
 use Rattle.rb_rules.specs.WorldStep.{World as RunWorld, due_of}
-use Rattle.rb_world.specs.Kept.{kept_of}
-use Rattle.rb_world.specs.Worlds.{KeptWorld, Stands, due_in}
-use Rattle.rb_world.proofs.Idle.{all-due, busy, ended-idle, free-idle, length-due, none-due, none-due-then}
-use Rattle.rb_world.proofs.Steps.{some-due}
+use Rattle.rb_world.specs.{Kept.kept_of, Worlds.{KeptWorld, Stands, due_in}}
+use Rattle.rb_world.proofs.{Idle.{all-due, busy, ended-idle, free-idle, length-due, none-due, none-due-then}, Steps.some-due, world.World.due.Goals.{then-has_ended-via-then-has_ended, then-has_ended-via-else-has_ended+then-needs_no_event}}
 use Rattle.rb_world.proofs.world.World.due.Goals as goal
-use Rattle.rb_world.proofs.world.World.due.Goals.{then-has_ended-via-then-has_ended, then-has_ended-via-else-has_ended+then-needs_no_event}
 
 pub returns-then-has_ended-clause-value : goal.returns-then-has_ended-clause-value
 returns-then-has_ended-clause-value c =

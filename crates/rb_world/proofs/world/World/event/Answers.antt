@@ -1,10 +1,8 @@
-use Rattle.std.proofs.Common.{◌≡◌, ◌<◌, sym, ap, ◌∙◌, subst, arith}
+use Rattle.std.proofs.{Common.{◌≡◌, ◌<◌, sym, ap, ◌∙◌, subst, arith}, lemmas.Option.get_or_from_slice_get}
 use Rattle.std.specs.Prelude.{Some, get_or}
-use Rattle.std.proofs.lemmas.Option.{get_or_from_slice_get}
 use Rattle.rb_base.specs.Nodes.Side.{Biu, Rmu}
 use Rattle.rb_rules.specs.WorldStep.{World as RunWorld, event_at}
-use Rattle.rb_world.specs.Kept.{kept_of}
-use Rattle.rb_world.specs.Worlds.{KeptWorld, Stands, due_in}
+use Rattle.rb_world.specs.{Kept.kept_of, Worlds.{KeptWorld, Stands, due_in}}
 use Rattle.rb_world.proofs.Showing.{event-shown, may-show, show-ready}
 use Rattle.rb_world.proofs.world.World.event.Goals as goal
 

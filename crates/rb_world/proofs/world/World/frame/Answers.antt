@@ -3,8 +3,7 @@ use Rattle.rb_base.specs.Nodes.Side.{Biu, Rmu}
 use Rattle.rb_rules.specs.Lawful.{IsNodeOf}
 use Rattle.rb_node.specs.Cores.{Running}
 use Rattle.rb_slot.specs.Engines.{Seated}
-use Rattle.rb_world.specs.Kept.{kept_of}
-use Rattle.rb_world.specs.Worlds.{KeptWorld, Stands}
+use Rattle.rb_world.specs.{Kept.kept_of, Worlds.{KeptWorld, Stands}}
 use Rattle.rb_world.proofs.Asked.{frame-named, node-within}
 use Rattle.rb_world.proofs.world.World.frame.Goals as goal
 

@@ -1,10 +1,7 @@
 use Rattle.std.proofs.Common.{◌≡◌, true, false, sym, ◌∙◌, subst}
 use Rattle.rb_rules.specs.WorldStep.{World as RunWorld, go_on}
-use Rattle.rb_world.specs.Kept.{kept_of}
-use Rattle.rb_world.specs.Turning.{Gives}
-use Rattle.rb_world.specs.Worlds.{KeptWorld, Stands}
-use Rattle.rb_world.proofs.GoingOn.{ended-gives, going-gives}
-use Rattle.rb_world.proofs.LastTurn.{reached-ends}
+use Rattle.rb_world.specs.{Kept.kept_of, Turning.Gives, Worlds.{KeptWorld, Stands}}
+use Rattle.rb_world.proofs.{GoingOn.{ended-gives, going-gives}, LastTurn.reached-ends}
 use Rattle.rb_world.proofs.world.World.go_on.Goals as goal
 
 pub returns-then-has_ended-clause-world : goal.returns-then-has_ended-clause-world

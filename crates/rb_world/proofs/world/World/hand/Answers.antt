@@ -1,11 +1,8 @@
 use Rattle.std.proofs.Common.{◌≡◌, ◌<◌, true, false, refl, sym, ◌∙◌, subst}
 use Rattle.rb_base.specs.Nodes.Side.{Biu}
-use Rattle.rb_rules.specs.Goodness.{is_good}
-use Rattle.rb_rules.specs.WorldStep.{World as RunWorld, hand}
+use Rattle.rb_rules.specs.{Goodness.is_good, WorldStep.{World as RunWorld, hand}}
 use Rattle.rb_laws_events.proofs.WorldBooks.{hand-book}
-use Rattle.rb_world.specs.Kept.{kept_of}
-use Rattle.rb_world.specs.declared.scene.Scene.{Scene}
-use Rattle.rb_world.specs.Worlds.{KeptWorld, Stands}
+use Rattle.rb_world.specs.{Kept.kept_of, declared.scene.Scene.Scene, Worlds.{KeptWorld, Stands}}
 use Rattle.rb_world.proofs.Handed.{good-within, hand-at-good, hand-at-other, hand-elsewhere, surrounds-handed}
 use Rattle.rb_world.proofs.world.World.hand.Goals as goal
 

@@ -1,11 +1,6 @@
 use Rattle.std.proofs.Common.{◌≡◌, refl, sym, ap, ◌∙◌, subst}
-use Rattle.rb_world.specs.Kept.{kept_of}
-use Rattle.rb_world.specs.declared.ties.Seeding.{Seeding}
-use Rattle.rb_world.specs.Nexts.{RunsOn, begun_with}
-use Rattle.rb_world.specs.Worlds.{KeptWorld}
-use Rattle.rb_world.proofs.NextRecord.{goes-on, with-seeding}
-use Rattle.rb_world.proofs.NodesKept.{nodes-keep}
-use Rattle.rb_world.proofs.Numbered.{next-in-rounds}
+use Rattle.rb_world.specs.{Kept.kept_of, declared.ties.Seeding.Seeding, Nexts.{RunsOn, begun_with}, Worlds.KeptWorld}
+use Rattle.rb_world.proofs.{NextRecord.{goes-on, with-seeding}, NodesKept.nodes-keep, Numbered.next-in-rounds}
 use Rattle.rb_world.proofs.world.World.next.Goals as goal
 
 pub invariant_of-self : goal.invariant_of-self

@@ -1,14 +1,7 @@
 use Rattle.std.proofs.Common.{◌≡◌, is_some, refl, sym, ap, ◌∙◌, subst}
 use Rattle.rb_rules.specs.WorldStep.{World as RunWorld}
-use Rattle.rb_world.specs.Kept.{kept_of}
-use Rattle.rb_world.specs.declared.ties.Seeding.{Seeding}
-use Rattle.rb_world.specs.declared.ties.Ties.TheVariants.{First}
-use Rattle.rb_world.specs.Nexts.{RunsOn, begun_with}
-use Rattle.rb_world.specs.Observing.{RunsTold}
-use Rattle.rb_world.specs.Worlds.{KeptWorld, Stands}
-use Rattle.rb_world.proofs.NextRecord.{goes-on, with-seeding}
-use Rattle.rb_world.proofs.Numbered.{next-in-rounds}
-use Rattle.rb_world.proofs.ToldOn.{told-next-record}
+use Rattle.rb_world.specs.{Kept.kept_of, declared.ties.Seeding.Seeding, declared.ties.Ties.TheVariants.First, Nexts.{RunsOn, begun_with}, Observing.RunsTold, Worlds.{KeptWorld, Stands}}
+use Rattle.rb_world.proofs.{NextRecord.{goes-on, with-seeding}, Numbered.next-in-rounds, ToldOn.told-next-record}
 use Rattle.rb_world.proofs.world.World.next_observed.Goals as goal
 
 pub invariant_of-self : goal.invariant_of-self

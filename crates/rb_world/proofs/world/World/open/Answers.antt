@@ -1,14 +1,9 @@
 use Rattle.std.proofs.Common.{◌∙◌, ap, refl, subst, sym}
 use Rattle.rb_base.specs.Sizes.{Sizes}
-use Rattle.rb_rules.specs.Entries.{IsListed}
-use Rattle.rb_rules.specs.Goodness.{Scenario}
-use Rattle.rb_rules.specs.Lawful.{IsLawful}
-use Rattle.rb_rules.specs.WorldStep.{first_world}
-use Rattle.rb_world.specs.declared.last.Last.TheVariants as last
-use Rattle.rb_world.specs.Openings.{before_all}
-use Rattle.rb_world.specs.Worlds.{Stands}
+use Rattle.rb_rules.specs.{Entries.IsListed, Goodness.Scenario, Lawful.IsLawful, WorldStep.first_world}
+use Rattle.rb_world.specs.{Openings.before_all, Worlds.Stands, Buses.scenario_of}
 use Rattle.rb_world.proofs.FirstStands.{bius-may, opened, rmus-next}
-use Rattle.rb_world.specs.Buses.{scenario_of}
+use Rattle.rb_world.specs.declared.last.Last.TheVariants as last
 use Rattle.rb_world.proofs.world.World.open.Goals as goal
 
 pub begin_all-requires-clause-may : goal.begin_all-requires-clause-may

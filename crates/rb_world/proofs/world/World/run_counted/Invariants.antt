@@ -1,9 +1,8 @@
 -- The steps so far gave no record.
 use Rattle.std.proofs.Common.{◌≡◌}
 use Rattle.rb_rules.specs.WorldStep.{World as RunWorld}
+use Rattle.rb_world.specs.{Nexts.TakesSteps, Worlds.Stands}
 use Rattle.rb_world_book.specs.declared.turn.Turn.TheVariants as shown
-use Rattle.rb_world.specs.Nexts.{TakesSteps}
-use Rattle.rb_world.specs.Worlds.{Stands}
 use Rattle.rb_world.proofs.world.World.run_counted.Given as goal
 
 abbrev pub invariant-loop-passed : goal.invariant-loop-passed

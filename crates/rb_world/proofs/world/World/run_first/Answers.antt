@@ -1,16 +1,8 @@
 use Rattle.std.proofs.Common.{◌≡◌, ℕ, Some, true, false, sym, ◌∙◌, subst}
 use Rattle.rb_base.specs.declared.node.NodeName.{NodeName}
-use Rattle.rb_rules.specs.Lawful.{IsNodeOf}
-use Rattle.rb_rules.specs.WorldStep.{World as RunWorld}
-use Rattle.rb_world.specs.Kept.{kept_of}
-use Rattle.rb_world.specs.Runs.{nodes_of}
-use Rattle.rb_world.specs.declared.ties.Ties.TheVariants.{First}
-use Rattle.rb_world.specs.Nexts.{RunsOn}
-use Rattle.rb_world.specs.Observing.{RunsTold}
-use Rattle.rb_world.specs.Worlds.{KeptWorld, Stands}
-use Rattle.rb_world.proofs.LastTurn.{reached-ends}
-use Rattle.rb_world.proofs.Running.{may-run, run-ended, run-to}
-use Rattle.rb_world.proofs.ToldOn.{told-ended, told-runs}
+use Rattle.rb_rules.specs.{Lawful.IsNodeOf, WorldStep.World as RunWorld}
+use Rattle.rb_world.specs.{Kept.kept_of, Runs.nodes_of, declared.ties.Ties.TheVariants.First, Nexts.RunsOn, Observing.RunsTold, Worlds.{KeptWorld, Stands}}
+use Rattle.rb_world.proofs.{LastTurn.reached-ends, Running.{may-run, run-ended, run-to}, ToldOn.{told-ended, told-runs}}
 use Rattle.rb_world.proofs.world.World.run_first.Goals as goal
 
 pub returns-then-has_ended-clause-world : goal.returns-then-has_ended-clause-world

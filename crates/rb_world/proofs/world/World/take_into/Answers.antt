@@ -1,15 +1,8 @@
 use Rattle.std.proofs.Common.{◌<◌, sym, subst}
 use Rattle.rb_rules.specs.WorldStep.{World as RunWorld, happens, take}
 use Rattle.rb_world_book.specs.Records.{record_of}
-use Rattle.rb_world.specs.Kept.{kept_of}
-use Rattle.rb_world.specs.Numbering.{TakesInRounds}
-use Rattle.rb_world.specs.Runs.{nodes_of}
-use Rattle.rb_world.specs.Steps.{MayHappen}
-use Rattle.rb_world.specs.Turning.{Gives}
-use Rattle.rb_world.specs.Worlds.{KeptWorld, Stands, due_in}
-use Rattle.rb_world.proofs.Chosen.{may-happen}
-use Rattle.rb_world.proofs.Numbered.{taken-in-rounds}
-use Rattle.rb_world.proofs.Turns.{taken}
+use Rattle.rb_world.specs.{Kept.kept_of, Numbering.TakesInRounds, Runs.nodes_of, Steps.MayHappen, Turning.Gives, Worlds.{KeptWorld, Stands, due_in}}
+use Rattle.rb_world.proofs.{Chosen.may-happen, Numbered.taken-in-rounds, Turns.taken}
 use Rattle.rb_world.proofs.world.World.take_into.Goals as goal
 
 pub happen-requires : goal.happen-requires

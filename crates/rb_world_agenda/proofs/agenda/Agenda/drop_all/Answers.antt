@@ -1,8 +1,7 @@
 use Rattle.std.proofs.Common.{sym, ◌∙◌, subst}
 use Rattle.rb_queue.specs.Waiting.{HasLane, Held, lane_of, without_events}
 use Rattle.rb_world_agenda.specs.Agenda.{AreTicks}
-use Rattle.rb_world_agenda.proofs.Keeping.{few-with, many-with, room-of}
-use Rattle.rb_world_agenda.proofs.Ticks.{place-few, ticks-dropped}
+use Rattle.rb_world_agenda.proofs.{Keeping.{few-with, many-with, room-of}, Ticks.{place-few, ticks-dropped}}
 use Rattle.rb_world_agenda.proofs.agenda.Agenda.drop_all.Goals as goal
 
 pub invariant_of-self : goal.invariant_of-self

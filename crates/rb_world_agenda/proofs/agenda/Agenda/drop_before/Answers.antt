@@ -1,7 +1,6 @@
 use Rattle.std.proofs.Common.{refl, sym, ◌∙◌, subst}
 use Rattle.rb_queue.specs.Waiting.{HasLane, Held, lane_of, without_before}
-use Rattle.rb_world_agenda.proofs.Keeping.{few-with, many-with, room-of}
-use Rattle.rb_world_agenda.proofs.Ticks.{ticks-same}
+use Rattle.rb_world_agenda.proofs.{Keeping.{few-with, many-with, room-of}, Ticks.ticks-same}
 use Rattle.rb_world_agenda.proofs.agenda.Agenda.drop_before.Goals as goal
 
 pub invariant_of-self : goal.invariant_of-self

@@ -1,9 +1,7 @@
 use Rattle.std.proofs.Common.{◌≡◌, sym, ap, subst, ◌∙◌}
 use Rattle.rb_rules.specs.Book.{in_order}
-use Rattle.rb_world_agenda.specs.Agenda.{due_count, how_many}
-use Rattle.rb_world_agenda.specs.Holding.{HoldsSites}
-use Rattle.rb_world_agenda.proofs.Dues.{many-due}
-use Rattle.rb_world_agenda.proofs.Keeping.{times-of}
+use Rattle.rb_world_agenda.specs.{Agenda.{due_count, how_many}, Holding.HoldsSites}
+use Rattle.rb_world_agenda.proofs.{Dues.many-due, Keeping.times-of}
 use Rattle.rb_world_agenda.proofs.agenda.Agenda.due.Goals as goal
 
 pub returns-clause-value : goal.returns-clause-value

@@ -1,6 +1,5 @@
 use Rattle.std.proofs.Common.{refl, sym, ap, subst, ◌∙◌, arith}
-use Rattle.rb_world_agenda.specs.Agenda.{first_tick_time, tick_times}
-use Rattle.rb_world_agenda.specs.Holding.{HoldsSites}
+use Rattle.rb_world_agenda.specs.{Agenda.{first_tick_time, tick_times}, Holding.HoldsSites}
 use Rattle.rb_world_agenda.proofs.Ticks.{first-is, name-there}
 use Rattle.rb_world_agenda.proofs.agenda.Agenda.first_tick.Goals as goal
 

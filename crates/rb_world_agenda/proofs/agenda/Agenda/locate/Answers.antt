@@ -1,8 +1,6 @@
 use Rattle.std.proofs.Common.{sym, subst}
-use Rattle.rb_world_agenda.specs.Agenda.{IsDue, StandsAt}
-use Rattle.rb_world_agenda.specs.Holding.{HoldsSites}
-use Rattle.rb_world_agenda.proofs.Keeping.{times-of}
-use Rattle.rb_world_agenda.proofs.Which.{is-due}
+use Rattle.rb_world_agenda.specs.{Agenda.{IsDue, StandsAt}, Holding.HoldsSites}
+use Rattle.rb_world_agenda.proofs.{Keeping.times-of, Which.is-due}
 use Rattle.rb_world_agenda.proofs.agenda.Agenda.locate.Goals as goal
 
 pub returns-clause-world : goal.returns-clause-world

@@ -1,7 +1,6 @@
 use Rattle.std.proofs.Common.{arith, ◌+◌, ap, sym, subst, ◌∙◌}
 use Rattle.rb_world_agenda.specs.Agenda.{AreTicks}
-use Rattle.rb_world_agenda.proofs.Keeping.{few-empty}
-use Rattle.rb_world_agenda.proofs.Ticks.{ticks-empty}
+use Rattle.rb_world_agenda.proofs.{Keeping.few-empty, Ticks.ticks-empty}
 use Rattle.rb_world_agenda.proofs.agenda.Agenda.new.Goals as goal
 
 pub invariant_of-result : goal.invariant_of-result

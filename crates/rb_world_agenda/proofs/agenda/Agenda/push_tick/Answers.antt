@@ -2,8 +2,7 @@ use Rattle.std.proofs.Common.{refl, sym, ap, ◌∙◌, subst}
 use Rattle.std.specs.Prelude.{slice_set}
 use Rattle.rb_queue.specs.Waiting.{HasLane, Held, lane_of, with_tick}
 use Rattle.rb_world_agenda.specs.Agenda.{AreTicks}
-use Rattle.rb_world_agenda.proofs.Keeping.{few-with, many-with, room-of}
-use Rattle.rb_world_agenda.proofs.Ticks.{place-few, ticks-with}
+use Rattle.rb_world_agenda.proofs.{Keeping.{few-with, many-with, room-of}, Ticks.{place-few, ticks-with}}
 use Rattle.rb_world_agenda.proofs.agenda.Agenda.push_tick.Goals as goal
 
 pub invariant_of-self : goal.invariant_of-self

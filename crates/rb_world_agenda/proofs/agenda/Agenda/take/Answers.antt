@@ -1,10 +1,7 @@
 use Rattle.std.proofs.Common.{sym, ◌∙◌, subst}
 use Rattle.rb_queue.specs.Waiting.{Held, lane_of, without_ready}
-use Rattle.rb_world_agenda.specs.Agenda.{AreTicks, StandsAt, TakesDue, first_time}
-use Rattle.rb_world_agenda.specs.Holding.{HoldsSites}
-use Rattle.rb_world_agenda.proofs.Keeping.{few-with, many-with, room-of, room-without, times-of}
-use Rattle.rb_world_agenda.proofs.Taking.{takes-due}
-use Rattle.rb_world_agenda.proofs.Ticks.{place-few, ticks-taken}
+use Rattle.rb_world_agenda.specs.{Agenda.{AreTicks, StandsAt, TakesDue, first_time}, Holding.HoldsSites}
+use Rattle.rb_world_agenda.proofs.{Keeping.{few-with, many-with, room-of, room-without, times-of}, Taking.takes-due, Ticks.{place-few, ticks-taken}}
 use Rattle.rb_world_agenda.proofs.agenda.Agenda.take.Goals as goal
 
 pub invariant_of-self : goal.invariant_of-self

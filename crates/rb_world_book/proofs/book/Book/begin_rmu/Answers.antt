@@ -1,8 +1,6 @@
 use Rattle.std.proofs.Common.{◌<◌, refl, subst}
-use Rattle.rb_base.specs.Nodes.Side.{Biu, Rmu}
-use Rattle.rb_base.specs.Sizes.{Sizes}
-use Rattle.rb_world_book.specs.Changing.{with_begun}
-use Rattle.rb_world_book.specs.Telling.{begun_in, told_at, told_begun_frame}
+use Rattle.rb_base.specs.{Nodes.Side.{Biu, Rmu}, Sizes.Sizes}
+use Rattle.rb_world_book.specs.{Changing.with_begun, Telling.{begun_in, told_at, told_begun_frame}}
 use Rattle.rb_world_book.proofs.Noting.{begun-noted, other-kind, with-rmus}
 use Rattle.rb_world_book.proofs.book.Book.begin_rmu.Goals as goal
 

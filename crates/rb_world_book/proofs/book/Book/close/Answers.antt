@@ -1,7 +1,6 @@
 use Rattle.std.proofs.Common.{◌≡◌, ℕ, ◌==◌, true, false, refl, ap}
 use Rattle.std.specs.Prelude.{Some}
-use Rattle.rb_rules.specs.Book.{Row}
-use Rattle.rb_rules.specs.WorldStep.{Site}
+use Rattle.rb_rules.specs.{Book.Row, WorldStep.Site}
 use Rattle.rb_world_book.specs.Changing.{changed_at, number_in, row_shown, side_in, with_row}
 use Rattle.rb_world_book.proofs.Noting.{same-shown, shows-same}
 use Rattle.rb_world_book.proofs.book.Book.close.Goals as goal

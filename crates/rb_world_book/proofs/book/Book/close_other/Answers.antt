@@ -1,13 +1,9 @@
 use Rattle.std.proofs.Common.{◌≡◌, ℕ, ◌<◌, ◌≤◌, false, ◌==◌, arith, get_or, length, nat_lt, sym, ◌∙◌, ap, subst}
-use Rattle.rb_base.specs.Nodes.{other, set_of}
-use Rattle.rb_base.specs.Sizes.{Sizes}
-use Rattle.rb_base.specs.declared.values.See.TheVariants.{Nothing}
+use Rattle.rb_base.specs.{Nodes.{other, set_of}, Sizes.Sizes, declared.values.See.TheVariants.Nothing}
 use Rattle.rb_base.proofs.Sets.{eq_other}
 use Rattle.rb_rules.specs.Slots.{count_of}
-use Rattle.rb_world_book.specs.Changing.{changed_at, count_for, number_in, row_shown, side_in, with_row}
-use Rattle.rb_world_book.specs.Holding.{Holds}
-use Rattle.rb_world_book.proofs.Closing.{biu-closed, none-out, rmu-closed}
-use Rattle.rb_world_book.proofs.Noting.{told-noted}
+use Rattle.rb_world_book.specs.{Changing.{changed_at, count_for, number_in, row_shown, side_in, with_row}, Holding.Holds}
+use Rattle.rb_world_book.proofs.{Closing.{biu-closed, none-out, rmu-closed}, Noting.told-noted}
 use Rattle.rb_world_book.proofs.book.Book.close_other.Goals as goal
 
 pub returns-in-Biu-clause-noted : goal.returns-in-Biu-clause-noted

@@ -1,11 +1,8 @@
 use Rattle.std.proofs.Common.{◌≡◌, ℕ, ◌<◌, ◌≤◌, false, ◌==◌, get_or, sym, subst}
-use Rattle.rb_base.specs.Nodes.{other}
-use Rattle.rb_base.specs.Nodes.Side.{Biu, Rmu}
-use Rattle.rb_base.specs.declared.values.See.TheVariants.{Nothing}
+use Rattle.rb_base.specs.{Nodes.other, Nodes.Side.{Biu, Rmu}, declared.values.See.TheVariants.Nothing}
 use Rattle.rb_base.proofs.Sets.{eq_other}
 use Rattle.rb_rules.specs.Slots.{count_of}
-use Rattle.rb_world_book.specs.Changing.{changed_at, count_for, number_in, row_shown, side_in, with_row}
-use Rattle.rb_world_book.specs.Holding.{Holds}
+use Rattle.rb_world_book.specs.{Changing.{changed_at, count_for, number_in, row_shown, side_in, with_row}, Holding.Holds}
 use Rattle.rb_world_book.proofs.Closing.{biu-closed, others-last, rmu-closed}
 use Rattle.rb_world_book.proofs.book.Book.close_upcoming.Goals as goal
 

@@ -1,10 +1,7 @@
 use Rattle.std.proofs.Common.{◌≡◌, ◌<◌, ◌^◌, sym, ◌∙◌, ap, subst, arith}
-use Rattle.rb_base.specs.Nodes.Side.{Biu, Rmu}
-use Rattle.rb_base.specs.Sizes.{Sizes, IsShape}
+use Rattle.rb_base.specs.{Nodes.Side.{Biu, Rmu}, Sizes.{Sizes, IsShape}}
 use Rattle.rb_rules.specs.WorldStep.{first_world}
-use Rattle.rb_world_book.specs.declared.milestone.Milestone.TheVariants.{Begin, Stage}
-use Rattle.rb_world_book.specs.Holding.{HoldsKind, IsComing}
-use Rattle.rb_world_book.specs.Records.{milestone_of}
+use Rattle.rb_world_book.specs.{declared.milestone.Milestone.TheVariants.{Begin, Stage}, Holding.{HoldsKind, IsComing}, Records.milestone_of}
 use Rattle.rb_world_book.proofs.First.{first-kind}
 use Rattle.rb_world_book.proofs.book.Book.new.Goals as goal
 

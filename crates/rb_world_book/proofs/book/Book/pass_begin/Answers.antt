@@ -1,18 +1,11 @@
 use Rattle.std.proofs.Common.{◌≡◌, ◌≤◌, [], refl, sym, ◌∙◌, ap, subst}
-use Rattle.rb_base.specs.Nodes.Side.{Biu, Rmu}
-use Rattle.rb_base.specs.Sizes.{Sizes, sync_slot_of}
-use Rattle.rb_rules.specs.Book.{frame_records, in_order}
-use Rattle.rb_rules.specs.ExactStage.{present}
-use Rattle.rb_rules.specs.Goodness.{good_at}
-use Rattle.rb_rules.specs.WorldStep.{begun_for, told_by_good}
+use Rattle.rb_base.specs.{Nodes.Side.{Biu, Rmu}, Sizes.{Sizes, sync_slot_of}}
+use Rattle.rb_rules.specs.{Book.{frame_records, in_order}, ExactStage.present, Goodness.good_at, WorldStep.{begun_for, told_by_good}}
 use Rattle.rb_judge.proofs.Noting.{shows_knows}
 use Rattle.rb_judge.specs.Stages.{Knows}
-use Rattle.rb_world_book.specs.Holding.{HoldsKind, IsComing}
-use Rattle.rb_world_book.specs.Waiting.{all_but}
-use Rattle.rb_world_book.specs.declared.milestone.Milestone.TheVariants as kept
-use Rattle.rb_world_book.specs.Records.{milestone_of}
-use Rattle.rb_world_book.specs.Settling.{after_begin}
+use Rattle.rb_world_book.specs.{Holding.{HoldsKind, IsComing}, Waiting.all_but, Records.milestone_of, Settling.after_begin}
 use Rattle.rb_world_book.proofs.Passing.{coming-begun, frame-book, frame-record, passes-by, turns-holds}
+use Rattle.rb_world_book.specs.declared.milestone.Milestone.TheVariants as kept
 use Rattle.rb_world_book.proofs.book.Book.pass_begin.Goals as goal
 
 pub returns-clause-passes : goal.returns-clause-passes

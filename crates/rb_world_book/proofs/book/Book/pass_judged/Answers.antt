@@ -1,7 +1,6 @@
 use Rattle.std.proofs.Common.{sym, ◌∙◌, ap, subst}
 use Rattle.rb_base.specs.Nodes.Side.{Biu, Rmu}
-use Rattle.rb_world_book.specs.Records.{milestone_of}
-use Rattle.rb_world_book.specs.Settling.{GoesKind}
+use Rattle.rb_world_book.specs.{Records.milestone_of, Settling.GoesKind}
 use Rattle.rb_world_book.proofs.Steady.{goes-on}
 use Rattle.rb_world_book.proofs.book.Book.pass_judged.Goals as goal
 

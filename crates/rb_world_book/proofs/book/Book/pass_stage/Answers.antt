@@ -1,22 +1,11 @@
 use Rattle.std.proofs.Common.{◌≡◌, ◌+◌, ◌<◌, ◌^◌, true, List, [], ◌∷◌, ◌++◌, map, refl, sym, ◌∙◌, ap, subst, arith}
-use Rattle.rb_base.specs.Nodes.Side.{Biu, Rmu}
-use Rattle.rb_base.specs.Sizes.{Sizes, sync_slot_of}
-use Rattle.std.specs.Prelude.{Some, None}
-use Rattle.std.specs.Prelude.{◌==◌, if◌then◌else◌}
-use Rattle.std.specs.List.{filter_map}
-use Rattle.rb_rules.specs.Book.{line_in}
-use Rattle.rb_world_book.specs.Holding.{slot_record}
-use Rattle.rb_rules.specs.Book.{Book, Record, after_stage, after_verdict, judged_of, slot_records}
-use Rattle.rb_rules.specs.Goodness.{good_at}
-use Rattle.rb_rules.specs.Judging.{JudgedStage, verdict_of}
+use Rattle.rb_base.specs.{Nodes.Side.{Biu, Rmu}, Sizes.{Sizes, sync_slot_of}}
+use Rattle.std.specs.{Prelude.{Some, None}, Prelude.{◌==◌, if◌then◌else◌}, List.filter_map}
+use Rattle.rb_rules.specs.{Book.line_in, Book.{Book, Record, after_stage, after_verdict, judged_of, slot_records}, Goodness.good_at, Judging.{JudgedStage, verdict_of}}
+use Rattle.rb_world_book.specs.{Holding.slot_record, Holding.{HoldsKind, IsComing, IsStageOf, without_lasting}, Records.milestone_of, Waiting.{all_but, waiting_for}}
 use Rattle.rb_judge.specs.Stages.{Knows}
-use Rattle.rb_world_book.specs.Holding.{HoldsKind, IsComing, IsStageOf, without_lasting}
-use Rattle.rb_world_book.specs.Records.{milestone_of}
-use Rattle.rb_world_book.specs.Waiting.{all_but, waiting_for}
+use Rattle.rb_world_book.proofs.{Judged.rows_of, Passing.{coming-after, few-slots, lines-after, passes-by, slot-record, stage-then, turns-holds}, Verdict.verdict-is}
 use Rattle.rb_world_book.specs.declared.milestone.Milestone.TheVariants as kept
-use Rattle.rb_world_book.proofs.Judged.{rows_of}
-use Rattle.rb_world_book.proofs.Passing.{coming-after, few-slots, lines-after, passes-by, slot-record, stage-then, turns-holds}
-use Rattle.rb_world_book.proofs.Verdict.{verdict-is}
 use Rattle.rb_world_book.proofs.book.Book.pass_stage.Goals as goal
 
 pub returns-in-Some-clause-passes : goal.returns-in-Some-clause-passes

@@ -1,7 +1,6 @@
 use Rattle.std.proofs.Common.{◌≡◌, false, true, sym, ◌∙◌}
-use Rattle.rb_world_book.proofs.Due.{next-due, quiet-is, settles-one, settles-two}
+use Rattle.rb_world_book.proofs.{Due.{next-due, quiet-is, settles-one, settles-two}, book.Book.settle_due.Goals.{else-is_quiet-via-then-is_quiet+else-is_due, else-is_quiet-via-else-is_quiet}}
 use Rattle.rb_world_book.proofs.book.Book.settle_due.Goals as goal
-use Rattle.rb_world_book.proofs.book.Book.settle_due.Goals.{else-is_quiet-via-then-is_quiet+else-is_due, else-is_quiet-via-else-is_quiet}
 
 pub pass-requires-then-is_due : goal.pass-requires-then-is_due
 pass-requires-then-is_due c = quiet-is c.pass.new.turn (sym c.is_quiet.ensures ∙ c.if-is_quiet.true)

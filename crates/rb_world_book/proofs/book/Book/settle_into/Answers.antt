@@ -1,6 +1,5 @@
 use Rattle.std.proofs.Common.{sym, subst, ◌∙◌}
-use Rattle.rb_world_book.specs.Records.{way_of}
-use Rattle.rb_world_book.specs.Settling.{Settles}
+use Rattle.rb_world_book.specs.{Records.way_of, Settling.Settles}
 use Rattle.rb_world_book.proofs.Due.{settles-none}
 use Rattle.rb_world_book.proofs.book.Book.settle_into.Goals as goal
 
