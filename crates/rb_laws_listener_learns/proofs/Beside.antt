@@ -1,5 +1,5 @@
 -- A listener beside a run, computed: it hears what the RMU sends, and no more.
-use Rattle.std.proofs.{Common.{◌≡◌, ℕ, zero, suc, ◌+◌, ◌-◌, ◌*◌, ◌<◌, ◌≤◌, ◌==◌, ◌&&◌, ◌||◌, not, nat_lt, nat_le, Bool, true, false, List, [], ◌∷◌, Option, Some, None, get_or, slice_get, if◌then◌else◌, inl, inr, lit<, lit≤, refl, sym, ◌∙◌, ap, subst, arith, zero-add}, lemmas.Bool.{cases_lt, eqb-true, le-leb, lt-ltb, ltb-true, not-false, or_from}, lemmas.Bool.Decides.nat_tests, lemmas.List.Elements.{All-cons, All-nil}, lemmas.List.FromFn.get_or-range_with_len, lemmas.List.Sums.AllPass-from_list_all, lemmas.Option.same_Some}
+use Rattle.std.proofs.{Common.{◌≡◌, ℕ, zero, suc, ◌+◌, ◌-◌, ◌*◌, ◌<◌, ◌≤◌, ◌==◌, ◌&&◌, ◌||◌, not, nat_lt, nat_le, Bool, true, false, List, [], ◌∷◌, Option, Some, None, get_or, slice_get, if◌then◌else◌, inl, inr, lit<, lit≤, refl, sym, ◌∙◌, ap, subst, arith, zero-add}, lemmas.Bool.{cases_lt, eqb-true, le-leb, leb-true, lt-ltb, ltb-true, not-false, or_from}, lemmas.Bool.Decides.nat_tests, lemmas.List.Elements.{All-cons, All-nil}, lemmas.List.FromFn.get_or-range_with_len, lemmas.List.Sums.AllPass-from_list_all, lemmas.Option.same_Some}
 use Rattle.std.specs.{Prelude.{All, is_none, ◌^◌}, List.list_all}
 use Rattle.rb_base.specs.{Counting.numbers, Nodes.{set_of, set_below, size}}
 use Rattle.rb_base.proofs.Plain.{and_first, and_second}
@@ -8,7 +8,7 @@ use Rattle.rb_listen.specs.{Lessons.{first_of, nothing_recorded}, Listening.{Lis
 use Rattle.rb_laws_listener_near.specs.Judged.{verdict_with}
 use Rattle.rb_rules.proofs.{Feasibility.feasible_exactly, Books.{GoesOn, moments-on}}
 use Rattle.rb_laws_agreement.proofs.Tests.{or_neither_first, or_neither_second}
-use Rattle.rb_laws_listener_learns.specs.{Beside.{comes, decided, ear, found_by, heard_with, if_stamped, is_offset, plan, search_in, sends_at, sends_by, steady, two_frames, window_of}, Deciding.DecidesBy, Receivers.{HoldsTo, IsCalm, seen_in}, Seeking.HasCalls, Ears.{HearsTheRun, IsEar, IsHeard, IsOfGood, SendsIn, coming_to, listening_at}}
+use Rattle.rb_laws_listener_learns.specs.{Beside.{comes, decided, ear, found_by, heard_with, if_stamped, is_offset, plan, search_in, sends_at, sends_by, steady, two_frames, window_of}, Deciding.{CallsComeAfter, CallsComeBy, DecidesBy}, Receivers.{HoldsTo, IsCalm, seen_in}, Seeking.HasCalls, Ears.{HearsTheRun, IsEar, IsHeard, IsOfGood, SendsIn, coming_to, listening_at}}
 use Rattle.rb_listen.specs.Listening as now
 
 -- The clock.
@@ -111,10 +111,11 @@ before-end n running =
           let both : true ≡ false = sym over ∙ running in absurd (cc)
     ]
 
--- what is sent in a window comes with a stamp from which the window is found
+-- what is sent in a window comes with a stamp from which the window is found, and which is at most
+-- that of the last call
 abbrev is_placed : ℕ → Option Sending → Bool
 is_placed n None = true
-is_placed n (Some s) = is_offset (suc s.tick) && (window_of (suc s.tick) == n)
+is_placed n (Some s) = (is_offset (suc s.tick) && (window_of (suc s.tick) == n)) && nat_le (suc s.tick) 445
 
 all-placed : list_all (λ n. is_placed n (sends_at n)) (numbers 35) ≡ true
 unfolding sends_at set_of set_below message_in close_exact outcome_of close_sync sync_outcome_of turn convicted_by classes_of verdict_of size delay_of with_stage with_frame sending heard_from row_of sent_in close_on go_through results_of after_window begin_frame step
@@ -128,7 +129,8 @@ placed n less =
 heard-so : (n : ℕ) (s : Sending) → n < 35 → sends_at n ≡ Some s → slice_get (heard_with (suc s.tick)) 0 ≡ Some (comes s)
 unfolding heard_with
 heard-so n s less sent =
-    let both : (is_offset (suc s.tick) && (window_of (suc s.tick) == n)) ≡ true = ap (is_placed n) (sym sent) ∙ placed n less in
+    let both : (is_offset (suc s.tick) && (window_of (suc s.tick) == n)) ≡ true =
+    and_first (is_offset (suc s.tick) && (window_of (suc s.tick) == n)) (nat_le (suc s.tick) 445) (ap (is_placed n) (sym sent) ∙ placed n less) in
     let offset : is_offset (suc s.tick) ≡ true = and_first (is_offset (suc s.tick)) (window_of (suc s.tick) == n) both in
     let window : window_of (suc s.tick) ≡ n = eqb-true (window_of (suc s.tick)) n (and_second (is_offset (suc s.tick)) (window_of (suc s.tick) == n) both) in
     let self : (suc s.tick == suc s.tick) ≡ true = grind (arith, nat_tests) in
@@ -168,6 +170,21 @@ hears-the-run = record {
       inl (subst (IsOfGood two_frames [] ear) (sym x.is)
       (record { n = window_of k; sending = x.s; sent = sends-in (window_of k) x.s x.sent; is = refl }));
 }
+
+-- The calls.
+
+pub starts : CallsComeAfter two_frames [] ear 0 0
+starts n j s frame window sent = omega (arith, time-is 0)
+
+pub come : CallsComeBy two_frames [] ear 1 445
+come n j s frame window sent =
+    let zero_is : 0 ≡ j = sym (first-rmu n j s sent) in
+    subst (λ j. SendsIn two_frames [] n j s → (coming_to two_frames ear j (moment two_frames [] n).frame s).time ≤ time_of ear.clock 445) zero_is
+    (λ sent.
+    let test : nat_le (suc s.tick) 445 ≡ true =
+    and_second (is_offset (suc s.tick) && (window_of (suc s.tick) == n)) (nat_le (suc s.tick) 445) (ap (is_placed n) (sym (sends-so n s sent)) ∙ placed n (before-end n sent.running)) in
+    let by : suc s.tick ≤ 445 = leb-true (suc s.tick) 445 test in
+    let late : (comes s).time ≤ time_of steady 445 = omega (arith, come-time s, time-is 445, by) in late) sent
 
 -- The scenario.
 

@@ -1,7 +1,7 @@
 -- When a listener decides.
 use Rattle.std.specs.Prelude.{ℕ, ◌≡◌, ◌+◌, ◌*◌, ◌%◌, ◌≤◌, ◌<◌, true, Some, List}
 use Rattle.rb_base.specs.Sizes.{sync_slot_of}
-use Rattle.rb_rules.specs.{Clock.IsStamp, Goodness.Scenario, Hearing.Sending, Ports.HandIn, Rounds.moment}
+use Rattle.rb_rules.specs.{Clock.{IsStamp, time_of}, Goodness.Scenario, Hearing.Sending, Ports.HandIn, Rounds.moment}
 use Rattle.rb_listen.specs.{Listening.is_deciding, declared.search.Search.Search}
 use Rattle.rb_laws_listener_learns.specs.{Ears.{Ear, SendsIn, coming_to, listening_at}, Seeking.HasCalls}
 use Rattle.rb_listen.specs.Listening as now
@@ -28,3 +28,25 @@ pub record DecidesBy (sc : Scenario) (hands : List HandIn) (ear : Ear) (learned 
   pub deciding : is_deciding s ≡ true
   pub called : HasCalls sc hands learned
   pub lesson : s.lesson.frame ≡ learned % 65536
+
+-- all calls of good RMUs in this frame come after this tick of the listener
+abbrev pub CallsComeAfter : Scenario → List HandIn → Ear → ℕ → ℕ → Type 0
+CallsComeAfter sc hands ear frame tick =
+    (n j : ℕ) (s : Sending) → (moment sc hands n).frame ≡ frame → (moment sc hands n).window ≡ 3 * sync_slot_of sc.sizes + 1 → SendsIn sc hands n j s
+    → time_of ear.clock tick < (coming_to sc ear j (moment sc hands n).frame s).time
+
+-- all calls of good RMUs in this frame come before this tick of the listener, or with it
+abbrev pub CallsComeBy : Scenario → List HandIn → Ear → ℕ → ℕ → Type 0
+CallsComeBy sc hands ear frame tick =
+    (n j : ℕ) (s : Sending) → (moment sc hands n).frame ≡ frame → (moment sc hands n).window ≡ 3 * sync_slot_of sc.sizes + 1 → SendsIn sc hands n j s
+    → (coming_to sc ear j (moment sc hands n).frame s).time ≤ time_of ear.clock tick
+
+-- the listener decides at tick `latest` or before, by what it learned of this frame or of an
+-- earlier one
+pub record HasDecided (sc : Scenario) (hands : List HandIn) (ear : Ear) (frame latest : ℕ) : Type 0 where
+  pub learned : ℕ
+  pub tick : ℕ
+  pub search : Search
+  pub decides : DecidesBy sc hands ear learned tick search
+  pub soon : learned ≤ frame
+  pub in_time : tick ≤ latest

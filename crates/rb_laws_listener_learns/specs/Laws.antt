@@ -1,9 +1,9 @@
 -- What is proved of a listener beside a run of the bus.
 use Rattle.std.specs.Prelude.{ℕ, ◌≡◌, ◌+◌, ◌*◌, ◌<◌, ◌≤◌, ◌↔◌, true, None, Some, List, get_or}
 use Rattle.rb_base.specs.{Nodes.set_of, Sizes.sync_slot_of}
-use Rattle.rb_listen.specs.{Lessons.{first_of, trusted_bius, trusted_rmus}, Listening.{first_search, told_of}, Passes.are_most, declared.lesson.First.First, declared.search.Search.Search}
+use Rattle.rb_listen.specs.{Lessons.{first_of, trusted_bius, trusted_rmus}, Listening.{first_search, told_of}, Passes.{are_most, reach_of}, declared.lesson.First.First, declared.search.Search.Search}
 use Rattle.rb_rules.specs.{Clock.{Timeline, time_of}, Goodness.Scenario, Hearing.Coming, Lawful.IsLawful, Moments.{IsRunning, before_slot}, Plan.shortest_of, Ports.HandIn}
-use Rattle.rb_laws_listener_learns.specs.{Calling.EachIsHeardToCall, Deciding.{DecidesAfterTheCalls, DecidesBy}, Ears.{Ear, HearsTheRun, IsEar, IsOfFaulty, is_always_good}, Feeding.{events_from, told_from}, Learned.{AreTrusted, HasLearned, TrustsTheTrusted}, Onsets.{BeginsBeside, IsGoodThroughout}, Receivers.IsCalm, Records.{RecordsAreTrue, RecordsAreWhole}, Seeking.SeeksAFrame, Waiting.WaitsFor, Together.{CallsComeTogether, LaterCallsComeLater}}
+use Rattle.rb_laws_listener_learns.specs.{Calling.EachIsHeardToCall, Deciding.{CallsComeAfter, CallsComeBy, DecidesAfterTheCalls, DecidesBy, HasDecided}, Ears.{Ear, HearsTheRun, IsEar, IsOfFaulty, is_always_good}, Feeding.{events_from, told_from}, Learned.{AreTrusted, HasLearned, TrustsTheTrusted}, Onsets.{BeginsBeside, IsGoodThroughout}, Receivers.IsCalm, Records.{RecordsAreTrue, RecordsAreWhole}, Seeking.{HasCalls, SeeksAFrame}, Waiting.WaitsFor, Together.{CallsComeTogether, LaterCallsComeLater}}
 use Rattle.rb_listen.specs.Listening as now
 
 -- an RMU is good in the whole run if and only if it is good in each slot to which the run comes
@@ -65,6 +65,16 @@ abbrev pub DecisionsComeAfterTheCalls : Type 0
 DecisionsComeAfterTheCalls =
     (sc : Scenario) (hands : List HandIn) → IsLawful sc → (ear : Ear) → IsEar sc ear → HearsTheRun sc hands ear
     → (k : ℕ) → k < ear.ticks → DecidesAfterTheCalls sc hands ear k
+
+-- A listener that starts before the calls of a frame decides, if the run comes to the calls of the
+-- next frame and the listener's ticks last: at most the reach of a pass after these have come, by
+-- that next frame or an earlier one, whatever faulty RMUs send
+abbrev pub ListenersDecide : Type 0
+ListenersDecide =
+    (sc : Scenario) (hands : List HandIn) → IsLawful sc → (ear : Ear) → IsEar sc ear → HearsTheRun sc hands ear
+    → (frame : ℕ) → CallsComeAfter sc hands ear frame 0 → HasCalls sc hands (frame + 1)
+    → (last : ℕ) → CallsComeBy sc hands ear (frame + 1) last → last + reach_of sc.plan < ear.ticks
+    → HasDecided sc hands ear (frame + 1) (last + reach_of sc.plan)
 
 -- if a listener decides, it has recorded all that an RMU, good in the learned frame up to its sync
 -- slot, sent in that frame in the places that are recorded

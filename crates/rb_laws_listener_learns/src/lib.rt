@@ -5,18 +5,21 @@
 ghost use Rattle.std.specs.Prelude.{[]};
 ghost use Rattle.rb_rules.specs.Lawful.{IsLawful};
 ghost use Rattle.rb_laws_listener_learns.specs.Beside.{decided, ear, two_frames};
-ghost use Rattle.rb_laws_listener_learns.specs.Deciding.{DecidesBy};
+ghost use Rattle.rb_laws_listener_learns.specs.Deciding.{CallsComeAfter, CallsComeBy, DecidesBy};
 ghost use Rattle.rb_laws_listener_learns.specs.Ears.{HearsTheRun, IsEar};
 ghost use Rattle.rb_laws_listener_learns.specs.Laws.{AlwaysGoodIsGoodInEachSlot, DecisionsComeAfterTheCalls, DecisionsComeInTime, EarsAreFedEvents, FaultyRmusMaySpeakByAnyClock, FramesComeApart, GoodCallsComeTogether, GoodRmusAreHeardToCall, ListenersLearn, ListenersTrustAsTheBus, ListenersTrustTheTrusted, ListenersWait, RecordsOfTheGoodAreTrue, RecordsOfTheGoodAreWhole, TheFrameSoughtIsReal};
 ghost use Rattle.rb_laws_listener_learns.specs.Receivers.{IsCalm};
 
-/// An instance of what the laws ask, computed: a listener beside a run of two frames hears the RMU,
-/// learns the second frame, and decides by it; that frame comes to its end before the first breach
-/// of the premise with the listener.
+/// An instance of what the laws ask, computed: a listener beside a run of two frames starts before
+/// the call of the first one and hears the RMU, up to its call in the second one with tick 445 and
+/// then for the reach of a pass. It learns the second frame, and decides by it. That frame comes to
+/// its end before the first breach of the premise with the listener.
 pub fn a_listener_beside_a_run()
     ensures lawful { IsLawful two_frames }
     ensures ear { IsEar two_frames ear }
     ensures hears { HearsTheRun two_frames [] ear }
+    ensures starts { CallsComeAfter two_frames [] ear 0 0 }
+    ensures come { CallsComeBy two_frames [] ear 1 445 }
     ensures decides { DecidesBy two_frames [] ear 1 463 decided }
     ensures calm { IsCalm two_frames [] ear 1 decided.lesson.records 1 4 }
 {}
