@@ -7,7 +7,7 @@ use Rattle.rb_laws_agreement.proofs.Places.{IsPlaced, placed}
 use Rattle.rb_laws_listener_learns.specs.{Ears.{Ear, HearsTheRun, IsEar, SendsIn, coming_to, is_always_good}, Seeking.HasCalls}
 use Rattle.rb_laws_listener_learns.proofs.{Allowed.some-good, Deciding.IsHeardCall, Fresh.{CallsToo, below-16, call-of, same-frame-number, same-moment}, Moments.same-sent, TrustedSets.SomeGood}
 
--- Of good ones, each with a number, one has the greatest number.
+-- Of good ones, each with a number, one is the last: it has the greatest number.
 
 pub record HasLast (good : ℕ → Bool) (P : ℕ → ℕ → Type 0) (n : ℕ) : Type 0 where
   pub j : ℕ
@@ -16,65 +16,37 @@ pub record HasLast (good : ℕ → Bool) (P : ℕ → ℕ → Type 0) (n : ℕ) 
   pub holds : P j at
   pub each : (i : ℕ) → i < n → good i ≡ true → (b : ℕ) × (P i b × (b ≤ at))
 
--- number `n` is good, and those below it have a last one
-next-last : (good : ℕ → Bool) (P : ℕ → ℕ → Type 0) (n at : ℕ) → good n ≡ true → P n at → HasLast good P n → HasLast good P (suc n)
-next-last good P n at is p h =
-    elim (cases_lt at h.at) [
-      | inl less ↦ record {
-        j = h.j;
-        at = h.at;
-        good_is = h.good_is;
-        holds = h.holds;
-        each = λ i lt g. elim (cases_lt i n) [
-          | inl before ↦ h.each i before g
-          | inr ge ↦ subst (λ x. (b : ℕ) × (P x b × (b ≤ h.at))) (same i lt ge) (at, (p, omega (arith, less)))
-        ];
-      }
-      | inr late ↦ record {
-        j = n;
-        at = at;
-        good_is = is;
-        holds = p;
-        each = λ i lt g. elim (cases_lt i n) [
-          | inl before ↦ let e : (b : ℕ) × (P i b × (b ≤ h.at)) = h.each i before g in (e.0, (e.1.0, omega (arith, e.1.1, late)))
-          | inr ge ↦ subst (λ x. (b : ℕ) × (P x b × (b ≤ at))) (same i lt ge) (at, (p, omega arith))
-        ];
-      }
+-- if each good one below `n` has a number up to `most`, and `n` has, so has each one below `suc n`
+up-to-next : (good : ℕ → Bool) (P : ℕ → ℕ → Type 0) (n most : ℕ) → ((i : ℕ) → i < n → good i ≡ true → (b : ℕ) × (P i b × (b ≤ most))) → (good n ≡ true → (b : ℕ) × (P n b × (b ≤ most)))
+    → (i : ℕ) → i < suc n → good i ≡ true → (b : ℕ) × (P i b × (b ≤ most))
+up-to-next good P n most below here i lt g =
+    elim (cases_lt i n) [
+      | inl before ↦ below i before g
+      | inr ge ↦ let same : n ≡ i = omega (arith, lt, ge) in subst (λ x. good x ≡ true → (b : ℕ) × (P x b × (b ≤ most))) same here g
     ]
-  where
-    same : (i : ℕ) → i < suc n → n ≤ i → n ≡ i
-    same i lt ge = omega (arith, lt, ge)
 
-first-last : (good : ℕ → Bool) (P : ℕ → ℕ → Type 0) (n at : ℕ) → good n ≡ true → P n at → ((j : ℕ) → j < n → good j ≡ false) → HasLast good P (suc n)
-first-last good P n at is p none = record {
-  j = n;
-  at = at;
-  good_is = is;
-  holds = p;
-  each = λ i lt g. elim (cases_lt i n) [
-    | inl before ↦ let both : true ≡ false = sym g ∙ none i before in absurd (cc)
-    | inr ge ↦ subst (λ x. (b : ℕ) × (P x b × (b ≤ at))) (let e : n ≡ i = omega (arith, lt, ge) in e) (at, (p, omega arith))
-  ];
-}
+-- if `n` is good, and its number no less than those of all below it, it is the last one
+new-last : (good : ℕ → Bool) (P : ℕ → ℕ → Type 0) (n at : ℕ) → good n ≡ true → P n at → ((i : ℕ) → i < n → good i ≡ true → (b : ℕ) × (P i b × (b ≤ at))) → HasLast good P (suc n)
+new-last good P n at is p below = record { j = n; at = at; good_is = is; holds = p; each = up-to-next good P n at below (λ g. (at, (p, omega arith))) }
+
+-- the last one of those below `n` stays the last one, if `n` has no greater number
+same-last : (good : ℕ → Bool) (P : ℕ → ℕ → Type 0) (n : ℕ) → (h : HasLast good P n) → (good n ≡ true → (b : ℕ) × (P n b × (b ≤ h.at))) → HasLast good P (suc n)
+same-last good P n h here = record { j = h.j; at = h.at; good_is = h.good_is; holds = h.holds; each = up-to-next good P n h.at h.each here }
 
 pub last-of : (good : ℕ → Bool) (P : ℕ → ℕ → Type 0) → ((j : ℕ) → good j ≡ true → (at : ℕ) × P j at) → (n : ℕ) → ((j : ℕ) → j < n → good j ≡ false) ⊎ HasLast good P n
 last-of good P each zero = inl (λ j lt. absurd (omega (arith, lt)))
 last-of good P each (suc n) = by (good n) refl (last-of good P each n)
   where
     by : (b : Bool) → good n ≡ b → ((j : ℕ) → j < n → good j ≡ false) ⊎ HasLast good P n → ((j : ℕ) → j < suc n → good j ≡ false) ⊎ HasLast good P (suc n)
-    by true is (inl none) = inr (first-last good P n (each n is).0 is (each n is).1 none)
-    by true is (inr h) = inr (next-last good P n (each n is).0 is (each n is).1 h)
-    by false is (inl none) = inl (λ j lt. elim (cases_lt j n) [ inl before ↦ none j before | inr ge ↦ ap good (let e : j ≡ n = omega (arith, lt, ge) in e) ∙ is ])
-    by false is (inr h) = inr (record {
-      j = h.j;
-      at = h.at;
-      good_is = h.good_is;
-      holds = h.holds;
-      each = λ i lt g. elim (cases_lt i n) [
-        | inl before ↦ h.each i before g
-        | inr ge ↦ let both : true ≡ false = sym g ∙ ap good (let e : i ≡ n = omega (arith, lt, ge) in e) ∙ is in absurd (cc)
-      ];
-    })
+    by true is (inl none) = inr (new-last good P n (each n is).0 is (each n is).1 (λ i lt g. let both : true ≡ false = sym g ∙ none i lt in absurd (cc)))
+    by true is (inr h) =
+        let own : (at : ℕ) × P n at = each n is in
+        inr (elim (cases_lt own.0 h.at) [
+          | inl less ↦ same-last good P n h (λ g. (own.0, (own.1, omega (arith, less))))
+          | inr late ↦ new-last good P n own.0 is own.1 (λ i lt g. let e : (b : ℕ) × (P i b × (b ≤ h.at)) = h.each i lt g in (e.0, (e.1.0, omega (arith, e.1.1, late))))
+        ])
+    by false is (inl none) = inl (λ j lt. elim (cases_lt j n) [ inl before ↦ none j before | inr ge ↦ let same : j ≡ n = omega (arith, lt, ge) in ap good same ∙ is ])
+    by false is (inr h) = inr (same-last good P n h (λ g. let both : true ≡ false = sym g ∙ is in absurd (cc)))
 
 -- The last call of a frame.
 
