@@ -13,7 +13,7 @@ use Rattle.rb_laws_listener_learns.specs.{Ears.is_always_good, Laws.FaultyRmusMa
 use Rattle.rb_laws_listener_learns.proofs.{Apart.{AllWereAt, WasAt, all-were-at}, Fresh.always-good-in, Meeting.meet, Seeks.{good-inside, good-rmus, good-set}, TrustedSets.{GoodThere, SomeGood, good-there}}
 
 -- if most RMUs are good in the whole run, some RMU is
-some-good : (sc : Scenario) (hands : List HandIn) → IsLawful sc → are_most sc.sizes (set_of (is_always_good sc hands)) ≡ true → SomeGood sc hands
+pub some-good : (sc : Scenario) (hands : List HandIn) → IsLawful sc → are_most sc.sizes (set_of (is_always_good sc hands)) ≡ true → SomeGood sc hands
 unfolding good-set
 some-good sc hands law most = by (meet sc.sizes (good-set sc hands) (good-set sc hands) law.sizes.most_rmus (good-inside sc hands) (good-inside sc hands) most most)
   where

@@ -115,13 +115,35 @@ always-good-at sc hands law j n slot running le good =
     always-good-in sc hands law j (moment sc hands n).frame slot
     (running_earlier sc hands ((moment sc hands n).frame * (windows_in sc.sizes + 1) + 3 * slot + 1 - 1) n (omega (arith, (agreement sc hands law n running).agree.place, le)) running) good
 
+-- an RMU that is good in the whole run calls in each sync slot to which the run comes
+pub call-of : (sc : Scenario) (hands : List HandIn) → IsLawful sc → (ear : Ear) → IsEar sc ear → HearsTheRun sc hands ear → (n : ℕ) → IsRunning (moment sc hands n)
+    → (moment sc hands n).window ≡ 3 * sync_slot_of sc.sizes + 1 → (j : ℕ) → is_always_good sc hands j ≡ true → (at : ℕ) × CallsToo sc hands ear n j at
+call-of sc hands law ear is run n running window_is j good =
+    let calls : IsHeardToCall sc hands ear n j =
+    heard-to-call sc hands law ear run n j running window_is (always-good-at sc hands law j n (sync_slot_of sc.sizes) running (omega (arith, window_is)) good) in
+    let time : ℕ = (coming_to sc ear j (moment sc hands n).frame calls.sending).time in
+    (stamp_of ear.clock time, record { calls = calls; stamped = stamp_of-is ear.clock (steady-ear sc law ear is).moves time })
+
 pub call-at : (sc : Scenario) (hands : List HandIn) → IsLawful sc → (ear : Ear) → IsEar sc ear → HearsTheRun sc hands ear → (i number a : ℕ) (c : IsHeardCall sc hands ear i number a)
     → (j : ℕ) → is_always_good sc hands j ≡ true → (at : ℕ) × CallsToo sc hands ear c.n j at
-call-at sc hands law ear is run i number a c j good =
-    let calls : IsHeardToCall sc hands ear c.n j =
-    heard-to-call sc hands law ear run c.n j c.sent.running c.window_is (always-good-at sc hands law j c.n (sync_slot_of sc.sizes) c.sent.running (omega (arith, c.window_is)) good) in
-    let time : ℕ = (coming_to sc ear j (moment sc hands c.n).frame calls.sending).time in
-    (stamp_of ear.clock time, record { calls = calls; stamped = stamp_of-is ear.clock (steady-ear sc law ear is).moves time })
+call-at sc hands law ear is run i number a c j good = call-of sc hands law ear is run c.n c.sent.running c.window_is j good
+
+-- the call is among what the listener hears with its stamp
+pub call-there : (sc : Scenario) (hands : List HandIn) → IsLawful sc → (ear : Ear) → (n j at : ℕ) → CallsToo sc hands ear n j at → 1 ≤ at → at < ear.ticks → (i : ℕ) × IsCallAt sc ear at i j
+call-there sc hands law ear n j at too some in_time = (
+  heard.nth,
+  record {
+    coming = coming_to sc ear j (moment sc hands n).frame too.calls.sending;
+    there = heard.there;
+    from = refl;
+    message = too.calls.sending.message;
+    reads = read_back sc.plan.version too.calls.sending.message (in-place sc hands law n j too.calls.sending too.calls.sent).fits;
+    call = too.calls.call;
+  },
+)
+  where
+    heard : IsHeard ear at (coming_to sc ear j (moment sc hands n).frame too.calls.sending)
+    heard = too.calls.heard at some in_time too.stamped
 
 -- a time is the same as a call that comes
 abbrev pub as-call : (sc : Scenario) (hands : List HandIn) (ear : Ear) (i number a : ℕ) (c : IsHeardCall sc hands ear i number a) (j at : ℕ) → CallsToo sc hands ear c.n j at → 1 ≤ at
@@ -223,7 +245,7 @@ called-of newest q j None e h = cc
 called-of newest q j (Some c) e h = record { call = c; there = e; frame_is = eqb-true c.frame q h }
 
 -- if the call of no good RMU is missing, there is a pass
-none-missing : (sc : Scenario) (hands : List HandIn) → IsLawful sc → (ear : Ear) → IsEar sc ear → are_most sc.sizes (set_of (is_always_good sc hands)) ≡ true → (k q : ℕ) (newest : List (Option Call))
+pub none-missing : (sc : Scenario) (hands : List HandIn) → IsLawful sc → (ear : Ear) → IsEar sc ear → are_most sc.sizes (set_of (is_always_good sc hands)) ≡ true → (k q : ℕ) (newest : List (Option Call))
     → AreKnown sc hands ear k newest → (i : ℕ) → is_always_good sc hands i ≡ true → ((j : ℕ) → is_always_good sc hands j ≡ true → HasCalled newest q j)
     → pass_of sc.sizes sc.plan newest ≡ Some q
 unfolding good-set
@@ -299,23 +321,10 @@ still-to-come sc hands law ear is run k n p q newest in_time known latest before
 
     -- an RMU whose newest call is of another frame has called in this one at this tick or later
     absent : (j at : ℕ) → is_always_good sc hands j ≡ true → is_of q (get_or newest j None) ≡ false → (too : CallsToo sc hands ear soon.call.call.n j at) → 1 ≤ at → at < k → ⊥
-    absent j at good other too some early = late (get_or newest j None) refl (latest j at heard.nth within_it call (inl early))
+    absent j at good other too some early = late (get_or newest j None) refl (latest j at there.0 (always-counts sc hands j good) there.1 (inl early))
       where
-        within_it : j < sc.sizes.rmus
-        within_it = always-counts sc hands j good
-
-        heard : IsHeard ear at (coming_to sc ear j (moment sc hands soon.call.call.n).frame too.calls.sending)
-        heard = too.calls.heard at some (omega (arith, early, in_time)) too.stamped
-
-        call : IsCallAt sc ear at heard.nth j
-        call = record {
-          coming = coming_to sc ear j (moment sc hands soon.call.call.n).frame too.calls.sending;
-          there = heard.there;
-          from = refl;
-          message = too.calls.sending.message;
-          reads = read_back sc.plan.version too.calls.sending.message (in-place sc hands law soon.call.call.n j too.calls.sending too.calls.sent).fits;
-          call = too.calls.call;
-        }
+        there : (i : ℕ) × IsCallAt sc ear at i j
+        there = call-there sc hands law ear soon.call.call.n j at too some (omega (arith, early, in_time))
 
         mine : IsHeardCall sc hands ear j q at
         mine = as-call sc hands ear soon.call.j q soon.at soon.call.call j at too some

@@ -95,7 +95,7 @@ no-call sc ear k n s none h = record {
 }
 
 -- a call keeps `IsLatest`
-call-latest : (sc : Scenario) (ear : Ear) (k n from : ℕ) (m : Message) (s : Search) → IsShape sc.sizes → from < sc.sizes.rmus → ((j : ℕ) → IsCallAt sc ear k n j → j ≡ from) → IsLatest sc ear k n s
+pub call-latest : (sc : Scenario) (ear : Ear) (k n from : ℕ) (m : Message) (s : Search) → IsShape sc.sizes → from < sc.sizes.rmus → ((j : ℕ) → IsCallAt sc ear k n j → j ≡ from) → IsLatest sc ear k n s
     → IsLatest sc ear k (suc n) (with_call sc.sizes from m s)
 call-latest sc ear k n from m s shape within only h = record {
   had = r.had;

@@ -4,10 +4,9 @@ use Rattle.std.proofs.{Common.{◌≡◌, ◌⊎◌, ℕ, suc, ◌+◌, ◌*◌,
 use Rattle.rb_base.specs.Sizes.{IsShape, Sizes, sync_slot_of}
 use Rattle.rb_base.proofs.Plain.{and_first, and_second}
 use Rattle.rb_rules.specs.{declared.message.Message.Message, declared.sense.Sense.TheVariants.Silent, Core.is_tick, Goodness.Scenario, Hearing.Coming, Lawful.IsLawful, Ports.HandIn, Rounds.moment, Spelling.message_in}
-use Rattle.rb_rules.proofs.Spellings.{read_back}
 use Rattle.rb_listen.specs.{Lessons.{frame_after, has_place, lesson_on, noted, nothing_recorded, record_of, with_message, with_record}, Listening.{first_search, if_pass, is_deciding, later, learning, recorded, searching, timed}, Passes.{is_call, pass_of, reach_of}, declared.lesson.Lesson.Lesson, declared.passes.Call.Call, declared.search.Search.Search}
-use Rattle.rb_laws_listener_learns.specs.Ears.{Ear, HearsTheRun, IsEar, IsHeard, coming_to, is_always_good, listening_at}
-use Rattle.rb_laws_listener_learns.proofs.{Apart.come-apart, Deciding.{IsAfterCall, IsHeardCall, IsWell, heard-call, kept-well, newest-well, recorded-well}, Fresh.{CallsToo, GoodInPass, IsGoodCall, IsSoon, IsStillToCome, as-call, call-at, calls-together, good-in-pass, next-frame-number, pass-is-soon, same-frame-number, still-to-come, well-known}, Latest.{IsCallAt, IsLate, IsLatest, earlier-by, earlier-le, going, kept-latest, not-yet, recorded-latest, whole-earlier}, Noting.{AreNotedBy, HasRoom, begun-noted, none-noted, noted-noted, tick-noted}, PassSets.{BeginsAt, pass-at}, Recorded.IsEarlier, Searchings.{RecordsOnly, pass-by, recorded-only, search-by, with_call}, Seeks.{always-counts, no-onset, none-there, timed-frame}, Sendings.in-place, Walks.{HoldsAt, IsKept, always-at}}
+use Rattle.rb_laws_listener_learns.specs.Ears.{Ear, HearsTheRun, IsEar, is_always_good, listening_at}
+use Rattle.rb_laws_listener_learns.proofs.{Apart.come-apart, Deciding.{IsAfterCall, IsHeardCall, IsWell, heard-call, kept-well, newest-well, recorded-well}, Fresh.{CallsToo, GoodInPass, IsGoodCall, IsSoon, IsStillToCome, as-call, call-at, call-there, calls-together, good-in-pass, next-frame-number, pass-is-soon, same-frame-number, still-to-come, well-known}, Latest.{IsCallAt, IsLate, IsLatest, earlier-by, earlier-le, going, kept-latest, not-yet, recorded-latest, whole-earlier}, Noting.{AreNotedBy, HasRoom, begun-noted, none-noted, noted-noted, tick-noted}, PassSets.{BeginsAt, pass-at}, Recorded.IsEarlier, Searchings.{RecordsOnly, pass-by, recorded-only, search-by, with_call}, Seeks.{always-counts, no-onset, none-there, timed-frame}, Walks.{HoldsAt, IsKept, always-at}}
 
 -- What holds.
 
@@ -300,7 +299,7 @@ decides-late : (sc : Scenario) (hands : List HandIn) → IsLawful sc → (ear : 
     → slice_get (ear.heard k) n ≡ None → IsWell sc hands ear k n s → IsLatest sc ear k n s → s.lesson.decides ≡ Some k → (q : ℕ) → pass_of sc.sizes sc.plan s.newest ≡ Some q
     → s.lesson.frame ≡ frame_after q → ⊥
 decides-late sc hands law ear is run k n s in_time whole well latest decides q made next =
-    late (latest.latest g.j at.0 heard.nth within call (whole-earlier ear at.0 heard.nth k n coming heard.there whole by_now))
+    late (latest.latest g.j at.0 there.0 (always-counts sc hands g.j g.good) there.1 (whole-earlier ear at.0 there.0 k n there.1.coming there.1.there whole by_now))
   where
     b : BeginsAt sc.sizes sc.plan s.newest q
     b = pass-at sc.sizes sc.plan s.newest q made
@@ -341,24 +340,8 @@ decides-late sc hands law ear is run k n s in_time whole well latest decides q m
               (same-frame-number sc hands law ear after.j g.j s.lesson.frame s.lesson.frame after.at at.0 after.call mine refl),
         )
 
-    within : g.j < sc.sizes.rmus
-    within = always-counts sc hands g.j g.good
-
-    coming : Coming
-    coming = coming_to sc ear g.j (moment sc hands after.call.n).frame at.1.calls.sending
-
-    heard : IsHeard ear at.0 (coming_to sc ear g.j (moment sc hands after.call.n).frame at.1.calls.sending)
-    heard = at.1.calls.heard at.0 (omega (arith, gap)) (omega (arith, by_now, in_time)) at.1.stamped
-
-    call : IsCallAt sc ear at.0 heard.nth g.j
-    call = record {
-      coming = coming_to sc ear g.j (moment sc hands after.call.n).frame at.1.calls.sending;
-      there = heard.there;
-      from = refl;
-      message = at.1.calls.sending.message;
-      reads = read_back sc.plan.version at.1.calls.sending.message (in-place sc hands law after.call.n g.j at.1.calls.sending at.1.calls.sent).fits;
-      call = at.1.calls.call;
-    }
+    there : (i : ℕ) × IsCallAt sc ear at.0 i g.j
+    there = call-there sc hands law ear after.call.n g.j at.0 at.1 (omega (arith, gap)) (omega (arith, by_now, in_time))
 
     late : IsLate at.0 (get_or s.newest g.j None) → ⊥
     late l = let now : IsLate at.0 (Some g.there.call) = subst (IsLate at.0) g.there.is l in let le : at.0 ≤ g.there.call.at = now in omega (arith, le, gap)

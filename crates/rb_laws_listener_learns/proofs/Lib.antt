@@ -37,3 +37,5 @@ pub mod SyncStages
 pub mod Begins
 pub mod Allowed
 pub mod Throughout
+pub mod LastCalls
+pub mod NewestCalls
