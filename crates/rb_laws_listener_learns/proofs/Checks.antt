@@ -2,7 +2,7 @@
 -- by what it learned of the frame, or learns the frame after.
 use Rattle.std.proofs.{Common.{◌≡◌, ◌⊎◌, ℕ, suc, ◌+◌, ◌%◌, ◌<◌, ◌≤◌, ◌&&◌, Bool, true, false, Option, Some, None, is_some, List, slice_get, inl, inr, refl, sym, ◌∙◌, ap, subst, arith}, lemmas.Bool.{and_from, eq-eqb}, lemmas.Bool.Decides.nat_tests}
 use Rattle.rb_rules.specs.{Core.is_tick, Goodness.Scenario, Lawful.IsLawful, Ports.HandIn}
-use Rattle.rb_listen.specs.{Lessons.frame_after, Listeners.IsAhead, Listening.{decision_of, first_search, is_deciding, later, learning}, Passes.{pass_of, reach_of}, declared.search.Search.Search}
+use Rattle.rb_listen.specs.{Lessons.frame_after, Listeners.IsAhead, Listening.{first_search, is_deciding}, Passes.{pass_of, reach_of}, declared.search.Search.Search}
 use Rattle.rb_listen.proofs.{Searches.{Stays, arrive-stays, first-stays}, Soon.none-soon}
 use Rattle.rb_laws_listener_learns.specs.Ears.{Ear, HearsTheRun, IsEar}
 use Rattle.rb_laws_listener_learns.proofs.{Deciding.IsHeardCall, Fresh.well-known, LastCalls.{IsLastCall, no-later}, Latest.{not-yet, whole-earlier}, Learning.{IsFixed, IsFresh, kept-fresh}, NewestCalls.{HasCome, all-called}, Walks.IsKept}

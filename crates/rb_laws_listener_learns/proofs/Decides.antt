@@ -1,5 +1,5 @@
 -- The decision of a listener is one by a frame of the bus, whose calls it heard.
-use Rattle.std.proofs.Common.{◌≡◌, ℕ, ◌+◌, ◌-◌, ◌*◌, ◌%◌, ◌<◌, ◌≤◌, true, Some, List, refl, sym, ◌∙◌, ap, subst, arith}
+use Rattle.std.proofs.Common.{◌≡◌, ℕ, ◌+◌, ◌-◌, ◌*◌, ◌<◌, ◌≤◌, true, Some, List, refl, ◌∙◌, ap, subst, arith}
 use Rattle.rb_base.specs.Sizes.{sync_slot_of}
 use Rattle.rb_base.proofs.Plain.{and_second}
 use Rattle.rb_rules.specs.{Core.is_tick, Goodness.Scenario, Lawful.IsLawful, Moments.IsRunning, Ports.HandIn, Rounds.{moment, windows_in}}

@@ -1,6 +1,6 @@
 -- A search that learns the frame after one of the bus keeps to it from the last call of the one
 -- frame on, as long as a pass after the last call of the other lasts.
-use Rattle.std.proofs.{Common.{◌≡◌, ◌⊎◌, ℕ, suc, ◌+◌, ◌%◌, ◌<◌, ◌≤◌, ◌==◌, ◌&&◌, Bool, true, false, Option, Some, None, List, get_or, slice_get, inl, inr, refl, sym, ◌∙◌, ap, subst, arith}, lemmas.Bool.{and_from, cases_lt, eq-eqb}, lemmas.Option.same_Some}
+use Rattle.std.proofs.{Common.{◌≡◌, ◌⊎◌, ℕ, suc, ◌+◌, ◌%◌, ◌<◌, ◌≤◌, ◌==◌, true, false, Option, Some, None, List, slice_get, inl, inr, sym, ◌∙◌, ap, arith}, lemmas.Bool.{and_from, cases_lt, eq-eqb}, lemmas.Option.same_Some}
 use Rattle.rb_rules.specs.{declared.message.Message.Message, Goodness.Scenario, Hearing.Coming, Lawful.IsLawful, Ports.HandIn, Rounds.moment, Spelling.message_in}
 use Rattle.rb_listen.specs.{Lessons.frame_after, Listening.{if_pass, recorded, searching}, Passes.{is_call, pass_of, reach_of}, declared.passes.Call.Call, declared.search.Search.Search}
 use Rattle.rb_listen.proofs.Searches.{Stays}
