@@ -39,3 +39,7 @@ pub mod Allowed
 pub mod Throughout
 pub mod LastCalls
 pub mod NewestCalls
+pub mod Onward
+pub mod Checks
+pub mod OnTrack
+pub mod Decides

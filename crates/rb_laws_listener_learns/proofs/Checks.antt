@@ -1,0 +1,88 @@
+-- What holds of a search `reach_of` ticks after the last call of good RMUs in a frame: it decides
+-- by what it learned of the frame, or learns the frame after.
+use Rattle.std.proofs.{Common.{◌≡◌, ◌⊎◌, ℕ, suc, ◌+◌, ◌%◌, ◌<◌, ◌≤◌, ◌&&◌, Bool, true, false, Option, Some, None, is_some, List, slice_get, inl, inr, refl, sym, ◌∙◌, ap, subst, arith}, lemmas.Bool.{and_from, eq-eqb}, lemmas.Bool.Decides.nat_tests}
+use Rattle.rb_rules.specs.{Core.is_tick, Goodness.Scenario, Lawful.IsLawful, Ports.HandIn}
+use Rattle.rb_listen.specs.{Lessons.frame_after, Listeners.IsAhead, Listening.{first_search, is_deciding}, Passes.{pass_of, reach_of}, declared.search.Search.Search}
+use Rattle.rb_listen.proofs.{Searches.{Stays, arrive-stays, first-stays}, Soon.none-soon}
+use Rattle.rb_laws_listener_learns.specs.Ears.{Ear, HearsTheRun, IsEar}
+use Rattle.rb_laws_listener_learns.proofs.{Deciding.IsHeardCall, Fresh.well-known, LastCalls.{IsLastCall, no-later}, Latest.{not-yet, whole-earlier}, Learning.{IsFixed, IsFresh, kept-fresh}, NewestCalls.{HasCome, all-called}, Walks.IsKept}
+
+abbrev pub StaysAt : ℕ → ℕ → Search → Type 0
+StaysAt k n s = Stays k s
+
+-- a tick at which the search does not decide comes before that of the decision
+still-ahead : (k : ℕ) (learns : Bool) (d : Option ℕ) → (learns && is_tick d k) ≡ false → IsAhead k (elim learns as (λ _. Option ℕ) [ true ↦ d | false ↦ None ])
+    → IsAhead (suc k) (elim learns as (λ _. Option ℕ) [ true ↦ d | false ↦ None ])
+still-ahead k false d e h = tt
+still-ahead k true None e h = tt
+still-ahead k true (Some tick) e h = grind (arith, nat_tests)
+
+pub kept-stays : (sc : Scenario) (ear : Ear) → IsEar sc ear → IsKept sc ear StaysAt
+kept-stays sc ear is = record {
+  first = first-stays first_search refl;
+  heard = λ k n c in_time there s h. arrive-stays k sc.sizes sc.plan c.from c.bytes s h;
+  decided = λ k n s in_time whole h deciding. record { had = omega (arith, h.had); most = omega (arith, in_time, is.ticks); soon = none-soon; ahead = tt };
+  later = λ k n s in_time whole h on. record {
+    had = omega (arith, h.had);
+    most = omega (arith, in_time, is.ticks);
+    soon = h.soon;
+    ahead = still-ahead k s.learns s.lesson.decides (ap (λ t. s.learns && is_tick s.lesson.decides t) (sym h.had) ∙ on) h.ahead;
+  };
+  lasts = λ k n s in_time h. not-yet sc ear is k s.had in_time h.had;
+}
+
+-- what holds at each tick of a search
+pub record IsChecked (sc : Scenario) (hands : List HandIn) (ear : Ear) (k n : ℕ) (s : Search) : Type 0 where
+  pub fresh : IsFresh sc hands ear k n s
+  pub stays : Stays k s
+
+pub kept-checked : (sc : Scenario) (hands : List HandIn) → IsLawful sc → (ear : Ear) → IsEar sc ear → HearsTheRun sc hands ear → IsKept sc ear (IsChecked sc hands ear)
+kept-checked sc hands law ear is run = record {
+  first = record { fresh = fresh.first; stays = stays.first };
+  heard = λ k n c in_time there s h. record { fresh = fresh.heard k n c in_time there s h.fresh; stays = stays.heard k n c in_time there s h.stays };
+  decided = λ k n s in_time whole h deciding.
+      record { fresh = fresh.decided k n s in_time whole h.fresh deciding; stays = stays.decided k n s in_time whole h.stays deciding };
+  later = λ k n s in_time whole h on. record { fresh = fresh.later k n s in_time whole h.fresh on; stays = stays.later k n s in_time whole h.stays on };
+  lasts = λ k n s in_time h. fresh.lasts k n s in_time h.fresh;
+}
+  where
+    fresh : IsKept sc ear (IsFresh sc hands ear)
+    fresh = kept-fresh sc hands law ear is run
+
+    stays : IsKept sc ear StaysAt
+    stays = kept-stays sc ear is
+
+ahead-by : (k tick : ℕ) (learns : Bool) (d : Option ℕ) → learns ≡ true → d ≡ Some tick → IsAhead k (elim learns as (λ _. Option ℕ) [ true ↦ d | false ↦ None ]) → k ≤ tick
+ahead-by k tick true d l e h = subst (IsAhead k) e h
+ahead-by k tick false d l e h = let both : false ≡ true = l in absurd (cc)
+
+pub decides-or-next : (sc : Scenario) (hands : List HandIn) → IsLawful sc → (ear : Ear) → IsEar sc ear → HearsTheRun sc hands ear → (frame last : ℕ) → IsLastCall sc hands ear frame last
+    → (k n : ℕ) (s : Search) → k ≡ last + reach_of sc.plan → k < ear.ticks → slice_get (ear.heard k) n ≡ None → IsFresh sc hands ear k n s → Stays k s
+    → ((is_deciding s ≡ true) × (s.lesson.frame ≡ frame % 65536)) ⊎ ((s.learns ≡ true) × (s.lesson.frame ≡ frame_after (frame % 65536)))
+decides-or-next sc hands law ear is run frame last l k n s at in_time whole h stays = by known.1
+  where
+    come : HasCome ear last k n
+    come = λ t i c le there. whole-earlier ear t i k n c there whole (omega (arith, le, at))
+
+    made : pass_of sc.sizes sc.plan s.newest ≡ Some (frame % 65536)
+    made =
+        all-called sc hands law ear is run frame last l (omega (arith, at, in_time)) k n s.newest (well-known sc hands ear k n s h.well) h.latest.latest come (omega (arith, at))
+
+    known : (s.learns ≡ true) × (((s.lesson.frame ≡ frame % 65536) × (is_some s.lesson.decides ≡ true)) ⊎ (s.lesson.frame ≡ frame_after (frame % 65536)))
+    known = h.learns.pass (frame % 65536) made
+
+    decides : s.lesson.frame ≡ frame % 65536 → (d : Option ℕ) → s.lesson.decides ≡ d → is_some d ≡ true → is_deciding s ≡ true
+    decides frame_is None e some = let both : false ≡ true = some in absurd (cc)
+    decides frame_is (Some tick) e some =
+        let fixed : IsFixed sc hands ear s.lesson.frame tick = (h.learns.lesson known.0).fixed tick e in
+        let early : fixed.call.at ≤ last =
+        no-later sc hands law ear frame last l fixed.call.call.j fixed.call.at fixed.call.call.good
+        (subst (λ f. IsHeardCall sc hands ear fixed.call.call.j f fixed.call.at) frame_is fixed.call.call.call) in
+        let ahead : k ≤ tick = ahead-by k tick s.learns s.lesson.decides known.0 e stays.ahead in
+        let same : tick ≡ s.had = omega (arith, fixed.tick_is, fixed.call.late, early, ahead, at, h.well.had) in
+        and_from s.learns (is_tick s.lesson.decides s.had) known.0 (ap (λ d. is_tick d s.had) e ∙ eq-eqb tick s.had same)
+
+    by : ((s.lesson.frame ≡ frame % 65536) × (is_some s.lesson.decides ≡ true)) ⊎ (s.lesson.frame ≡ frame_after (frame % 65536))
+        → ((is_deciding s ≡ true) × (s.lesson.frame ≡ frame % 65536)) ⊎ ((s.learns ≡ true) × (s.lesson.frame ≡ frame_after (frame % 65536)))
+    by (inl both) = inl (decides both.0 s.lesson.decides refl both.1, both.0)
+    by (inr next) = inr (known.0, next)
