@@ -23,8 +23,7 @@ pub decision-of : (sc : Scenario) (hands : List HandIn) → IsLawful sc → (ear
 decision-of sc hands law ear k n s h at deciding in_time =
     let at_k : s.lesson.decides ≡ Some k =
     ticked s.lesson.decides s.had (and_second s.learns (is_tick s.lesson.decides s.had) deciding) ∙ ap (λ t. Some t) h.well.had in
-    let a : IsAfterCall sc hands ear s.lesson.frame k = h.well.decides k at_k in
-    (
+    let a : IsAfterCall sc hands ear s.lesson.frame k = h.well.decides k at_k in (
       (moment sc hands a.call.n).frame,
       (
         record { in_time = in_time; searching = at; deciding = deciding; called = has-calls sc hands law ear a.j s.lesson.frame a.at a.call; lesson = a.call.number_is },

@@ -43,3 +43,4 @@ pub mod Onward
 pub mod Checks
 pub mod OnTrack
 pub mod Decides
+pub mod DecidesSoon

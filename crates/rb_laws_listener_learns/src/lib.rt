@@ -7,7 +7,7 @@ ghost use Rattle.rb_rules.specs.Lawful.{IsLawful};
 ghost use Rattle.rb_laws_listener_learns.specs.Beside.{decided, ear, two_frames};
 ghost use Rattle.rb_laws_listener_learns.specs.Deciding.{CallsComeAfter, CallsComeBy, DecidesBy};
 ghost use Rattle.rb_laws_listener_learns.specs.Ears.{HearsTheRun, IsEar};
-ghost use Rattle.rb_laws_listener_learns.specs.Laws.{AlwaysGoodIsGoodInEachSlot, DecisionsComeAfterTheCalls, DecisionsComeInTime, EarsAreFedEvents, FaultyRmusMaySpeakByAnyClock, FramesComeApart, GoodCallsComeTogether, GoodRmusAreHeardToCall, ListenersLearn, ListenersTrustAsTheBus, ListenersTrustTheTrusted, ListenersWait, RecordsOfTheGoodAreTrue, RecordsOfTheGoodAreWhole, TheFrameSoughtIsReal};
+ghost use Rattle.rb_laws_listener_learns.specs.Laws.{AlwaysGoodIsGoodInEachSlot, DecisionsComeAfterTheCalls, DecisionsComeInTime, EarsAreFedEvents, FaultyRmusMaySpeakByAnyClock, FramesComeApart, GoodCallsComeTogether, GoodRmusAreHeardToCall, ListenersDecide, ListenersLearn, ListenersTrustAsTheBus, ListenersTrustTheTrusted, ListenersWait, RecordsOfTheGoodAreTrue, RecordsOfTheGoodAreWhole, TheFrameSoughtIsReal};
 ghost use Rattle.rb_laws_listener_learns.specs.Receivers.{IsCalm};
 
 /// An instance of what the laws ask, computed: a listener beside a run of two frames starts before
@@ -79,6 +79,13 @@ pub fn frames_come_apart()
 /// learns come before it.
 pub fn decisions_come_after_the_calls()
     ensures { DecisionsComeAfterTheCalls }
+{}
+
+/// A listener that starts before the calls of the RMUs in a frame, beside a run that comes to those
+/// of the next frame, decides by that next frame or an earlier one, at most the reach of a pass
+/// after the last of these calls, if its ticks last so long.
+pub fn listeners_decide()
+    ensures { ListenersDecide }
 {}
 
 /// If a listener decides, all is recorded that an RMU, good in the learned frame up to its sync
