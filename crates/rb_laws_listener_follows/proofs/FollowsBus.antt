@@ -3,12 +3,12 @@ use Rattle.std.proofs.{Common.{◌≡◌, ℕ, zero, suc, ◌+◌, ◌-◌, ◌*
 use Rattle.rb_base.specs.Sizes.{sync_slot_of}
 use Rattle.rb_rules.specs.{declared.plan.Window.Window, declared.sense.Sense.Sense, Clock.time_of, Goodness.{Scenario, clock_of}, Lawful.IsLawful, Moments.{IsComplete, IsGoodBefore, IsRunning}, Ports.HandIn, Rounds.{moment, windows_in}, StandsFor.StandsFor, Windows.{exact_window, windows_of_frame}}
 use Rattle.rb_laws_agreement.proofs.{FrameBegins.frame_turns, Invariant.IsGoodNode, Places.{IsPlaced, good_before_slot, placed, running_earlier}}
-use Rattle.rb_listen.specs.{Lessons.first_of, declared.lesson.First.First, declared.search.Search.Search}
+use Rattle.rb_listen.specs.{Lessons.first_of, Passes.reach_of, declared.lesson.First.First, declared.search.Search.Search}
 use Rattle.rb_laws_listener_near.specs.Laws.{LieWithin}
 use Rattle.rb_laws_listener_near.proofs.FramesNear.{within}
-use Rattle.rb_laws_listener_learns.specs.{Deciding.DecidesBy, Ears.{Ear, HearsTheRun, IsEar}, Learned.HasLearned, Receivers.{HoldsTo, IsCalm}}
-use Rattle.rb_laws_listener_learns.proofs.{FrameStages.first_of_frame, Learns.learns, Waits.waits-for}
-use Rattle.rb_laws_listener_follows.specs.{Following.{ClosesAt, FollowsFrame, IsReachedWell, ListenersFollowTheBus, TellsFrame, TellsLater}, InTime.moment_before}
+use Rattle.rb_laws_listener_learns.specs.{Deciding.{DecidesBy, HasDecided}, Ears.{Ear, HearsTheRun, IsEar}, Learned.HasLearned, Receivers.{HoldsTo, IsCalm}}
+use Rattle.rb_laws_listener_learns.proofs.{DecidesSoon.listeners-decide, FrameStages.first_of_frame, Learns.learns, Waits.waits-for}
+use Rattle.rb_laws_listener_follows.specs.{Following.{ClosesAt, DecidedListenersFollow, FollowsFrame, IsReachedWell, ListenersFollowTheBus, TellsFrame, TellsLater}, InTime.moment_before}
 use Rattle.rb_laws_listener_follows.proofs.{ClosesBegun.closes_begun, ClosesFrame.{closes_from, exact_is}, DeliversOnce.{delivers_later, delivers_once}, EpochsRise.{WaitsFirst, first_once, first_told, none_earlier}, FirstBegins.{FirstBegins, first_begins, first_state}, FirstStands.{FirstStands, first_stands}, FollowedFrames.{IsBegun, IsFollowed, begun_at}, OtherTicks.closes_only, Tellings.tells_frame}
 
 -- What it has learned, and its first frame.
@@ -174,7 +174,7 @@ follows_later sc hands stands ear learned tick s l d reached = (
     zero_is : first_of_frame sc (suc (suc d + learned)) ≡ 0 + first_of_frame sc (suc (suc d + learned))
     zero_is = omega arith
 
-pub follows_bus : ListenersFollowTheBus
+pub follows_bus : DecidedListenersFollow
 follows_bus sc hands law stands ear is run learned tick s decides calm frame later reached =
     let f = learns sc hands law ear is run learned tick s decides calm in
     let l : Learns sc hands ear learned tick s = record {
@@ -204,3 +204,27 @@ follows_bus sc hands law stands ear is run learned tick s decides calm frame lat
           let e : suc learned ≡ frame = omega (arith, le, later) in
           subst (λ g. (begin : ℕ) × FollowsFrame sc hands stands.bus ear learned s.lesson.records g begin) e (l.first.epoch, follows_first sc hands stands ear learned tick s l)
     ]
+
+-- From what it hears.
+
+-- the learned frame ends before each later one begins
+calm_before : (sc : Scenario) (hands : List HandIn) (ear : Ear) (learned later : ℕ) (records : List Sense) → learned < later → IsReachedWell sc hands ear learned records later
+    → IsCalm sc hands ear learned records learned (sync_slot_of sc.sizes)
+calm_before sc hands ear learned zero records less reached = absurd (omega (arith, less))
+calm_before sc hands ear learned (suc later) records less reached =
+    let le : learned * (windows_in sc.sizes + 1) ≤ later * (windows_in sc.sizes + 1) = mul-le-mul_right (windows_in sc.sizes + 1) (omega (arith, less)) in
+    let row : suc later * (windows_in sc.sizes + 1) ≡ later * (windows_in sc.sizes + 1) + (windows_in sc.sizes + 1) = omega arith in
+    record {
+      complete =
+          running_earlier sc hands (learned * (windows_in sc.sizes + 1) + 3 * sync_slot_of sc.sizes + 4 - 1) (later * (windows_in sc.sizes + 1) + 3 * sync_slot_of sc.sizes + 4 - 1)
+          (omega (arith, le)) reached.reached;
+      holds = λ i below. reached.holds i (omega (arith, below, le, row));
+    }
+
+pub listeners_follow : ListenersFollowTheBus
+listeners_follow sc hands law stands ear is run frame after called last by in_time =
+    let d : HasDecided sc hands ear (frame + 1) (last + reach_of sc.plan) = listeners-decide sc hands law ear is run frame after called last by in_time in (
+      d,
+      λ later less reached.
+          follows_bus sc hands law stands ear is run d.learned d.tick d.search d.decides (calm_before sc hands ear d.learned later d.search.lesson.records less reached) later less reached,
+    )

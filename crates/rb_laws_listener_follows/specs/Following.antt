@@ -2,9 +2,9 @@
 use Rattle.std.specs.Prelude.{ℕ, ◌≡◌, ◌+◌, ◌-◌, ◌*◌, ◌<◌, ◌≤◌, ◌==◌, if◌then◌else◌, Option, Some, None, List, slice_get}
 use Rattle.rb_base.specs.{Nodes.Side, Nodes.Side.{Biu, Rmu}, Sizes.{Sizes, sync_slot_of}, declared.values.Delivery.Delivery, declared.values.Heard.Heard}
 use Rattle.rb_rules.specs.{declared.closing.Closed.Closed, declared.record.Epoch.Epoch, declared.plan.Plan.Plan, declared.plan.Window.Window, declared.role.Role.Role, declared.role.Role.TheVariants.Data, declared.sense.Sense.Sense, AbstractBus.{AbstractBus, sender_on}, Clock.time_of, Core.{Core, state_at}, Goodness.Scenario, Lawful.IsLawful, Moments.{IsGoodBefore, IsReached, time_in_frame}, NodeState.NodeState, NodeSteps.convicted_of, Ports.HandIn, Rounds.windows_in, Slots.{Sender, role_of}, Slots.Sender.Node, StandsFor.{HoldsOwners, HoldsTrusted, StandsFor, steps_to, value_on}, Windows.windows_of_frame}
-use Rattle.rb_listen.specs.{Following.follow, declared.search.Search.Search}
+use Rattle.rb_listen.specs.{Following.follow, Passes.reach_of, declared.search.Search.Search}
 use Rattle.rb_laws_listener_near.specs.Laws.{LieWithin}
-use Rattle.rb_laws_listener_learns.specs.{Deciding.DecidesBy, Ears.{Ear, HearsTheRun, IsEar, listening_at, told_at}, Receivers.{HoldsTo, IsCalm}}
+use Rattle.rb_laws_listener_learns.specs.{Deciding.{CallsComeAfter, CallsComeBy, DecidesBy, HasDecided}, Ears.{Ear, HearsTheRun, IsEar, listening_at, told_at}, Receivers.{HoldsTo, IsCalm}, Seeking.HasCalls}
 use Rattle.rb_listen.specs.Listening as now
 
 -- the frame begins before the first breach of the premise with the listener
@@ -85,10 +85,23 @@ pub record FollowsFrame (sc : Scenario) (hands : List HandIn) (bus : ℕ → Abs
 -- Whatever the listener hears from RMUs that are not good: if it decides by a frame that comes to
 -- its end before the first breach of the premise with the listener, it follows the bus in each
 -- later frame that starts before that breach
-abbrev pub ListenersFollowTheBus : Type 0
-ListenersFollowTheBus =
+abbrev pub DecidedListenersFollow : Type 0
+DecidedListenersFollow =
     (sc : Scenario) (hands : List HandIn) → IsLawful sc → (stands : StandsFor sc hands) (ear : Ear) → IsEar sc ear → HearsTheRun sc hands ear
     → (learned tick : ℕ) (s : Search) → DecidesBy sc hands ear learned tick s
     → IsCalm sc hands ear learned s.lesson.records learned (sync_slot_of sc.sizes)
     → (frame : ℕ) → learned < frame → IsReachedWell sc hands ear learned s.lesson.records frame
     → (begin : ℕ) × FollowsFrame sc hands stands.bus ear learned s.lesson.records frame begin
+
+-- A listener that starts before the calls of a frame decides soon after those of the next one, if
+-- the run comes to them and the listener's ticks last. Whatever it hears from RMUs that are not
+-- good, it follows the bus in each frame after the learned one that starts before the first breach
+-- of the premise with the listener
+abbrev pub ListenersFollowTheBus : Type 0
+ListenersFollowTheBus =
+    (sc : Scenario) (hands : List HandIn) → IsLawful sc → (stands : StandsFor sc hands) (ear : Ear) → IsEar sc ear → HearsTheRun sc hands ear
+    → (frame : ℕ) → CallsComeAfter sc hands ear frame 0 → HasCalls sc hands (frame + 1)
+    → (last : ℕ) → CallsComeBy sc hands ear (frame + 1) last → last + reach_of sc.plan < ear.ticks
+    → (d : HasDecided sc hands ear (frame + 1) (last + reach_of sc.plan))
+    × ((later : ℕ) → d.learned < later → IsReachedWell sc hands ear d.learned d.search.lesson.records later
+    → (begin : ℕ) × FollowsFrame sc hands stands.bus ear d.learned d.search.lesson.records later begin)

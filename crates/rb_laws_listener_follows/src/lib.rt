@@ -2,7 +2,7 @@
 //! contract of a function that does nothing.
 #![tactic(auto)]
 
-ghost use Rattle.rb_laws_listener_follows.specs.Following.{ListenersFollowTheBus};
+ghost use Rattle.rb_laws_listener_follows.specs.Following.{DecidedListenersFollow, ListenersFollowTheBus};
 ghost use Rattle.rb_laws_listener_follows.specs.Laws.{FirstFramesBeginNear, RmusAreHeardInTime};
 ghost use Rattle.std.specs.Prelude.{[]};
 ghost use Rattle.rb_laws_listener_learns.specs.Beside.{decided, ear, two_frames};
@@ -36,6 +36,15 @@ pub fn first_frames_begin_near()
 /// it closes its windows, with their last ticks and with no others, with the schedule and the
 /// trusted nodes of the bus, and delivers what the bus does. Of the learned frame and earlier ones
 /// it tells nothing.
+pub fn decided_listeners_follow()
+    ensures { DecidedListenersFollow }
+{}
+
+/// A listener that starts before the calls of the RMUs in a frame, beside a run that comes to those
+/// of the next frame, decides by that next frame or an earlier one, at most the reach of a pass
+/// after the last of these calls, if its ticks last so long. In each frame after the learned one
+/// that starts before the first breach of the premise with the listener, it follows the bus, as
+/// `decided_listeners_follow` says.
 pub fn listeners_follow_the_bus()
     ensures { ListenersFollowTheBus }
 {}
