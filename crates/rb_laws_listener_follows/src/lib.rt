@@ -2,7 +2,8 @@
 //! contract of a function that does nothing.
 #![tactic(auto)]
 
-ghost use Rattle.rb_laws_listener_follows.specs.Following.{DecidedListenersFollow, ListenersFollowTheBus};
+ghost use Rattle.rb_laws_listener_follows.specs.Following.{DecidedListenersFollow};
+ghost use Rattle.rb_laws_listener_follows.specs.Following.{ListenersFollowTheBus};
 ghost use Rattle.rb_laws_listener_follows.specs.Laws.{FirstFramesBeginNear, RmusAreHeardInTime};
 ghost use Rattle.std.specs.Prelude.{[]};
 ghost use Rattle.rb_laws_listener_learns.specs.Beside.{decided, ear, two_frames};

@@ -12,7 +12,8 @@ word_of_its_own i span = record {
   bytes = spelling_of One (message_at span.place tag.Word (1000 * span.place.slot + 10 * span.place.stage + i));
 }
 
--- in stage 2 of slot 0 BIU 0 is told its word 1,025 times, and everybody else hears one
+-- in stage 2 of slot 0 BIU 0 is told its word 1,025 times. In every other window, and at every
+-- other BIU, the word comes once
 abbrev pub flood : Behavior
 flood me i span j =
     if (i == 0) && (span.place.slot == 0) && (span.place.stage == 2) then replicate 1025 (word_of_its_own i span)
