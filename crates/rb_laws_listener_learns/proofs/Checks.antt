@@ -5,7 +5,7 @@ use Rattle.rb_rules.specs.{Core.is_tick, Goodness.Scenario, Lawful.IsLawful, Por
 use Rattle.rb_listen.specs.{Lessons.frame_after, Listeners.IsAhead, Listening.{first_search, is_deciding}, Passes.{pass_of, reach_of}, declared.search.Search.Search}
 use Rattle.rb_listen.proofs.{Searches.{Stays, arrive-stays, first-stays}, Soon.none-soon}
 use Rattle.rb_laws_listener_learns.specs.Ears.{Ear, HearsTheRun, IsEar}
-use Rattle.rb_laws_listener_learns.proofs.{Deciding.IsHeardCall, Fresh.well-known, LastCalls.{IsLastCall, no-later}, Latest.{not-yet, whole-earlier}, Learning.{IsFixed, IsFresh, kept-fresh}, NewestCalls.{HasCome, all-called}, Walks.IsKept}
+use Rattle.rb_laws_listener_learns.proofs.{Deciding.IsHeardCall, Fresh.well-known, LastCalls.{IsLastCall, no-later}, Latest.{not-yet, whole-earlier}, Learning.{IsFixed, IsFresh}, NewestCalls.{HasCome, all-called}, Walks.IsKept}
 
 abbrev pub StaysAt : ℕ → ℕ → Search → Type 0
 StaysAt k n s = Stays k s
@@ -31,31 +31,11 @@ kept-stays sc ear is = record {
   lasts = λ k n s in_time h. not-yet sc ear is k s.had in_time h.had;
 }
 
--- what holds at each tick of a search
-pub record IsChecked (sc : Scenario) (hands : List HandIn) (ear : Ear) (k n : ℕ) (s : Search) : Type 0 where
-  pub fresh : IsFresh sc hands ear k n s
-  pub stays : Stays k s
-
-pub kept-checked : (sc : Scenario) (hands : List HandIn) → IsLawful sc → (ear : Ear) → IsEar sc ear → HearsTheRun sc hands ear → IsKept sc ear (IsChecked sc hands ear)
-kept-checked sc hands law ear is run = record {
-  first = record { fresh = fresh.first; stays = stays.first };
-  heard = λ k n c in_time there s h. record { fresh = fresh.heard k n c in_time there s h.fresh; stays = stays.heard k n c in_time there s h.stays };
-  decided = λ k n s in_time whole h deciding.
-      record { fresh = fresh.decided k n s in_time whole h.fresh deciding; stays = stays.decided k n s in_time whole h.stays deciding };
-  later = λ k n s in_time whole h on. record { fresh = fresh.later k n s in_time whole h.fresh on; stays = stays.later k n s in_time whole h.stays on };
-  lasts = λ k n s in_time h. fresh.lasts k n s in_time h.fresh;
-}
-  where
-    fresh : IsKept sc ear (IsFresh sc hands ear)
-    fresh = kept-fresh sc hands law ear is run
-
-    stays : IsKept sc ear StaysAt
-    stays = kept-stays sc ear is
-
 ahead-by : (k tick : ℕ) (learns : Bool) (d : Option ℕ) → learns ≡ true → d ≡ Some tick → IsAhead k (elim learns as (λ _. Option ℕ) [ true ↦ d | false ↦ None ]) → k ≤ tick
 ahead-by k tick true d l e h = subst (IsAhead k) e h
 ahead-by k tick false d l e h = let both : false ≡ true = l in absurd (cc)
 
+-- at this tick the search decides by the frame, or it learns the frame after
 pub decides-or-next : (sc : Scenario) (hands : List HandIn) → IsLawful sc → (ear : Ear) → IsEar sc ear → HearsTheRun sc hands ear → (frame last : ℕ) → IsLastCall sc hands ear frame last
     → (k n : ℕ) (s : Search) → k ≡ last + reach_of sc.plan → k < ear.ticks → slice_get (ear.heard k) n ≡ None → IsFresh sc hands ear k n s → Stays k s
     → ((is_deciding s ≡ true) × (s.lesson.frame ≡ frame % 65536)) ⊎ ((s.learns ≡ true) × (s.lesson.frame ≡ frame_after (frame % 65536)))

@@ -4,7 +4,6 @@ use Rattle.std.proofs.Common.{◌≡◌, ◌⊎◌, ℕ, zero, suc, ◌+◌, ◌
 use Rattle.rb_rules.specs.{Goodness.Scenario, Hearing.Coming}
 use Rattle.rb_listen.specs.{Lessons.first_of, Listening.{Heeding, Listening, decided, first_search, hear, heed, is_deciding, is_over, later, search_on, searching, untold}, declared.search.Search.Search}
 use Rattle.rb_laws_listener_learns.specs.Ears.{Ear, hears, listening_at}
-use Rattle.rb_laws_listener_learns.proofs.Walks.{IsKept}
 use Rattle.rb_listen.specs.Listening as now
 
 -- `P` is kept by each message, and by each tick at which the search does not decide
@@ -13,9 +12,6 @@ pub record IsKeptOn (sc : Scenario) (ear : Ear) (P : ℕ → ℕ → Search → 
       → P k (suc n) (searching sc.sizes sc.plan c.from c.bytes s)
   pub later : (k n : ℕ) (s : Search) → k < ear.ticks → slice_get (ear.heard k) n ≡ None → P k n s → is_deciding s ≡ false → P (suc k) 0 (later s)
   pub lasts : (k n : ℕ) (s : Search) → k < ear.ticks → P k n s → is_over s.had ≡ false
-
-pub kept-on : (sc : Scenario) (ear : Ear) (P : ℕ → ℕ → Search → Type 0) → IsKept sc ear P → IsKeptOn sc ear P
-kept-on sc ear P kept = record { heard = kept.heard; later = kept.later; lasts = kept.lasts }
 
 -- this listener searches, all messages of stamp `k` were heard, and `P` holds
 pub record SearchesBy (ear : Ear) (P : ℕ → ℕ → Search → Type 0) (k : ℕ) (l : Listening) : Type 0 where
