@@ -2,12 +2,11 @@
 //! contract of a function that does nothing.
 #![tactic(auto)]
 
-ghost use Rattle.rb_laws_listener_follows.specs.Following.{DecidedListenersFollow};
 ghost use Rattle.rb_laws_listener_follows.specs.Following.{ListenersFollowTheBus};
 ghost use Rattle.rb_laws_listener_follows.specs.Laws.{FirstFramesBeginNear, RmusAreHeardInTime};
 ghost use Rattle.std.specs.Prelude.{[]};
 ghost use Rattle.rb_laws_listener_learns.specs.Beside.{decided, ear, two_frames};
-ghost use Rattle.rb_laws_listener_follows.specs.Following.{IsReachedWell};
+ghost use Rattle.rb_laws_listener_follows.specs.Following.{DecidedListenersFollow, IsReachedWell};
 
 /// An instance, computed: the frame after the one that the listener of `a_listener_beside_a_run` in
 /// `rb_laws_listener_learns` learns begins before the first breach of the premise with the

@@ -13,7 +13,7 @@ pub record IsKeptOn (sc : Scenario) (ear : Ear) (P : ℕ → ℕ → Search → 
   pub later : (k n : ℕ) (s : Search) → k < ear.ticks → slice_get (ear.heard k) n ≡ None → P k n s → is_deciding s ≡ false → P (suc k) 0 (later s)
   pub lasts : (k n : ℕ) (s : Search) → k < ear.ticks → P k n s → is_over s.had ≡ false
 
--- the listener searches, all messages of stamp `k` were heard, and `P` holds
+-- the listener searches and has heard all messages of stamp `k`, and `P` holds of its search
 pub record SearchesBy (ear : Ear) (P : ℕ → ℕ → Search → Type 0) (k : ℕ) (l : Listening) : Type 0 where
   pub s : Search
   pub is : l ≡ now.Searching s
