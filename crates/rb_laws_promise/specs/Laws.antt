@@ -7,6 +7,6 @@ abbrev pub RoundsStandForTheBus : Type 0
 RoundsStandForTheBus = (sc : Scenario) (hands : List HandIn) → IsLawful sc → StandsFor sc hands
 
 -- every lawful scenario keeps the promise, with any hand-ins. What its faulty nodes do is a field
--- of the scenario, `behavior`: any function, since nothing that is lawful speaks of it
+-- of the scenario, `behavior`: any function, since `IsLawful` asks nothing of it
 abbrev pub ThePromiseIsKept : Type 0
 ThePromiseIsKept = (sc : Scenario) (hands : List HandIn) → IsLawful sc → Headline sc hands

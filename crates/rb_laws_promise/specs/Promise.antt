@@ -15,11 +15,11 @@ pub record KeepsThePromise (sc : Scenario) (hands : List HandIn) : Type 0 where
   pub nodes : RunningNodesKeepThePromise sc  -- in every world of its events, the nodes that run hold what the rounds hold
 
 -- every run of a lawful scenario keeps it, for any hand-ins. What its faulty nodes do is a field of
--- the scenario, `behavior`: any function, since nothing that is lawful speaks of it
+-- the scenario, `behavior`: any function, since `IsLawful` asks nothing of it
 abbrev pub RunsKeepThePromise : Type 0
 RunsKeepThePromise = (sc : Scenario) (hands : List HandIn) → IsLawful sc → KeepsThePromise sc hands
 
--- the scenario, if its faulty nodes do this
+-- the scenario with `b` as the behavior of its faulty nodes
 abbrev pub behaving : Scenario → Behavior → Scenario
 behaving sc b = record sc { behavior = b }
 

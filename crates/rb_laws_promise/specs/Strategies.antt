@@ -1,4 +1,4 @@
--- What faulty nodes do may answer to all that was before: strategies.
+-- Faulty nodes that answer to the run: strategies.
 use Rattle.std.specs.Prelude.{ℕ, zero, suc, ◌≡◌, List}
 use Rattle.rb_rules.specs.{Behavior.Behavior, Goodness.Scenario, Lawful.IsLawful, Ports.HandIn, Rounds.{Moment, first_moment, moment, step}}
 use Rattle.rb_laws_promise.specs.Promise.{KeepsThePromise, behaving}
@@ -16,8 +16,8 @@ moment_against sc plays hands (suc n) =
     let m : Moment = moment_against sc plays hands n in
     step (behaving sc (plays m)) hands m
 
--- Some behavior has, in every moment, the run that the strategy has, and the run with this behavior
--- keeps the promise. So the promise is kept against the strategy
+-- With some behavior, fixed beforehand, each moment is the same as against the strategy, and the
+-- run with this behavior keeps the promise. So the promise is kept against the strategy
 pub record GainsNothing (sc : Scenario) (hands : List HandIn) (plays : Strategy) : Type 0 where
   pub chosen : Behavior
   pub same : (n : ℕ) → moment (behaving sc chosen) hands n ≡ moment_against sc plays hands n

@@ -42,9 +42,9 @@ pub fn any_behavior_keeps_the_promise()
     ensures { AnyBehaviorKeepsThePromise }
 {}
 
-/// A strategy gains nothing: if faulty nodes choose what they do in each window by the states of
-/// all nodes before it, one behavior has in every moment the run that the strategy has, and this
-/// run keeps the whole promise.
+/// A strategy gains nothing: faulty nodes may choose what they do in each window by the moment
+/// before it, with the states of all nodes. With one behavior, fixed beforehand, each moment of the
+/// run is the same as against the strategy, and this run keeps the whole promise.
 pub fn strategies_gain_nothing()
     ensures { StrategiesGainNothing }
 {}

@@ -15,7 +15,8 @@ pub record Said : Type 0 where
   pub bytes : List ℕ
 
 -- What faulty nodes do in a run: for node i of a kind, a window of that node and a source of the
--- other kind, all that comes from the source to the node in the window. It may be any function
+-- other kind, a list of what comes from the source to the node. What of it is not in the window is
+-- not heard. It may be any function
 abbrev pub Behavior : Type 0
 Behavior = Side → ℕ → Span → ℕ → List Said
 

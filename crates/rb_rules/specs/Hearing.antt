@@ -64,13 +64,13 @@ coming_of sc me i j frame s = record {
   bytes = spelling_of sc.plan.version s.message;
 }
 
--- node i of kind me hears `s` from source j in a window: the source is a node of the bus, and the
--- bytes come in the window
+-- `s` comes from source j to node i of kind me in a window: the source is a node of the bus, the
+-- time is in the window, and the bytes are bytes
 abbrev pub is_heard : Scenario → Side → ℕ → Span → ℕ → Said → Bool
 is_heard sc me i span j s = nat_lt j (count_of (other me) sc.sizes) && is_within (clock_of sc me i) span s.time && are_bytes s.bytes
 
--- what source j, which is not good, says to node i of kind me in a window. Nothing else of its
--- behavior is heard
+-- what node i of kind me hears in a window from source j, which is not good: of its behavior, what
+-- comes in the window
 abbrev pub said_by : Scenario → Side → ℕ → Span → ℕ → List Coming
 said_by sc me i span j =
     map (λ s. record { time = s.time; from = j; bytes = s.bytes }) (filter (is_heard sc me i span j) (sc.behavior me i span j))

@@ -1,4 +1,4 @@
--- What is lawful: the premise of every law of the bus. It says nothing about what faulty nodes do.
+-- What is lawful: the premise of every law of the bus. It asks nothing of what faulty nodes do.
 use Rattle.std.specs.Prelude.{⊤, ℕ, ◌≡◌, ◌⊎◌, ◌+◌, ◌-◌, ◌^◌, ◌<◌, ◌≤◌, ◌==◌, nat_lt, if◌then◌else◌, Bool, true, false, All, List, [], ◌∷◌, length, Option, Some, None}
 use Rattle.rb_base.specs.{Nodes.{Side, other}, Nodes.Side.{Biu, Rmu}, Sizes.{IsShape, Sizes, sync_slot_of}, declared.node.NodeName.NodeName, declared.values.Place.Place}
 use Rattle.rb_rules.specs.{declared.link.Pattern.Pattern, declared.link.Pattern.TheVariants.{One, AllBiu, AllRmu}, declared.link.Rule.Rule, declared.message.Version.Version, declared.plan.Plan.Plan, declared.say.Content.Content, declared.say.Content.TheVariants.{Word, Fault, Sync, Raw}, declared.say.Say.Say, Clock.{IsClock, Timeline}, Goodness.{Scenario, is_good}, Links.covers, Plan.{IsFeasible, IsPlan, longest_of, shortest_of}}
