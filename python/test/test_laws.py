@@ -111,7 +111,7 @@ class Premises(unittest.TestCase):
         named = {it for names in cases(found) for it in names}
         self.assertIn("lawful_scenarios", named)
         self.assertIn("a_listener_beside_a_run", named)
-        self.assertFalse({"beyond_the_edge", "beyond_the_bus", "beyond_the_links"} & named)
+        self.assertFalse({"beyond_the_windows", "beyond_the_bus", "beyond_the_links"} & named)
 
     def test_a_condition_on_numbers_is_computed(self):
         premises, found = law("rb_laws_agreement", "Laws", "GoodNodesAgree")

@@ -7,7 +7,8 @@ use Rattle.rb_outside.specs.Bytes.{AppendsPart}
 use Rattle.rb_outside.proofs.Known.{appends_join, appends_none, part_join, part_widens}
 use Rattle.rb_report.specs.Report.{end_text}
 use Rattle.rb_world.specs.Nexts.{is_last}
-use Rattle.rb_bridge.specs.{Running.IsUnderWay, declared.side.Side.Side, declared.telling.Breach.Breach, Sides.{BeforeFrame, GivesAll, RunsOut, drive_of}, Crossing.{ArePlain, AreReady, AreThrough, BreaksOff, BridgeRun, Crosses, CrossesAll, CrossesPart, FindBoth, GiveAll, GiveSome, GoThrough, MayCross, WritesAll, WritesPart, run_after, run_of, shown, told_text}}
+use Rattle.rb_run.specs.Seen.{drive_of}
+use Rattle.rb_bridge.specs.{Running.IsUnderWay, declared.side.Side.Side, declared.telling.Breach.Breach, Sides.{BeforeFrame, GivesAll, RunsOut}, Crossing.{ArePlain, AreReady, AreThrough, BreaksOff, BridgeRun, Crosses, CrossesAll, CrossesPart, FindBoth, GiveAll, GiveSome, GoThrough, MayCross, WritesAll, WritesPart, run_after, run_of, shown, told_text}}
 use Rattle.rb_rules_bridge.specs.{declared.bank.Bank.Bank, declared.bank.Bank.TheVariants.{Left, Right}, declared.bank.Pair.Pair, Bridges.{Bridge, IsBridge, IsHead, biu_on, bus_on}, Texts.{Break, break_at, break_from, break_of, bridge_text, frame_text, text_from, text_with}}
 use Rattle.rb_bridge.proofs.{Opened.{all-are-some, gives-all}, Told.finds}
 use Rattle.rb_run.specs.declared.ending.Ending.TheVariants as ending

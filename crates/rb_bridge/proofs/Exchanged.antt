@@ -5,14 +5,14 @@ use Rattle.rb_base.specs.{Nodes.Side.Biu, declared.values.Heard.Heard}
 use Rattle.rb_rules.specs.{Book.Record, Book.Record.{Frame, Slot, Ended, Breach}, Goodness.{Scenario, is_good}, Rounds.records_of, WorldStep.{World, frame_in}}
 use Rattle.rb_world_book.specs.{Records.record_of, declared.turn.Turn.Turn}
 use Rattle.rb_group.specs.Portions.{port_deliveries}
-use Rattle.rb_run.specs.Turns.{records_in}
+use Rattle.rb_run.specs.{Turns.records_in, Seen.drive_of}
 use Rattle.rb_run.proofs.Texts.{records-more}
 use Rattle.rb_world.specs.{Nexts.is_last, Worlds.{KeptWorld, Stands}}
 use Rattle.rb_group_run.specs.{declared.ports.Ports.Ports, Holding.HoldsFrame, Replies.{frame_of, frame_or, reached}}
 use Rattle.rb_group_run.proofs.Held.{none_further, reached_more}
 use Rattle.rb_rules_bridge.specs.{declared.bank.Bank.Bank, declared.bank.Pair.Pair, Bridges.{Bridge, IsBridge, across, biu_on, bus_on, carried_slot}, Crossings.{hands_up_to, records_on, value_in, value_told}, Texts.{Break, break_told}}
 use Rattle.rb_laws_bridge.specs.Laws.{BeginsOrEnds, ends_run, frame_told}
-use Rattle.rb_bridge.specs.{Holding.HoldValues, declared.passing.Passage.Passage, declared.passing.Terms.Terms, Handing.with_words, Passing.{HoldsPassage, is_over}, Running.IsUnderWay, declared.side.Side.Side, Sides.{AfterFrame, BeforeFrame, IsInStep, TurnsOver, break_by, drive_of}}
+use Rattle.rb_bridge.specs.{Holding.HoldValues, declared.passing.Passage.Passage, declared.passing.Terms.Terms, Handing.with_words, Passing.{HoldsPassage, is_over}, Running.IsUnderWay, declared.side.Side.Side, Sides.{AfterFrame, BeforeFrame, IsInStep, TurnsOver, break_by}}
 use Rattle.rb_bridge.proofs.{FramesTold.passed-tells, Handed.handed_for, UnderWay.{handed-over, latest-more}, SidesHanded.{AreHanded, are-handed, begins-next, frames-on, handed-next}, SidesPassed.over-some}
 
 -- A frame begins.

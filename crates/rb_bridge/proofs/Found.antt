@@ -2,14 +2,13 @@
 use Rattle.std.proofs.{Common.{◌≡◌, ℕ, zero, suc, List, ◌++◌, Option, Some, None, option_map, refl, sym, ◌∙◌, ap, subst}, Math.Path.fun_ext}
 use Rattle.std.specs.{Io.KnownBytes.Appends, List.flat_map}
 use Rattle.rb_base.specs.Counting.{numbers}
-use Rattle.rb_group.specs.{Groups.group_value, declared.voters.Which.TheVariants.Most}
 use Rattle.rb_outside.proofs.Known.{appends_none}
 use Rattle.rb_rules_bridge.specs.{declared.bank.Bank.Bank, declared.bank.Bank.TheVariants.{Left, Right}, Bridges.{Bridge, bus_on, members_on}, Crossings.crossing_value, Texts.{frame_text, receiver_text, receivers_text, side_breach_text}}
-use Rattle.rb_bridge.specs.{Receivers.{receiver_by, receivers_by}, Refusals.bank_of, declared.side.Side.Side, declared.telling.Breach.Breach, Crossing.{Finds, shown, told_text}}
+use Rattle.rb_bridge.specs.{Receivers.{most_found, receiver_by, receivers_by}, Refusals.bank_of, declared.side.Side.Side, declared.telling.Breach.Breach, Crossing.{Finds, shown, told_text}}
 
 -- the lines of what the receivers found are those of the bridge
 pub found-lines : (b : Bridge) (bank : Bank) (frame : ℕ) (s : Side) → (is : Finds b bank frame s)
-    → receivers_by (bus_on b bank) frame bank (λ i. group_value Most (members_on b bank) (is.told i)) ≡ receivers_text b frame bank
+    → receivers_by (bus_on b bank) frame bank (most_found (members_on b bank) is.told) ≡ receivers_text b frame bank
 found-lines b bank frame s is =
     ap (receivers_by (bus_on b bank) frame bank) (fun_ext is.values)
     ∙ ap (λ line. flat_map line (numbers (bus_on b bank).sizes.bius)) (fun_ext (λ i. same i))

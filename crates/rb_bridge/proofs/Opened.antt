@@ -4,7 +4,8 @@ use Rattle.rb_rules.specs.{Goodness.Scenario, Ports.HandIn, Rounds.records_of, W
 use Rattle.rb_world_book.specs.{Records.record_of, declared.turn.Turn.Turn}
 use Rattle.rb_world.specs.{declared.ties.Ties.TheVariants.First, Driving.{GoesAlike, Tells}, Nexts.{GoesToNext, is_last}, Worlds.{KeptWorld, Stands}}
 use Rattle.rb_rules_bridge.specs.{declared.bank.Bank.Bank, declared.bank.Bank.TheVariants.{Left, Right}, Bridges.{Bridge, bus_on, members_on, slot_on}, Crossings.{hands_on, hands_up_to}}
-use Rattle.rb_bridge.specs.{Passing.HoldsPassage, Running.IsUnderWay, declared.side.Side.Side, Sides.{BeforeFrame, GivesAll, GivesSome, HasOpened, RunsOut, drive_of}}
+use Rattle.rb_run.specs.Seen.{drive_of}
+use Rattle.rb_bridge.specs.{Passing.HoldsPassage, Running.IsUnderWay, declared.side.Side.Side, Sides.{BeforeFrame, GivesAll, GivesSome, HasOpened, RunsOut}}
 use Rattle.rb_bridge.proofs.{UnderWay.{begins, few-turns, goes}, Told.all-given-of}
 
 -- Before the first frame.

@@ -2,12 +2,12 @@
 use Rattle.std.proofs.Common.{◌≡◌, ℕ, ◌<◌, ◌≤◌, ◌||◌, nat_lt, Bool, true, false, Option, Some, None, List, [], ◌∷◌, ◌++◌, refl, sym, ◌∙◌, ap, subst, arith}
 use Rattle.rb_rules.specs.{Book.Record, Ports.HandIn, Rounds.records_of}
 use Rattle.rb_world_book.specs.{Records.record_of, declared.turn.Turn.Turn}
-use Rattle.rb_run.specs.Turns.{records_in}
+use Rattle.rb_run.specs.{Turns.records_in, Seen.drive_of}
 use Rattle.rb_world.specs.{Nexts.is_last, Worlds.KeptWorld}
 use Rattle.rb_group_run.specs.Replies.{frame_of}
 use Rattle.rb_rules_bridge.specs.{declared.bank.Bank.Bank, Bridges.{Bridge, bus_on}, Crossings.{hands_of, hands_on, hands_up_to, records_on}, Texts.break_in}
 use Rattle.rb_laws_bridge.proofs.Handed.{frames-go-by-the-earlier}
-use Rattle.rb_bridge.specs.{declared.passing.Passage.Passage, declared.passing.Terms.Terms, Passing.{HoldsPassage, IsOnItsWay, PassesFrame, is_over}, Running.{AreNotLast, IsUnderWay}, declared.side.Side.Side, Sides.{AfterFrame, BeforeFrame, HasStopped, IsInStep, IsUp, break_by, drive_of}}
+use Rattle.rb_bridge.specs.{declared.passing.Passage.Passage, declared.passing.Terms.Terms, Passing.{HoldsPassage, IsOnItsWay, PassesFrame, is_over}, Running.{AreNotLast, IsUnderWay}, declared.side.Side.Side, Sides.{AfterFrame, BeforeFrame, HasStopped, IsInStep, IsUp, break_by}}
 use Rattle.rb_bridge.proofs.FramesTold.{passed-tells}
 
 -- Turns beyond a frame.

@@ -4,12 +4,12 @@ use Rattle.std.specs.Option.{option_or}
 use Rattle.rb_rules.specs.{Book.Record, Book.Record.{Frame, Slot, Ended, Breach}, Goodness.Scenario, Ports.HandIn, Rounds.records_of}
 use Rattle.rb_world_book.specs.{Records.record_of, declared.turn.Turn.Turn}
 use Rattle.rb_group.specs.{Groups.group_value, Portions.port_deliveries, declared.voters.Which.TheVariants.Most}
-use Rattle.rb_run.specs.Turns.{records_in}
+use Rattle.rb_run.specs.{Turns.records_in, Seen.drive_of}
 use Rattle.rb_world.specs.{Nexts.is_last, Worlds.KeptWorld}
 use Rattle.rb_group_run.specs.{declared.asked.Asked.Asked, Holding.HoldPortions}
 use Rattle.rb_rules_bridge.specs.{declared.bank.Bank.Bank, declared.bank.Bank.TheVariants.{Left, Right}, Bridges.{Bridge, IsBridge, bus_on, members_on}, Crossings.{hands_of, hands_up_to, records_on}, Texts.{Break, break_in}}
 use Rattle.rb_laws_bridge.proofs.Handed.{frames-go-by-the-earlier}
-use Rattle.rb_bridge.specs.{declared.passing.Terms.Terms, Passing.is_over, Running.IsUnderWay, declared.side.Side.Side, declared.telling.Breach.Breach as Found, Sides.{AfterFrame, AreGivenOf, BeforeFrame, GivesAll, GivesSome, break_by, drive_of}, Crossing.{ArePlain, BridgeRun, Finds, GivesAllOn, GoThrough, shown}}
+use Rattle.rb_bridge.specs.{declared.passing.Terms.Terms, Passing.is_over, Running.IsUnderWay, declared.side.Side.Side, declared.telling.Breach.Breach as Found, Sides.{AfterFrame, AreGivenOf, BeforeFrame, GivesAll, GivesSome, break_by}, Crossing.{ArePlain, BridgeRun, Finds, GivesAllOn, GoThrough, shown}}
 use Rattle.rb_bridge.proofs.{FramesTold.passed-tells, UnderWay.{first-given, whole-given}, SidesPassed.over-some, Whole.{after-crossed, before-crossed, breach-crossed}}
 
 -- Turns.

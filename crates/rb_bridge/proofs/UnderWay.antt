@@ -5,7 +5,7 @@ use Rattle.rb_rules.specs.{Book.Record, Goodness.Scenario, Lawful.IsLawful, Port
 use Rattle.rb_world_book.specs.{Records.record_of, declared.turn.Turn.Turn}
 use Rattle.rb_laws_events.proofs.EventsHold.{events-hold}
 use Rattle.rb_run.specs.{declared.ending.Ending.Ending, Runs.{HasGivenNothing, end_at}, Turns.turn_of}
-use Rattle.rb_run.proofs.{Bounds.few-records, UnderWay.{ends-last, no-record, not-over, record-is, same-record, tells-more, tells-none, turn-is}}
+use Rattle.rb_run.proofs.{Bounds.few-records, UnderWay.{ends-last, no-record, not-over, same-record, tells-more, tells-none, turn-is}}
 use Rattle.rb_world.specs.{declared.ties.Ties.TheVariants.First, Driving.{GoesAlike, Tells, bare}, Nexts.{GoesToNext, is_last}, Numbering.{GoesInRounds, IsNextRecord}, declared.last.Last.Last, Worlds.{KeptWorld, Stands, last_of}}
 use Rattle.rb_world.proofs.{LastTurn.reached-gave, Numbered.{alike-in-rounds, alike-last, next-in-rounds}}
 use Rattle.rb_bridge.specs.Running.{AreNotLast, IsUnderWay, latest}

@@ -5,7 +5,7 @@ use Rattle.rb_base.specs.{declared.values.Heard.Heard, declared.values.Place.Pla
 use Rattle.rb_rules.specs.{declared.cause.Cause.Cause, Book.Record, Book.Record.{Frame, Slot, Ended, Breach}, Goodness.Scenario, Lawful.IsLawful, Ports.HandIn, Rounds.records_of, WorldStep.{IsPrefix, World, frame_in, hand}, WorldStep.Choice.Hand}
 use Rattle.rb_laws_events.proofs.EventsHold.{events-hold}
 use Rattle.rb_world_book.specs.{Records.record_of, declared.turn.Turn.Turn}
-use Rattle.rb_run.specs.Turns.{records_in}
+use Rattle.rb_run.specs.{Turns.records_in, Seen.drive_of}
 use Rattle.rb_run.proofs.{Plain.records-back, Texts.records-more}
 use Rattle.rb_world.specs.{Nexts.is_last, Worlds.{IsReached, KeptWorld}}
 use Rattle.rb_world.proofs.Turns.{reached-more}
@@ -14,7 +14,7 @@ use Rattle.rb_group_run.proofs.Held.{reached_more}
 use Rattle.rb_rules_bridge.specs.{declared.bank.Bank.Bank, declared.bank.Pair.Pair, Bridges.{Bridge, IsBridge, across, biu_on, bus_on, carried_slot}, Crossings.{hands_of, hands_on, hands_up_to, records_on, value_told, word_of}, Texts.{Break, break_told}}
 use Rattle.rb_laws_bridge.specs.Laws.{AreFirstOf, AreUpTo, BeginsOrEnds, ends_run, frame_told}
 use Rattle.rb_laws_bridge.proofs.Stayed.{first-crossed}
-use Rattle.rb_bridge.specs.{declared.passing.Terms.Terms, Handing.with_words, Passing.is_over, Running.{AreNotLast, IsUnderWay}, declared.side.Side.Side, Sides.{AfterFrame, BeforeFrame, HasStopped, IsInStep, break_by, drive_of}}
+use Rattle.rb_bridge.specs.{declared.passing.Terms.Terms, Handing.with_words, Passing.is_over, Running.{AreNotLast, IsUnderWay}, declared.side.Side.Side, Sides.{AfterFrame, BeforeFrame, HasStopped, IsInStep, break_by}}
 use Rattle.rb_bridge.proofs.{FramesTold.{breaks-late, no-break, one-frame}, UnderWay.{first-given, latest-more, whole-given}, SidesHanded.{AreHanded, are-handed, begins-next, handed-next, reached-there}, SidesPassed.over-some}
 
 -- Records up to a frame.

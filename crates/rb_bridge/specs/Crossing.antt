@@ -3,11 +3,11 @@ use Rattle.std.specs.{Prelude.{ℕ, ◌≡◌, ◌+◌, ◌<◌, Bool, true, fal
 use Rattle.rb_base.specs.declared.values.Delivery.{Delivery}
 use Rattle.rb_world_book.specs.{Records.record_of, declared.turn.Turn.Turn}
 use Rattle.rb_outside.specs.Bytes.{AppendsPart}
-use Rattle.rb_run.specs.declared.ending.Ending.{Ending}
+use Rattle.rb_run.specs.{declared.ending.Ending.Ending, Seen.{SeenDrive, drive_of}}
 use Rattle.rb_world.specs.Nexts.{is_last}
 use Rattle.rb_group.specs.{Groups.group_value, declared.voters.Which.TheVariants.Most}
 use Rattle.rb_group_run.specs.Holding.{HoldPortions, IsScopeOf}
-use Rattle.rb_bridge.specs.{Passing.IsOnItsWay, Refusals.bank_of, declared.side.Side.Side, declared.telling.Breach.Breach, Sides.{AfterFrame, AreUnbroken, BeforeFrame, Driven, GivesAll, GivesSome, HasOpened, drive_of}}
+use Rattle.rb_bridge.specs.{Passing.IsOnItsWay, Refusals.bank_of, declared.side.Side.Side, declared.telling.Breach.Breach, Sides.{AfterFrame, AreUnbroken, BeforeFrame, GivesAll, GivesSome, HasOpened}}
 use Rattle.rb_rules_bridge.specs.{declared.bank.Bank.Bank, declared.bank.Bank.TheVariants.{Left, Right}, declared.bank.Pair.Pair, Bridges.{Bridge, IsBridge, bus_on, members_on, slot_on}, Crossings.crossing_value, Texts.{Break, break_at, break_of, bridge_text, frame_text, side_breach_text}}
 use Rattle.rb_run.specs.declared.ending.Ending.TheVariants as ending
 
@@ -38,8 +38,8 @@ pub record FindBoth (b : Bridge) (frame : ℕ) (l r : Side) : Type 0 where
 
 -- what is seen of both drives
 pub record Drives : Type 0 where
-  pub left : Driven
-  pub right : Driven
+  pub left : SeenDrive
+  pub right : SeenDrive
 
 -- both drives over a call, by what each was before it and after it
 abbrev pub drives_over : {D : Type 0} → (D → Bool) → (D → Option (List Turn)) → D → D → D → D → Drives
@@ -58,11 +58,11 @@ pub record ArePlain (both lp rp : Bool) : Type 0 where
 pub record BridgeRun : Type 0 where
   pub b : Bridge
   pub both : Bool
-  pub left : Driven
-  pub right : Driven
+  pub left : SeenDrive
+  pub right : SeenDrive
 
 -- the run of this bridge with these drives
-abbrev pub run_of : Bridge → Bool → Driven → Driven → BridgeRun
+abbrev pub run_of : Bridge → Bool → SeenDrive → SeenDrive → BridgeRun
 run_of b both left right = record { b = b; both = both; left = left; right = right }
 
 -- Both sides.

@@ -2,7 +2,7 @@
 use Rattle.std.specs.Prelude.{ℕ, ◌≡◌, ◌+◌, ◌<◌, Bool, true, false, Option, None, Some, List, [], ◌∷◌, ◌++◌, map}
 use Rattle.rb_rules.specs.{Book.Record, Goodness.Scenario, Ports.HandIn, Rounds.records_of, WorldStep.IsPrefix}
 use Rattle.rb_world_book.specs.{Records.record_of, declared.turn.Turn.Turn}
-use Rattle.rb_run.specs.{Runs.HasGivenNothing, Turns.{TellsAll, records_in, turn_of}}
+use Rattle.rb_run.specs.{Runs.HasGivenNothing, Turns.{TellsAll, records_in, turn_of}, Seen.SeenDrive}
 use Rattle.rb_world.specs.{Driving.bare, Nexts.is_last}
 use Rattle.rb_group.specs.declared.voters.Which.TheVariants.{Most}
 use Rattle.rb_group_run.specs.Holding.{IsScopeOf}
@@ -48,16 +48,6 @@ pub record IsSideOf (b : Bridge) (bank : Bank) (s : Side) : Type 0 where
 abbrev pub break_by : Bank → ℕ → Option Record → Option Break
 break_by bank frame None = None
 break_by bank frame (Some r) = break_told bank frame r
-
--- what is seen of a drive: is it plain, what had it told at first, and what has it told since
-pub record Driven : Type 0 where
-  pub is_plain : Bool
-  pub told : Option (List Turn)
-  pub since : Option (List Turn)
-
--- a drive that is plain or not, with what it had told before the call and what it has told since
-abbrev pub drive_of : Bool → Option (List Turn) → Option (List Turn) → Driven
-drive_of is_plain told since = record { is_plain = is_plain; told = told; since = since }
 
 -- Between two frames, with any drive.
 
@@ -106,14 +96,14 @@ pub record HasTold (b : Bridge) (bank : Bank) (frame : ℕ) (handed : List HandI
 
 -- Before a frame and after it. The last field of each speaks of two plain drives.
 
-pub record BeforeFrame (b : Bridge) (bank : Bank) (frame : ℕ) (both : Bool) (d : Driven) (s : Side) : Type 0 where
+pub record BeforeFrame (b : Bridge) (bank : Bank) (frame : ℕ) (both : Bool) (d : SeenDrive) (s : Side) : Type 0 where
   pub side : IsSideOf b bank s
   pub handed : List HandIn
   pub turns : List Turn
   pub ready : IsReady (bus_on b bank) handed d.is_plain d.told d.since s turns
   pub plain : both ≡ true → IsInStep b bank frame handed s
 
-pub record AfterFrame (b : Bridge) (bank : Bank) (frame : ℕ) (both : Bool) (d : Driven) (s : Side) : Type 0 where
+pub record AfterFrame (b : Bridge) (bank : Bank) (frame : ℕ) (both : Bool) (d : SeenDrive) (s : Side) : Type 0 where
   pub side : IsSideOf b bank s
   pub handed : List HandIn
   pub before : List Turn
@@ -150,7 +140,7 @@ pub record RunsOut (sc : Scenario) (handed : List HandIn) (is_plain : Bool) (tol
 -- The first turns of the run of the bus on a bank were given. If both drives are plain, it was
 -- handed what the bridge carries, up to the start of a frame, and they are the first of the run
 -- with all that the bridge carries
-pub record GivesSome (b : Bridge) (bank : Bank) (both : Bool) (d : Driven) : Type 0 where
+pub record GivesSome (b : Bridge) (bank : Bank) (both : Bool) (d : SeenDrive) : Type 0 where
   pub frame : ℕ
   pub handed : List HandIn
   pub turns : List Turn
@@ -161,7 +151,7 @@ pub record GivesSome (b : Bridge) (bank : Bank) (both : Bool) (d : Driven) : Typ
 
 -- All turns of the run of the bus on a bank were given, with what it was handed up to the start of
 -- this frame. If both drives are plain, that is the run with all that the bridge carries
-pub record GivesAll (b : Bridge) (bank : Bank) (frame : ℕ) (both : Bool) (d : Driven) : Type 0 where
+pub record GivesAll (b : Bridge) (bank : Bank) (frame : ℕ) (both : Bool) (d : SeenDrive) : Type 0 where
   pub handed : List HandIn
   pub turns : List Turn
   pub given : AreGivenOf (bus_on b bank) handed d.is_plain d.told d.since turns (records_of (bus_on b bank) handed)

@@ -5,11 +5,12 @@ ghost use Rattle.rb_rules.specs.Ports.{HandIn};
 ghost use Rattle.rb_world_book.specs.Records.{record_of};
 ghost use Rattle.rb_world_book.specs.declared.turn.Turn.{Turn};
 ghost use Rattle.rb_world.specs.Nexts.{is_last};
+ghost use Rattle.rb_run.specs.Seen.{drive_of};
 ghost use Rattle.rb_bridge.specs.Passing.{IsOnItsWay};
 ghost use Rattle.rb_bridge.specs.Running.{IsUnderWay};
 ghost use Rattle.rb_rules_bridge.specs.Bridges.{Bridge};
 ghost use Rattle.rb_rules_bridge.specs.declared.bank.Bank.{Bank};
-ghost use Rattle.rb_bridge.specs.Sides.{AfterFrame, BeforeFrame, IsUp, RunsOut, drive_of};
+ghost use Rattle.rb_bridge.specs.Sides.{AfterFrame, BeforeFrame, IsUp, RunsOut};
 
 use crate::passing::pass_frame;
 use crate::side::Side;

@@ -1,8 +1,7 @@
 //! What is said of a frame of a bridge.
-ghost use Rattle.std.specs.Prelude.{◌≡◌, ◌++◌, ℕ, OnErr, OnOk, None, option_map};
-ghost use Rattle.std.specs.Io.KnownBytes.{Appends};
-ghost use Rattle.rb_outside.specs.Bytes.{AppendsPart};
+ghost use Rattle.std.specs.Prelude.{◌≡◌, ◌++◌, ℕ, None, option_map};
 ghost use Rattle.rb_outside.specs.Causes.{HasCause};
+ghost use Rattle.rb_outside.specs.Writing.{Writes};
 ghost use Rattle.rb_world_book.specs.Records.{record_of};
 ghost use Rattle.rb_report.specs.Report.{end_text};
 ghost use Rattle.rb_rules_bridge.specs.Bridges.{Bridge};
@@ -51,9 +50,8 @@ pub(crate) fn breach_at(turn: &Turn, right: bool, frame: u32) -> Option<Breach>
 
 // Writes the line of a breach.
 fn write_breach<K: Sink>(breach: &Breach, output: &mut K) -> Result<(), Failed>
-    ensures all { OnOk result (Appends (K.held output.old) (K.held output.new) (side_breach_text (bank_of breach.now.right) breach.now.place breach.now.cause)) }
-    ensures part { OnErr result (AppendsPart (K.held output.old) (K.held output.new) (side_breach_text (bank_of breach.now.right) breach.now.place breach.now.cause)) }
-    ensures cause { HasCause (K.faults output.old) (K.faults output.new) result }
+    ensures { Writes K.held K.faults output.old output.new result
+        (side_breach_text (bank_of breach.now.right) breach.now.place breach.now.cause) }
 {
     let line = side_breach_line(breach.right, breach.place, breach.cause);
     write_line(output, &line)
@@ -61,9 +59,7 @@ fn write_breach<K: Sink>(breach: &Breach, output: &mut K) -> Result<(), Failed>
 
 /// Writes the last line of a bridge without a breach.
 pub(crate) fn write_end<K: Sink>(frames: u32, output: &mut K) -> Result<(), Failed>
-    ensures all { OnOk result (Appends (K.held output.old) (K.held output.new) (end_text frames)) }
-    ensures part { OnErr result (AppendsPart (K.held output.old) (K.held output.new) (end_text frames)) }
-    ensures cause { HasCause (K.faults output.old) (K.faults output.new) result }
+    ensures { Writes K.held K.faults output.old output.new result (end_text frames) }
 {
     let line = end_line(frames);
     write_line(output, &line)
@@ -71,10 +67,9 @@ pub(crate) fn write_end<K: Sink>(frames: u32, output: &mut K) -> Result<(), Fail
 
 // Writes what the receivers of a bus find.
 fn write_side<K: Sink>(side: &Side, right: bool, output: &mut K) -> Result<(), Failed>
-    ensures all { (b : Bridge) → Finds b (bank_of right) side.now.passage.ports.frame side.now
-        → OnOk result (Appends (K.held output.old) (K.held output.new) (receivers_text b side.now.passage.ports.frame (bank_of right))) }
-    ensures part { (b : Bridge) → Finds b (bank_of right) side.now.passage.ports.frame side.now
-        → OnErr result (AppendsPart (K.held output.old) (K.held output.new) (receivers_text b side.now.passage.ports.frame (bank_of right))) }
+    ensures writes { (b : Bridge) → Finds b (bank_of right) side.now.passage.ports.frame side.now
+        → Writes K.held K.faults output.old output.new result
+        (receivers_text b side.now.passage.ports.frame (bank_of right)) }
     ensures cause { HasCause (K.faults output.old) (K.faults output.new) result }
 {
     write_receivers(&side.passage.ports, right, &side.scope, output)
@@ -82,10 +77,9 @@ fn write_side<K: Sink>(side: &Side, right: bool, output: &mut K) -> Result<(), F
 
 // Writes what the receivers of both buses find in a frame.
 fn write_both<K: Sink>(left: &Side, right: &Side, output: &mut K) -> Result<(), Failed>
-    ensures all { (b : Bridge) (frame : ℕ) → FindBoth b frame left.now right.now
-        → OnOk result (Appends (K.held output.old) (K.held output.new) (receivers_text b frame Left ++ receivers_text b frame Right)) }
-    ensures part { (b : Bridge) (frame : ℕ) → FindBoth b frame left.now right.now
-        → OnErr result (AppendsPart (K.held output.old) (K.held output.new) (receivers_text b frame Left ++ receivers_text b frame Right)) }
+    ensures writes { (b : Bridge) (frame : ℕ) → FindBoth b frame left.now right.now
+        → Writes K.held K.faults output.old output.new result
+        (receivers_text b frame Left ++ receivers_text b frame Right) }
     ensures cause { HasCause (K.faults output.old) (K.faults output.new) result }
 {
     write_side(left, false, output)?;
@@ -94,10 +88,8 @@ fn write_both<K: Sink>(left: &Side, right: &Side, output: &mut K) -> Result<(), 
 
 // Writes what is said of a frame without a breach. Nothing has crossed in the first.
 fn write_frame<K: Sink>(frame: u32, left: &Side, right: &Side, output: &mut K) -> Result<(), Failed>
-    ensures all { (b : Bridge) → FindBoth b frame left.now right.now
-        → OnOk result (Appends (K.held output.old) (K.held output.new) (frame_text b frame)) }
-    ensures part { (b : Bridge) → FindBoth b frame left.now right.now
-        → OnErr result (AppendsPart (K.held output.old) (K.held output.new) (frame_text b frame)) }
+    ensures writes { (b : Bridge) → FindBoth b frame left.now right.now
+        → Writes K.held K.faults output.old output.new result (frame_text b frame) }
     ensures cause { HasCause (K.faults output.old) (K.faults output.new) result }
 {
     if frame == 0 {
@@ -114,10 +106,9 @@ pub(crate) fn tell<K: Sink>(
     right: &Side,
     output: &mut K,
 ) -> Result<(), Failed>
-    ensures all { (b : Bridge) → (breach ≡ None → FindBoth b frame left.now right.now)
-        → OnOk result (Appends (K.held output.old) (K.held output.new) (told_text b frame (option_map shown breach))) }
-    ensures part { (b : Bridge) → (breach ≡ None → FindBoth b frame left.now right.now)
-        → OnErr result (AppendsPart (K.held output.old) (K.held output.new) (told_text b frame (option_map shown breach))) }
+    ensures writes { (b : Bridge) → (breach ≡ None → FindBoth b frame left.now right.now)
+        → Writes K.held K.faults output.old output.new result
+        (told_text b frame (option_map shown breach)) }
     ensures cause { HasCause (K.faults output.old) (K.faults output.new) result }
 {
     match breach {

@@ -1,41 +1,32 @@
 -- The answer to `run`, from what came of its input and of its bridge.
-use Rattle.std.proofs.Common.{◌≡◌, ◌⊎◌, ℕ, Bool, List, Option, inl, inr, refl, subst, sym}
+use Rattle.std.proofs.Common.{◌≡◌, ◌⊎◌, Bool, inl, inr, subst, sym}
 use Rattle.rb_outside.specs.Causes.{Rose}
-use Rattle.rb_world_book.specs.declared.turn.Turn.{Turn}
+use Rattle.rb_run.specs.Seen.{SeenSink, SeenSource}
 use Rattle.rb_bridge_document.specs.{declared.bridge.Bridge.Bridge as Kept, Acceptance.as_bridge}
-use Rattle.rb_bridge.specs.{Crossing.{WritesPart, run_of}, Sides.drive_of}
-use Rattle.rb_bridge_top.specs.{declared.status.Status.Status, declared.status.Status.TheVariants.{Done, Breach, Usage, Refused, TooLong, ReadFault, WriteFault, OutOfMemory}, Answers.{Answers, IsCrossed}, Inputs.{ReadsBridge, ReadsNone}, Statuses.{HasEnded, IsOfRun, MayRefuse, RunsNothing, WritesNothing}}
-
-never-both : (status : Status) → MayRefuse status → HasEnded status → ⊥
-never-both Done may ended = may
-never-both Breach may ended = may
-never-both Usage may ended = ended
-never-both Refused may ended = ended
-never-both TooLong may ended = ended
-never-both ReadFault may ended = ended
-never-both WriteFault may ended = ended
-never-both OutOfMemory may ended = ended
+use Rattle.rb_bridge.specs.Crossing.{Drives, WritesPart, run_of}
+use Rattle.rb_program.specs.{declared.status.Status.Status, declared.status.Status.TheVariants.{Done, WriteFault}, Statuses.{HasEnded, IsOfRun, MayRefuse, WritesNothing}}
+use Rattle.rb_program.proofs.Statuses.{never_both}
+use Rattle.rb_bridge_top.specs.{Answers.{Answers, IsCrossed}, Inputs.{ReadsBridge, ReadsNone}}
 
 -- the call answers as it must if it read no bridge
-pub none-answers : (both : Bool) (status : Status) (left left' : Option (List ℕ)) (reads reads' : ℕ) (held held' : Option (List ℕ)) (writes writes' : ℕ)
-    (lp : Bool) (ltold : Option (List Turn)) (rp : Bool) (rtold : Option (List Turn)) → ReadsNone status left left' reads reads' held held' writes writes'
-    → Answers both status left left' reads reads' held held' writes writes' lp ltold ltold rp rtold rtold
-none-answers both status left left' reads reads' held held' writes writes' lp ltold rp rtold n = record {
+pub none-answers : (both : Bool) (status : Status) (source : SeenSource) (sink : SeenSink)
+    (drives : Drives) → ReadsNone status source sink → Answers both status source sink drives
+none-answers both status source sink drives n = record {
   known = λ e. subst MayRefuse e n.one_of;
-  ended = λ h. absurd (never-both status n.one_of h);
+  ended = λ h. absurd (never_both status n.one_of h);
   refused = n.refused;
   unread = n.unread;
   failed = λ e. inl (n.failed e);
 }
 
 -- the call answers as it must if it read a bridge and took it to its end
-pub report-answers : (both : Bool) (status : Status) (left left' : Option (List ℕ)) (reads reads' : ℕ) (held held' : Option (List ℕ)) (writes writes' : ℕ)
-    (lp : Bool) (ltold lsince : Option (List Turn)) (rp : Bool) (rtold rsince : Option (List Turn)) (kept : Kept) → ReadsBridge left left' kept
-    → (HasEnded status → IsCrossed (run_of (as_bridge kept) both (drive_of lp ltold lsince) (drive_of rp rtold rsince)) status held held')
-    → (status ≡ WriteFault → WritesPart (run_of (as_bridge kept) both (drive_of lp ltold lsince) (drive_of rp rtold rsince)) held held')
-    → (status ≡ WriteFault → Rose writes writes') → IsOfRun status
-    → Answers both status left left' reads reads' held held' writes writes' lp ltold lsince rp rtold rsince
-report-answers both status left left' reads reads' held held' writes writes' lp ltold lsince rp rtold rsince kept reads-it ended part rose one_of = record {
+pub report-answers : (both : Bool) (status : Status) (source : SeenSource) (sink : SeenSink)
+    (drives : Drives) (kept : Kept) → ReadsBridge source kept
+    → (HasEnded status → IsCrossed (run_of (as_bridge kept) both drives.left drives.right) status sink)
+    → (status ≡ WriteFault → WritesPart (run_of (as_bridge kept) both drives.left drives.right) sink.held sink.held')
+    → (status ≡ WriteFault → Rose sink.faults sink.faults') → IsOfRun status
+    → Answers both status source sink drives
+report-answers both status source sink drives kept reads-it ended part rose one_of = record {
   known = λ e. subst IsOfRun e one_of;
   ended = λ h. record {
     input = reads-it.input;
@@ -61,27 +52,6 @@ report-answers both status left left' reads reads' held held' writes writes' lp 
     rose = rose e;
   });
 }
-
--- `OutOfMemory` is the only answer to a run that writes nothing
-pub only-memory : (status : Status) → IsOfRun status → WritesNothing status → status ≡ OutOfMemory
-only-memory Done run none = absurd none
-only-memory Breach run none = absurd none
-only-memory Usage run none = absurd run
-only-memory Refused run none = absurd run
-only-memory TooLong run none = absurd run
-only-memory ReadFault run none = absurd run
-only-memory WriteFault run none = absurd none
-only-memory OutOfMemory run none = refl
-
-pub only-memory-runs : (status : Status) → IsOfRun status → RunsNothing status → status ≡ OutOfMemory
-only-memory-runs Done run none = absurd none
-only-memory-runs Breach run none = absurd none
-only-memory-runs Usage run none = absurd run
-only-memory-runs Refused run none = absurd run
-only-memory-runs TooLong run none = absurd run
-only-memory-runs ReadFault run none = absurd run
-only-memory-runs WriteFault run none = absurd none
-only-memory-runs OutOfMemory run none = refl
 
 -- the answer to a flag is one of a run, and something is written
 pub shown-of-run : (status : Status) → (status ≡ Done) ⊎ (status ≡ WriteFault) → IsOfRun status

@@ -1,9 +1,10 @@
 -- Words ask for one form.
-use Rattle.std.proofs.Common.{◌≡◌, ◌⊎◌, ◌∙◌, List, [], ◌∷◌, ℕ, String, ap, arith, codes, get_or, inl, inr, sym}
+use Rattle.std.proofs.Common.{◌≡◌, ◌⊎◌, ◌∙◌, List, [], String, ap, arith, codes, get_or, inl, inr, sym}
 use Rattle.std.specs.declared.alloc.Global.{Global}
 use Rattle.rb_flags.specs.declared.Flag.{Flag}
 use Rattle.rb_flags.proofs.OneFlag.{no_flag, one_flag}
-use Rattle.rb_bridge_top.specs.{declared.form.Form.TheVariants.{Run, Show}, declared.status.Status.Status, Statuses.RunsNothing, Words.AskFor}
+use Rattle.rb_program.specs.{declared.status.Status.Status, Statuses.RunsNothing}
+use Rattle.rb_bridge_top.specs.{declared.form.Form.TheVariants.{Run, Show}, Words.AskFor}
 
 pub no_flag_runs : (words : List (String Global)) (flag : Flag) → AskFor words Run → ¬ AskFor words (Show flag)
 no_flag_runs words flag runs shows = no_flag flag (codes "run") (omega arith) (ap (λ words. get_or words 0 []) (sym runs ∙ shows))

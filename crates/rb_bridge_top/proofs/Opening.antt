@@ -7,8 +7,8 @@ use Rattle.rb_rules_bridge.specs.{declared.bank.Bank.TheVariants.{Left, Right}, 
 use Rattle.rb_run.specs.declared.ending.Ending.{Ending}
 use Rattle.rb_scenario.specs.Acceptance.{as_scenario}
 use Rattle.rb_bridge.specs.{declared.side.Side.Side, Crossing.HaveOpened, Sides.HasOpened}
-use Rattle.rb_bridge_top.specs.{declared.status.Status.Status, declared.status.Status.TheVariants.{WriteFault, OutOfMemory}, Statuses.{HasEnded, IsOfRun, status_of}}
-use Rattle.rb_run.specs.declared.ending.Ending.TheVariants as ending
+use Rattle.rb_program.specs.{declared.status.Status.Status, declared.status.Status.TheVariants.{OutOfMemory, WriteFault}, Statuses.{HasEnded, IsOfRun, status_of}}
+use Rattle.rb_program.proofs.Statuses.{run_ends}
 
 -- both sides are open, each with the BIUs of its pairs
 pub both-opened : (kept : Kept) (ps qs : List Pair) (m n : ℕ) (l r : Side) → ps ≡ kept.pairs.items → qs ≡ kept.pairs.items
@@ -21,19 +21,11 @@ both-opened kept ps qs m n l r of_left of_right m_is n_is is_l is_r = record {
 
 -- The answer to an end.
 
-ended-of : (e : Ending) → HasEnded (status_of e)
-ended-of ending.Ended = tt
-ended-of ending.Breach = tt
-
-run-of : (e : Ending) → IsOfRun (status_of e)
-run-of ending.Ended = tt
-run-of ending.Breach = tt
-
 pub end-runs : (e : Ending) (status : Status) → status ≡ status_of e → IsOfRun status
-end-runs e status is = subst IsOfRun (sym is) (run-of e)
+end-runs e status is = subst IsOfRun (sym is) (run_ends e).0
 
 pub end-written : (e : Ending) (status : Status) → status ≡ status_of e → ¬ (status ≡ WriteFault)
-end-written e status is failed = subst HasEnded (sym is ∙ failed) (ended-of e)
+end-written e status is failed = subst HasEnded (sym is ∙ failed) (run_ends e).1
 
 pub end-opened : (e : Ending) (status : Status) → status ≡ status_of e → ¬ (status ≡ OutOfMemory)
-end-opened e status is failed = subst HasEnded (sym is ∙ failed) (ended-of e)
+end-opened e status is failed = subst HasEnded (sym is ∙ failed) (run_ends e).1

@@ -1,9 +1,6 @@
 -- What the program says of itself.
-use Rattle.std.specs.{Prelude.{ℕ, ◌≡◌, ◌⊎◌, List, Option, codes, ◌++◌}, Io.KnownBytes.Appends}
+use Rattle.std.specs.Prelude.{ℕ, List, codes, ◌++◌}
 use Rattle.rb_flags.specs.{declared.Flag.Flag, declared.Flag.TheVariants.{Help, ShortHelp, Version}}
-use Rattle.rb_outside.specs.{Bytes.AppendsPart, Causes.Rose}
-use Rattle.rb_bridge_top.specs.declared.status.Status.{Status}
-use Rattle.rb_bridge_top.specs.declared.status.Status.TheVariants as answer
 
 -- how it is used
 unfoldable pub help_text : List ℕ
@@ -28,11 +25,3 @@ abbrev pub page_text : Flag → List ℕ
 page_text Help = help_text
 page_text ShortHelp = help_text
 page_text Version = codes "robus_bridge 1.0\n"
-
--- the answer to a flag: its text is written; or a first part of it, and then the count of the
--- sink's faults rose
-pub record Shows (flag : Flag) (status : Status) (held held' : Option (List ℕ)) (faults faults' : ℕ) : Type 0 where
-  pub one_of : (status ≡ answer.Done) ⊎ (status ≡ answer.WriteFault)
-  pub done : status ≡ answer.Done → Appends held held' (page_text flag)
-  pub part : status ≡ answer.WriteFault → AppendsPart held held' (page_text flag)
-  pub rose : status ≡ answer.WriteFault → Rose faults faults'

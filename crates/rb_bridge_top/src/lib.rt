@@ -5,8 +5,7 @@ pub mod form;
 mod pages;
 mod reading;
 mod running;
-pub mod status;
 pub mod top;
 
-pub use status::Status;
+pub use rb_program::Status;
 pub use top::run_bridge;

@@ -4,29 +4,20 @@ ghost use Rattle.rb_outside.specs.Causes.{Rose};
 ghost use Rattle.rb_rules_bridge.specs.Bridges.{IsBridge};
 ghost use Rattle.rb_bridge_document.specs.Acceptance.{AreListed, as_bridge};
 ghost use Rattle.rb_bridge.specs.Crossing.{drives_over};
+ghost use Rattle.rb_run.specs.Seen.{sink_over};
 ghost use Rattle.rb_bridge_top.specs.Answers.{Reports};
-ghost use Rattle.rb_bridge_top.specs.Statuses.{IsOfRun, status_of};
+ghost use Rattle.rb_program.specs.Statuses.{IsOfRun};
 
-use crate::status::Status;
 use rb_base::OutOfMemory;
 use rb_bridge::{cross, members_on, open_side};
 use rb_bridge_document::Bridge;
 use rb_outside::{Failed, Sink};
 use rb_port::Apps;
+use rb_program::{Status, status_of};
 use rb_rules_bridge::Bank;
 use rb_run::Ending;
 use rb_world::Drive;
 use std::alloc::Global;
-
-// The answer if a bridge ends so and all is written.
-fn status_of(ending: Ending) -> Status
-    ensures { result ≡ status_of ending }
-{
-    match ending {
-        Ending::Ended => Status::Done,
-        Ending::Breach => Status::Breach,
-    }
-}
 
 /// Opens both buses of a bridge, and writes what is said of it.
 pub(crate) fn report<K: Sink, D: Drive>(
@@ -41,7 +32,7 @@ pub(crate) fn report<K: Sink, D: Drive>(
     requires listed { AreListed (as_bridge bridge) }
     ensures written { Reports (as_bridge bridge) (drives_over D.is_plain D.told
         left_drive.old left_drive.new right_drive.old right_drive.new) result
-        (K.held output.old) (K.held output.new) }
+        (sink_over K.held K.faults output.old output.new) }
     ensures cause { result ≡ Status.WriteFault → Rose (K.faults output.old) (K.faults output.new) }
     ensures unopened { result ≡ Status.OutOfMemory
         → (output.new ≡ output.old)

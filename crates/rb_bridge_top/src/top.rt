@@ -1,22 +1,24 @@
 //! The top call of a bridge.
 ghost use Rattle.std.specs.Prelude.{◌≡◌, Bool, IsTrue};
 ghost use Rattle.rb_flags.specs.declared.Flag.{Flag};
-ghost use Rattle.rb_bridge.specs.Crossing.{ArePlain};
+ghost use Rattle.rb_bridge.specs.Crossing.{ArePlain, drives_over};
+ghost use Rattle.rb_run.specs.Seen.{sink_over, source_over};
 ghost use Rattle.rb_bridge_top.specs.declared.form.Form.TheVariants.{Run, Show};
 ghost use Rattle.rb_bridge_top.specs.Answers.{Answers, Completes, Ends, FailsToWrite, Refuses, Untouched, UsageExactly};
 ghost use Rattle.rb_bridge_top.specs.Inputs.{IsUnread};
-ghost use Rattle.rb_bridge_top.specs.Pages.{Shows};
+ghost use Rattle.rb_bridge_top.specs.Pages.{page_text};
 ghost use Rattle.rb_bridge_top.specs.Promise.{KeepsTheBridge};
-ghost use Rattle.rb_bridge_top.specs.Statuses.{HasEnded, RunsNothing, WritesNothing};
+ghost use Rattle.rb_program.specs.Outside.{WritesText};
+ghost use Rattle.rb_program.specs.Statuses.{HasEnded, RunsNothing, WritesNothing};
 ghost use Rattle.rb_bridge_top.specs.Words.{AskFor};
 
 use crate::form::{Form, form_of};
 use crate::pages::write_page;
 use crate::reading::read_document;
 use crate::running::report;
-use crate::status::Status;
 use rb_outside::{Sink, Source};
 use rb_port::Apps;
+use rb_program::Status;
 use rb_world::Drive;
 use std::alloc::Global;
 
@@ -30,11 +32,9 @@ fn serve<S: Source, K: Sink, D: Drive>(
     right: &mut D,
 ) -> Status
     ensures answers { (both : Bool) → ArePlain both (D.is_plain left.old) (D.is_plain right.old)
-        → Answers both result (S.left input.old) (S.left input.new)
-        (S.faults input.old) (S.faults input.new)
-        (K.held output.old) (K.held output.new) (K.faults output.old) (K.faults output.new)
-        (D.is_plain left.old) (D.told left.old) (D.told left.new)
-        (D.is_plain right.old) (D.told right.old) (D.told right.new) }
+        → Answers both result (source_over S.left S.faults input.old input.new)
+        (sink_over K.held K.faults output.old output.new)
+        (drives_over D.is_plain D.told left.old left.new right.old right.new) }
     ensures unwritten { WritesNothing result → output.new ≡ output.old }
     ensures not_driven { RunsNothing result → (left.new ≡ left.old) × (right.new ≡ right.old) }
 {
@@ -74,36 +74,32 @@ pub fn run_bridge<S: Source, K: Sink, D: Drive>(
     ensures untouched { Untouched words.now result input.old input.new output.old output.new
         left.old left.new right.old right.new }
     ensures shown { (flag : Flag) → AskFor words.now (Show flag)
-        → Shows flag result (K.held output.old) (K.held output.new)
-        (K.faults output.old) (K.faults output.new) }
+        → WritesText (page_text flag) result
+        (sink_over K.held K.faults output.old output.new) }
     ensures promise { AskFor words.now Run
         → IsTrue (D.is_plain left.old) → IsTrue (D.is_plain right.old) → HasEnded result
-        → KeepsTheBridge result (S.left input.old) (S.left input.new)
-        (K.held output.old) (K.held output.new) }
+        → KeepsTheBridge result (source_over S.left S.faults input.old input.new)
+        (sink_over K.held K.faults output.old output.new) }
     ensures ended { AskFor words.now Run
         → (both : Bool) → ArePlain both (D.is_plain left.old) (D.is_plain right.old)
-        → HasEnded result
-        → Ends both result (S.left input.old) (S.left input.new)
-        (K.held output.old) (K.held output.new)
-        (D.is_plain left.old) (D.told left.old) (D.told left.new)
-        (D.is_plain right.old) (D.told right.old) (D.told right.new) }
+        → HasEnded result → Ends both result (source_over S.left S.faults input.old input.new)
+        (sink_over K.held K.faults output.old output.new)
+        (drives_over D.is_plain D.told left.old left.new right.old right.new) }
     ensures refused { result ≡ Status.Refused
-        → Refuses (S.left input.old) (S.left input.new) (K.held output.old) (K.held output.new) }
+        → Refuses (source_over S.left S.faults input.old input.new)
+        (sink_over K.held K.faults output.old output.new) }
     ensures unread { AskFor words.now Run
-        → IsUnread result (S.left input.old) (S.left input.new)
-        (S.faults input.old) (S.faults input.new) }
+        → IsUnread result (source_over S.left S.faults input.old input.new) }
     ensures write_fault { AskFor words.now Run
         → (both : Bool) → ArePlain both (D.is_plain left.old) (D.is_plain right.old)
         → result ≡ Status.WriteFault
-        → FailsToWrite both (S.left input.old) (S.left input.new)
-        (K.held output.old) (K.held output.new)
-        (K.faults output.old) (K.faults output.new)
-        (D.is_plain left.old) (D.told left.old) (D.told left.new)
-        (D.is_plain right.old) (D.told right.old) (D.told right.new) }
+        → FailsToWrite both (source_over S.left S.faults input.old input.new)
+        (sink_over K.held K.faults output.old output.new)
+        (drives_over D.is_plain D.told left.old left.new right.old right.new) }
     ensures complete { AskFor words.now Run
         → (both : Bool) → ArePlain both (D.is_plain left.old) (D.is_plain right.old)
-        → Completes both result (S.left input.old) (S.faults input.old) (S.faults input.new)
-        (K.faults output.old) (K.faults output.new) }
+        → Completes both result (source_over S.left S.faults input.old input.new)
+        (sink_over K.held K.faults output.old output.new) }
 {
     match form_of(words) {
         Some(Form::Run) => serve(alloc, input, output, apps, left, right),

@@ -1,6 +1,5 @@
 mod Lists
 mod GeneratedIsLawful
-mod Delays
 mod Places
 mod Read
 mod Accepted

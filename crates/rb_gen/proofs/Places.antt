@@ -1,10 +1,9 @@
 -- Which line stands where in the text of a generated scenario.
-use Rattle.std.proofs.{Common.{◌≡◌, ℕ, zero, suc, ◌+◌, ◌-◌, ◌*◌, ◌/◌, ◌%◌, ◌<◌, ◌≤◌, List, [], ◌∷◌, ◌++◌, length, get_or, slice_get, Some, None, append_assoc, refl, sym, ap, ◌∙◌, zero-add, arith}, lemmas.List.{get_or_append_left, get_or-append-add, length-append}, lemmas.List.FromFn.{get_or-map-range_with_len, get_or-range_with_len, length-map-range_with_len, length-range_with_len}, lemmas.Option.{get_or_from_slice_get, slice_get-get_or, slice_get_past}}
+use Rattle.std.proofs.{Common.{◌≡◌, ℕ, zero, suc, ◌+◌, ◌-◌, ◌*◌, ◌/◌, ◌%◌, ◌<◌, ◌≤◌, List, [], ◌∷◌, ◌++◌, length, get_or, slice_get, Some, None, append_assoc, refl, sym, ap, ◌∙◌, zero-add, arith}, lemmas.List.{get_or_append_left, get_or-append-add, length-append}, lemmas.List.FromFn.{get_or-range_with_len, length-map-range_with_len, length-range_with_len}, lemmas.Option.{get_or_from_slice_get, slice_get-get_or, slice_get_past}}
 use Rattle.std.specs.List.{flat_map}
 use Rattle.rb_base.specs.{Counting.numbers, declared.node.NodeName.TheVariants.{Biu, Rmu}}
-use Rattle.rb_rules.specs.{declared.link.Rule.Rule, declared.say.Say.Say, Goodness.Scenario, Links.delay_of}
-use Rattle.rb_gen.specs.{Generated.{IsGenerated, clock_of, drawn_from, receiver_of, rule_of, say_to, scenario_of, sender_of}, Text.{clock_entry, fault_lines, lines_of, link_lines, root_lines, rule_lines, say_lines}}
-use Rattle.rb_gen.proofs.Delays.{delay_drawn}
+use Rattle.rb_rules.specs.{declared.link.Rule.Rule, declared.say.Say.Say, Goodness.Scenario}
+use Rattle.rb_gen.specs.{Generated.{IsGenerated, clock_of, drawn_from, rule_of, say_to, scenario_of}, Text.{clock_entry, fault_lines, lines_of, root_lines, rule_lines, say_lines}}
 
 -- ---- pieces of one length
 
@@ -134,36 +133,19 @@ after_clocks sc is n ge =
     let l = lengths sc is in
     after_root sc n (omega (arith, ge)) ∙ after (clocks_in sc) (behind_clocks sc) (n - 6) (n - 58) [] (omega (arith, ge, l.clocks))
 
--- what is printed of a rule is its link and the delay of that link
-rule_shown : (sc : Scenario) (is : IsGenerated sc) (link : ℕ) (other : Rule) → link < 80
-    → rule_lines (get_or sc.delays.rules link other)
-    ≡ link_lines (sender_of link) (receiver_of link) (delay_of sc.delays (sender_of link) (receiver_of link) (record { frame = 0; slot = 0; stage = 1 }))
-unfolding scenario_of
-rule_shown sc is link other lt =
-    let drawn = drawn_from is.seed in
-    let at : 0 + link ≡ link = omega arith in
-    ap (λ (s : Scenario). rule_lines (get_or s.delays.rules link other)) is.scenario
-    ∙ ap rule_lines (get_or-map-range_with_len (rule_of drawn is.frames) 0 80 link link other lt at)
-    ∙ ap (link_lines (sender_of link) (receiver_of link)) (sym (ap (λ (s : Scenario). delay_of s.delays (sender_of link) (receiver_of link) (record { frame = 0; slot = 0; stage = 1 })) is.scenario
-    ∙ delay_drawn drawn is.frames link lt))
-
-pub at_link : (sc : Scenario) → IsGenerated sc → (n : ℕ) → 58 ≤ n → n < 378
-    → let link = (n - 58) / 4 in
-    get_or (link_lines (sender_of link) (receiver_of link) (delay_of sc.delays (sender_of link) (receiver_of link) (record { frame = 0; slot = 0; stage = 1 }))) ((n - 58) % 4) []
-    ≡ get_or (lines_of sc) n []
-at_link sc is n ge lt =
+pub at_link : (sc : Scenario) → IsGenerated sc → (n : ℕ) (other : Rule) → 58 ≤ n → n < 378
+    → get_or (rule_lines (get_or sc.delays.rules ((n - 58) / 4) other)) ((n - 58) % 4) [] ≡ get_or (lines_of sc) n []
+at_link sc is n other ge lt =
     let i = (n - 58) / 4 in
     let j = (n - 58) % 4 in
     let l = lengths sc is in
     let count = counts sc is in
-    let other = rule_of [] 0 0 in
     let at : n - 58 ≡ 4 * i + j = omega arith in
     let inside : i < 80 = omega (arith, lt) in
     sym (after_clocks sc is n ge
     ∙ get_or_append_left (links_in sc) (behind_links sc) [] (n - 58) (omega (arith, l.links, lt))
     ∙ ap (λ k. get_or (links_in sc) k []) at
-    ∙ piece rule_lines 4 (λ x. refl) sc.delays.rules i j other [] (omega (arith, count.rules, inside)) (omega arith)
-    ∙ ap (λ lines. get_or lines j []) (rule_shown sc is i other inside))
+    ∙ piece rule_lines 4 (λ x. refl) sc.delays.rules i j other [] (omega (arith, count.rules, inside)) (omega arith))
 
 -- from line 378 on the lines are those behind the links
 after_links : (sc : Scenario) → IsGenerated sc → (n : ℕ) → 378 ≤ n → get_or (lines_of sc) n [] ≡ get_or (behind_links sc) (n - 378) []

@@ -55,18 +55,14 @@ named (One name) = name
 named AllBiu = Biu 0
 named AllRmu = Rmu 0
 
--- a link and its delay
-abbrev pub link_lines : NodeName → NodeName → ℕ → List (List ℕ)
-link_lines from to delay =
-    codes "[[link]]\n"
-    ∷ node_line (codes "from") from
-    ∷ node_line (codes "to") to
-    ∷ number_line (codes "delay") delay
-    ∷ []
-
 -- a rule on delays that is for all places
 abbrev pub rule_lines : Rule → List (List ℕ)
-rule_lines rule = link_lines (named rule.from) (named rule.to) rule.delay
+rule_lines rule =
+    codes "[[link]]\n"
+    ∷ node_line (codes "from") (named rule.from)
+    ∷ node_line (codes "to") (named rule.to)
+    ∷ number_line (codes "delay") rule.delay
+    ∷ []
 
 -- the lines of a fault: its node, and the frame and the slot from which on the node is not good
 abbrev pub fault_lines : NodeName → Option (ℕ × ℕ) → List (List ℕ)

@@ -10,10 +10,9 @@ ghost use Rattle.rb_gen.specs.Generated.{clock_of, drawn_from, generated, plan, 
 use crate::draws::Draws;
 use rb_base::{NodeName, OutOfMemory, Shape};
 use rb_clock::Clock;
-use rb_link::Delays;
 use rb_plan::Feasible;
 use rb_rules::{Content, Pattern, Plan, Rule, Say, Version};
-use rb_scenario::{ClockList, SayList, Scenario};
+use rb_scenario::{ClockList, DelayList, SayList, Scenario};
 use std::alloc::Global;
 
 // One for the silence of RMU 4, 11 for starts, 13 for lengths of ticks, 80 for delays.
@@ -122,8 +121,8 @@ fn clocks_of(alloc: Global, drawn: &[u32; DRAWS]) -> Result<Vec<Clock>, OutOfMem
     Ok(clocks)
 }
 
-/// The node from which a link comes.
-pub(crate) fn sender_of(link: usize) -> NodeName
+// The node from which a link comes.
+fn sender_of(link: usize) -> NodeName
     requires { link < LINKS }
     ensures { result ≡ sender_of link }
 {
@@ -134,8 +133,8 @@ pub(crate) fn sender_of(link: usize) -> NodeName
     }
 }
 
-/// The node to which a link goes.
-pub(crate) fn receiver_of(link: usize) -> NodeName
+// The node to which a link goes.
+fn receiver_of(link: usize) -> NodeName
     requires { link < LINKS }
     ensures { result ≡ receiver_of link }
 {
@@ -218,7 +217,6 @@ pub fn generate(alloc: Global, seed: u64, frames: u32) -> Result<Scenario, OutOf
     let drawn = drawn_from(seed);
     let clocks = clocks_of(alloc, &drawn)?;
     let rules = rules_of(alloc, &drawn, frames)?;
-    let delays = Delays::new(alloc, 10000, &rules)?;
     let says = says_of(alloc, frames)?;
     let mut biu_onset = [None; 16];
     biu_onset[7] = Some((frames / 2, 15));
@@ -231,7 +229,7 @@ pub fn generate(alloc: Global, seed: u64, frames: u32) -> Result<Scenario, OutOf
         words: [1, 2, 3, 4, 5, 6, 7, 8, 0, 0, 0, 0, 0, 0, 0, 0],
         apps: [0; 16],
         clocks: ClockList::new(clocks),
-        delays,
+        delays: DelayList::new(10000, rules),
         biu_onset,
         rmu_onset,
         says: SayList::new(says),

@@ -2,22 +2,14 @@
 ghost use Rattle.std.specs.Prelude.{◌≡◌, ◌≤◌, ◌<◌, ◌↔◌, IsNone, [], get_or, length, slice_get, option_map, codes};
 ghost use Rattle.rb_scenario.specs.Acceptance.{as_scenario};
 ghost use Rattle.rb_gen.specs.Generated.{IsGenerated};
-ghost use Rattle.rb_gen.specs.Text.{clock_lines, fault_lines, lines_of, link_lines, named, node_at, node_line, number_line, pair_line, root_lines, say_lines, segment_line, word_said};
+ghost use Rattle.rb_gen.specs.Text.{clock_lines, fault_lines, lines_of, named, node_at, node_line, number_line, pair_line, root_lines, rule_lines, say_lines, segment_line, word_said};
 
-use crate::generator::{receiver_of, sender_of};
 use arrayvec::ArrayString;
 use itoa::Buffer;
-use rb_base::{NodeName, Place};
+use rb_base::NodeName;
 use rb_clock::Clock;
-use rb_rules::{Content, Pattern, Say};
+use rb_rules::{Content, Pattern, Rule, Say};
 use rb_scenario::Scenario;
-
-// A link has one delay in all places.
-const FIRST: Place = Place {
-    frame: 0,
-    slot: 0,
-    stage: 1,
-};
 
 fn text_line(text: &str) -> ArrayString<64>
     requires { length text.now ≤ 64 }
@@ -122,15 +114,15 @@ fn clock_line(node: NodeName, clock: &Clock, part: usize) -> ArrayString<64>
     }
 }
 
-fn link_line(from: NodeName, to: NodeName, delay: u32, part: usize) -> ArrayString<64>
+fn rule_line(rule: &Rule, part: usize) -> ArrayString<64>
     requires { part < 4 }
-    ensures bytes { result.bytes ≡ get_or (link_lines from to delay) part [] }
+    ensures bytes { result.bytes ≡ get_or (rule_lines rule.now) part [] }
 {
     match part {
         0 => text_line("[[link]]\n"),
-        1 => node_line("from", from),
-        2 => node_line("to", to),
-        _ => number_line("delay", u64::from(delay)),
+        1 => node_line("from", named(rule.from)),
+        2 => node_line("to", named(rule.to)),
+        _ => number_line("delay", u64::from(rule.delay)),
     }
 }
 
@@ -209,10 +201,8 @@ pub fn line(scenario: &Scenario, n: usize) -> Option<ArrayString<64>>
         let clock = scenario.clocks.get(node);
         Some(clock_line(node_at(node), clock, (n - 6) % 4))
     } else if n < 378 {
-        let link = (n - 58) / 4;
-        let (from, to) = (sender_of(link), receiver_of(link));
-        let delay = scenario.delays.delay(from, to, FIRST);
-        Some(link_line(from, to, delay, (n - 58) % 4))
+        let rule = scenario.delays.rules()[(n - 58) / 4];
+        Some(rule_line(&rule, (n - 58) % 4))
     } else if n < 382 {
         Some(fault_line(NodeName::Biu(7), scenario.biu_onset[7], n - 378))
     } else if n < 386 {

@@ -1,5 +1,3 @@
-pub mod Written
-pub mod Plain
 pub mod Scopes
 pub mod Beyond
 pub mod Held

@@ -26,3 +26,8 @@ pub record IsScopeOf (sc : Scenario) (scope : Scope) : Type 0 where
 pub record HoldsFrame (frames : ℕ) (asked : Asked) (records : List Record) (ports : Ports) : Type 0 where
   pub frame_is : ports.frame ≡ reached frames records
   pub groups_hold : HoldPortions asked.members (λ i. port_deliveries ports.frame i records) ports.groups
+
+-- the ports hold what these records of a run of the scenario tell, and the scope is its own
+pub record HasTold (sc : Scenario) (records : List Record) (scope : Scope) (asked : Asked) (ports : Ports) : Type 0 where
+  pub scope_is : IsScopeOf sc scope
+  pub holds : HoldsFrame sc.frames asked records ports

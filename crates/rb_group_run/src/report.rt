@@ -1,38 +1,20 @@
 //! What turns say of a group, written a line at a time.
 ghost use Rattle.std.specs.Prelude.{◌≡◌, ℕ, ◌<◌, List, [], if◌then◌else◌};
-ghost use Rattle.rb_base.specs.Nodes.Side.{Biu};
 ghost use Rattle.rb_base.specs.declared.values.Delivery.{Delivery};
 ghost use Rattle.rb_world_book.specs.Records.{record_of};
 ghost use Rattle.rb_outside.specs.Causes.{HasCause};
 ghost use Rattle.rb_outside.specs.Writing.{Writes};
 ghost use Rattle.rb_report.specs.Report.{group_text};
 ghost use Rattle.rb_rules.specs.Book.{Record};
-ghost use Rattle.rb_rules.specs.Goodness.{Scenario, is_good};
+ghost use Rattle.rb_rules.specs.Goodness.{Scenario};
 ghost use Rattle.rb_group_run.specs.Holding.{HoldPortions, HoldsFrame, IsScopeOf};
-ghost use Rattle.rb_group_run.specs.Replies.{ending_in, frame_text, last_data_slot, port_text, turn_text, value_found};
+ghost use Rattle.rb_group_run.specs.Replies.{ending_in, frame_text, port_text, turn_text, value_found};
 
-use crate::asked::{Query, Scope};
+use crate::asked::Query;
 use crate::ports::{Ports, find, frame_or};
-use rb_base::{NodeName, Shape};
 use rb_outside::{Failed, Sink, write_line};
 use rb_report::{breach_line, end_line, group_line};
 use rb_world_book::Turn;
-
-// The number of the last data slot.
-fn last_data_slot(shape: &Shape) -> u16
-    ensures { result ≡ last_data_slot shape.now }
-{
-    u16::from(shape.biu()) + shape.slots() - 1
-}
-
-// Whether the BIU is good in the last data slot of a frame.
-fn is_good_at_last(scope: &Scope, frame: u32, port: u8) -> bool
-    ensures { (sc : Scenario) → IsScopeOf sc scope.now
-        → result ≡ is_good sc Biu port frame (last_data_slot sc.sizes) }
-{
-    let slot = last_data_slot(&scope.shape);
-    scope.onsets.is_good(NodeName::Biu(port), frame, slot)
-}
 
 // Writes the value that a port finds.
 fn write_value<K: Sink>(
@@ -66,7 +48,7 @@ fn write_port<K: Sink>(
         (port_text sc ports.now.frame (value_found query.now.asked.now told) port) }
     ensures cause { HasCause (K.faults output.old) (K.faults output.new) result }
 {
-    if is_good_at_last(query.scope, ports.frame, port) {
+    if query.scope.is_good_at_last(ports.frame, port) {
         write_value(ports, port, query, output)
     } else {
         Ok(())
@@ -119,12 +101,12 @@ fn write_ending<K: Sink>(turn: &Turn, frames: u32, output: &mut K) -> Result<(),
     }
 }
 
-/// Writes what a turn says: with the first turn of a later frame, for each BIU that is good in the
-/// last data slot of this frame, the value that it finds; and `end` or `breach`. The ports must be
-/// as all turns before this one left them. A breach leaves the values of its frame out. Each write
-/// asks for the rest of one line. `Failed` is the answer only if a write failed; a first part of
-/// the text has then been written.
-pub fn write_turn<K: Sink>(
+// Writes what a turn says: with the first turn of a later frame, for each BIU that is good in the
+// last data slot of this frame, the value that it finds; and `end` or `breach`. The ports must be
+// as all turns before this one left them. A breach leaves the values of its frame out. Each write
+// asks for the rest of one line. `Failed` is the answer only if a write failed; a first part of
+// the text has then been written.
+pub(crate) fn write_turn<K: Sink>(
     turn: &Turn,
     ports: &Ports,
     query: &Query<'_>,

@@ -1,10 +1,10 @@
 -- The index: the places of the rules of each pair, pair by pair, and where those of each pair
 -- begin.
-use Rattle.std.proofs.{Common.{◌≡◌, ℕ, zero, suc, ◌+◌, ◌-◌, ◌<◌, length, get_or, take, Bool, true, false, cond, List, [], ◌∷◌, ◌++◌, Option, Some, None, reverse, filter, slice_get, refl, sym, ap, subst, inl, inr, ◌∙◌, add-one, append_assoc, arith, length-append, length-take-le}, Math.Seq.{drop-append_seam, get_or-append_seam, take-append_seam}, lemmas.List.{append-nil, get_or_append_left, reverse-append, take_more}, lemmas.Bool.cases_lt, lemmas.List.Elements.filter_map-append, lemmas.Option.slice_get-get_or}
-use Rattle.std.specs.List.{cons_option, filter_map, find, slice_index, slice_range}
-use Rattle.rb_base.specs.{declared.node.NodeName.NodeName, declared.values.Place.Place}
-use Rattle.rb_rules.specs.{declared.link.Rule.Rule, Links.{covers, delay_after}}
-use Rattle.rb_link.specs.Pairs.{IsIndex, delay_or, is_between, places_for, places_from, places_of, receiver_of, sender_of}
+use Rattle.std.proofs.{Common.{◌≡◌, ℕ, zero, suc, ◌+◌, ◌-◌, ◌/◌, ◌%◌, ◌<◌, nat_lt, ◌&&◌, if◌then◌else◌, length, get_or, take, Bool, true, false, cond, List, [], ◌∷◌, ◌++◌, Option, Some, None, reverse, filter, slice_get, refl, sym, ap, subst, inl, inr, ◌∙◌, add-one, append_assoc, arith, length-append, length-take-le}, Math.Seq.{drop-append_seam, get_or-append_seam, take-append_seam}, lemmas.Bool.Decides.nat_tests, lemmas.List.{append-nil, get_or_append_left, reverse-append, take_more}, lemmas.Bool.cases_lt, lemmas.List.Elements.{filter-append, filter_map-append}, lemmas.List.Folds.find-append, lemmas.Option.slice_get-get_or}
+use Rattle.std.specs.{List.{cons_option, filter_map, find, slice_index, slice_range}, Option.option_or}
+use Rattle.rb_base.specs.{declared.node.NodeName.NodeName, declared.node.NodeName.TheVariants.{Biu, Rmu}, declared.values.Place.Place}
+use Rattle.rb_rules.specs.{declared.link.Rule.Rule, Links.{covers, delay_after, stands_for}}
+use Rattle.rb_link.specs.Pairs.{IsIndex, delay_or, is_between, is_from, is_to, places_for, places_from, places_of, places_sent, receiver_of, sender_of}
 use Rattle.rb_link.proofs.LastRules.{last_of_pair}
 
 -- ---- places
@@ -81,14 +81,54 @@ starts_below zero rules = []
 starts_below (suc n) rules = starts_below n rules ++ length (places_below n rules) ∷ []
 
 -- one more rule was looked at, and its place added if it passes
-pub one_more : (before all : List ℕ) (p : Rule → Bool) (xs : List Rule) (i : ℕ) (d : Rule) (passes : Bool) → i < length xs
-    → all ≡ before ++ places_from 0 p (take i xs) → passes ≡ p (get_or xs i d)
-    → all ++ cond passes (i ∷ []) [] ≡ before ++ places_from 0 p (take (i + 1) xs)
-one_more before all p xs i d passes lt is by =
+pub one_more : (all : List ℕ) (p : Rule → Bool) (xs : List Rule) (i : ℕ) (d : Rule) (passes : Bool) → i < length xs
+    → all ≡ places_from 0 p (take i xs) → passes ≡ p (get_or xs i d) → all ++ cond passes (i ∷ []) [] ≡ places_from 0 p (take (i + 1) xs)
+one_more all p xs i d passes lt is by =
     ap (λ l. l ++ cond passes (i ∷ []) []) is
-    ∙ append_assoc before (places_from 0 p (take i xs)) (cond passes (i ∷ []) [])
-    ∙ ap (λ b. before ++ (places_from 0 p (take i xs) ++ cond b (i ∷ []) [])) by
-    ∙ ap (λ l. before ++ l) (sym (places_from-more p xs i d lt))
+    ∙ ap (λ b. places_from 0 p (take i xs) ++ cond b (i ∷ []) []) by
+    ∙ sym (places_from-more p xs i d lt)
+
+-- one more number was looked at, and kept if it passes
+pub one_kept : (before all : List ℕ) (p : ℕ → Bool) (xs : List ℕ) (i : ℕ) (passes : Bool) → i < length xs
+    → all ≡ before ++ filter p (take i xs) → passes ≡ p (get_or xs i 0)
+    → all ++ cond passes (get_or xs i 0 ∷ []) [] ≡ before ++ filter p (take (i + 1) xs)
+one_kept before all p xs i passes lt is by =
+    ap (λ l. l ++ cond passes (get_or xs i 0 ∷ []) []) is
+    ∙ append_assoc before (filter p (take i xs)) (cond passes (get_or xs i 0 ∷ []) [])
+    ∙ ap (λ b. before ++ (filter p (take i xs) ++ cond b (get_or xs i 0 ∷ []) [])) by
+    ∙ ap (λ l. before ++ l) (sym (ap (filter p) (take_more xs i 0 lt) ∙ filter-append p (take i xs) (get_or xs i 0 ∷ [])))
+
+-- the rules of a pair are those of its sender that are for messages to its receiver
+kept_of_sent : (before rest : List Rule) (from to : NodeName)
+    → filter (λ n. is_to to (slice_get (before ++ rest) n)) (places_from (length before) (is_from from) rest) ≡ places_from (length before) (is_between from to) rest
+kept_of_sent before [] from to = refl
+kept_of_sent before (r ∷ rest) from to =
+    let joined : (before ++ r ∷ []) ++ rest ≡ before ++ r ∷ rest = append_assoc before (r ∷ []) rest in
+    let many : length (before ++ r ∷ []) ≡ length before + 1 = omega (arith, length-append before (r ∷ [])) in
+    let passes : ℕ → Bool = λ n. is_to to (slice_get (before ++ r ∷ rest) n) in
+    let later : filter passes (places_from (length before + 1) (is_from from) rest) ≡ places_from (length before + 1) (is_between from to) rest =
+    subst (λ m. filter passes (places_from m (is_from from) rest) ≡ places_from m (is_between from to) rest) many
+    (subst (λ l. filter (λ n. is_to to (slice_get l n)) (places_from (length (before ++ r ∷ [])) (is_from from) rest)
+    ≡ places_from (length (before ++ r ∷ [])) (is_between from to) rest) joined (kept_of_sent (before ++ r ∷ []) rest from to)) in
+    elim (stands_for r.from from) as (λ b. filter passes (cond b (length before ∷ places_from (length before + 1) (is_from from) rest) (places_from (length before + 1) (is_from from) rest))
+    ≡ cond (b && stands_for r.to to) (length before ∷ places_from (length before + 1) (is_between from to) rest) (places_from (length before + 1) (is_between from to) rest)) [
+      | true ↦ ap (λ o. cond (is_to to o) (length before ∷ filter passes (places_from (length before + 1) (is_from from) rest)) (filter passes (places_from (length before + 1) (is_from from) rest)))
+          (rule_at_seam before rest r)
+          ∙ ap (λ l. cond (stands_for r.to to) (length before ∷ l) l) later
+      | false ↦ later
+    ]
+
+-- two pairs of one sender
+sender_stays : (pair : ℕ) → ((pair + 1) % 16 ≡ 0 → ⊥) → sender_of (pair + 1) ≡ sender_of pair
+sender_stays pair more =
+    let same : (pair + 1) / 16 ≡ pair / 16 = omega arith in
+    let tests : nat_lt (pair + 1) 256 ≡ nat_lt pair 256 = grind (arith, nat_tests) in
+    ap (λ n. if nat_lt (pair + 1) 256 then Biu n else Rmu (n - 16)) same ∙ ap (λ b. if b then Biu (pair / 16) else Rmu (pair / 16 - 16)) tests
+
+pub sent_stays : (pair : ℕ) (rules : List Rule) (sent : List ℕ) → sent ≡ places_sent pair rules → ((pair + 1) % 16 ≡ 0 → ⊥)
+    → sent ≡ places_sent (pair + 1) rules
+unfolding places_sent
+sent_stays pair rules sent is more = is ∙ ap (λ from. places_from 0 (is_from from) rules) (sym (sender_stays pair more))
 
 -- the places of the first `n` pairs are the first of those of more pairs
 rest_below : (n more : ℕ) (rules : List Rule) → (rest : List ℕ) × (places_below (n + more) rules ≡ places_below n rules ++ rest)
@@ -177,11 +217,14 @@ one_start_more n rules starts places is there =
     ∙ ap (λ l. starts_below n rules ++ length l ∷ []) there
     ∙ ap (λ m. starts_below m rules) (sym (add-one n))
 
-pub its_places_more : (n : ℕ) (rules : List Rule) (places : List ℕ) (from to : NodeName) → places ≡ places_below n rules
-    → from ≡ sender_of n → to ≡ receiver_of n → places ++ places_from 0 (is_between from to) rules ≡ places_below (n + 1) rules
-its_places_more n rules places from to there sender receiver =
-    ap (λ l. l ++ places_from 0 (is_between from to) rules) there
-    ∙ ap (λ l. places_below n rules ++ l) (sym (places_for-is n rules from to (sym sender) (sym receiver)))
+pub its_places_more : (n : ℕ) (rules : List Rule) (places sent : List ℕ) (to : NodeName) → places ≡ places_below n rules
+    → sent ≡ places_sent n rules → to ≡ receiver_of n → places ++ filter (λ number. is_to to (slice_get rules number)) sent ≡ places_below (n + 1) rules
+unfolding places_sent
+its_places_more n rules places sent to there is receiver =
+    ap (λ l. places ++ filter (λ number. is_to to (slice_get rules number)) l) is
+    ∙ ap (λ l. places ++ l) (kept_of_sent [] rules (sender_of n) to)
+    ∙ ap (λ l. l ++ places_from 0 (is_between (sender_of n) to) rules) there
+    ∙ ap (λ l. places_below n rules ++ l) (sym (places_for-is n rules (sender_of n) to refl (sym receiver)))
     ∙ sym (below-suc n rules)
     ∙ ap (λ m. places_below m rules) (sym (add-one n))
 
@@ -198,6 +241,17 @@ index_whole n rules starts places is there =
 pub index_of_none : (rules : List Rule) → IsIndex rules [] []
 index_of_none rules = record { each = λ pair lt. absurd (omega arith) }
 
+-- the numbers of the pair are those of its rules
+its_rules : (pair : ℕ) (rules : List Rule) (starts places found : List ℕ) (from to : NodeName) → IsIndex rules starts places → pair + 1 < length starts
+    → found ≡ places_of starts places pair → sender_of pair ≡ from → receiver_of pair ≡ to
+    → filter_map (slice_get rules) (reverse found) ≡ reverse (filter (is_between from to) rules)
+its_rules pair rules starts places found from to index within is sender receiver =
+    let passes : Rule → Bool = is_between from to in
+    let same : found ≡ places_from 0 passes rules = is ∙ index.each pair within ∙ places_for-is pair rules from to sender receiver in
+    ap (λ l. filter_map (slice_get rules) (reverse l)) same
+    ∙ filter_map-reverse (slice_get rules) (places_from 0 passes rules)
+    ∙ ap reverse (read_from [] rules passes)
+
 -- the last rule among those of the pair is the last that applies
 pub last_by_index : (base pair : ℕ) (rules : List Rule) (starts places found : List ℕ) (from to : NodeName) (place : Place)
     → IsIndex rules starts places → pair + 1 < length starts → found ≡ places_of starts places pair
@@ -205,11 +259,32 @@ pub last_by_index : (base pair : ℕ) (rules : List Rule) (starts places found :
     → delay_or base (find (λ rule. covers rule.frames rule.slots rule.stages place) (filter_map (slice_get rules) (reverse found)))
     ≡ delay_after base rules from to place
 last_by_index base pair rules starts places found from to place index within is sender receiver =
-    let here : Rule → Bool = λ rule. covers rule.frames rule.slots rule.stages place in
-    let passes : Rule → Bool = is_between from to in
-    let same : found ≡ places_from 0 passes rules = is ∙ index.each pair within ∙ places_for-is pair rules from to sender receiver in
-    ap (λ l. delay_or base (find here l))
-    (ap (λ l. filter_map (slice_get rules) (reverse l)) same
-    ∙ filter_map-reverse (slice_get rules) (places_from 0 passes rules)
-    ∙ ap reverse (read_from [] rules passes))
+    ap (λ l. delay_or base (find (λ rule. covers rule.frames rule.slots rule.stages place) l))
+    (its_rules pair rules starts places found from to index within is sender receiver)
     ∙ last_of_pair base rules from to place
+
+or_none : (o : Option Rule) → option_or o None ≡ o
+or_none (Some r) = refl
+or_none None = refl
+
+-- the last rule that passes is the last of those that pass
+last_kept : (p : Rule → Bool) (rules : List Rule) → find (λ _. true) (reverse (filter p rules)) ≡ find p (reverse rules)
+last_kept p [] = refl
+last_kept p (r ∷ rs) =
+    let found : find p (reverse (r ∷ rs)) ≡ option_or (find p (reverse rs)) (cond (p r) (Some r) None) =
+    ap (find p) (reverse-append (r ∷ []) rs) ∙ find-append p (reverse rs) (r ∷ []) in
+    elim (p r) as (λ b. find (λ _. true) (reverse (cond b (r ∷ filter p rs) (filter p rs))) ≡ option_or (find p (reverse rs)) (cond b (Some r) None)) [
+      | true ↦ ap (find (λ _. true)) (reverse-append (r ∷ []) (filter p rs))
+          ∙ find-append (λ _. true) (reverse (filter p rs)) (r ∷ [])
+          ∙ ap (λ o. option_or o (Some r)) (last_kept p rs)
+      | false ↦ last_kept p rs ∙ sym (or_none (find p (reverse rs)))
+    ]
+    ∙ sym found
+
+-- the last rule by the numbers of the pair is the last rule of the pair
+pub latest_by_index : (pair : ℕ) (rules : List Rule) (starts places found : List ℕ) → IsIndex rules starts places → pair + 1 < length starts
+    → found ≡ places_of starts places pair
+    → find (λ _. true) (filter_map (slice_get rules) (reverse found)) ≡ find (is_between (sender_of pair) (receiver_of pair)) (reverse rules)
+latest_by_index pair rules starts places found index within is =
+    ap (find (λ _. true)) (its_rules pair rules starts places found (sender_of pair) (receiver_of pair) index within is refl refl)
+    ∙ last_kept (is_between (sender_of pair) (receiver_of pair)) rules

@@ -1,7 +1,16 @@
 -- The rules by the pair of nodes that they are for.
-use Rattle.std.specs.{Prelude.{ℕ, ◌≡◌, ◌+◌, ◌-◌, ◌/◌, ◌%◌, ◌<◌, nat_lt, ◌&&◌, Bool, cond, if◌then◌else◌, List, [], ◌∷◌, length, reverse, slice_get, slice_index, slice_range, Option, Some, None}, List.find}
+use Rattle.std.specs.{Prelude.{ℕ, ◌≡◌, ◌+◌, ◌-◌, ◌/◌, ◌%◌, ◌<◌, nat_lt, ◌&&◌, Bool, false, cond, if◌then◌else◌, List, [], ◌∷◌, length, reverse, slice_get, slice_index, slice_range, Option, Some, None}, List.find}
 use Rattle.rb_base.specs.{declared.node.NodeName.NodeName, declared.node.NodeName.TheVariants.{Biu, Rmu}}
 use Rattle.rb_rules.specs.{declared.link.Pattern.TheVariants.One, declared.link.Rule.Rule, Links.stands_for}
+
+-- the rule is for messages from the node
+abbrev pub is_from : NodeName → Rule → Bool
+is_from from rule = stands_for rule.from from
+
+-- there is a rule, and it is for messages to the node
+abbrev pub is_to : NodeName → Option Rule → Bool
+is_to to None = false
+is_to to (Some rule) = stands_for rule.to to
 
 -- the rule is for messages from the one node to the other
 abbrev pub is_between : NodeName → NodeName → Rule → Bool
@@ -23,6 +32,10 @@ places_from n passes (r ∷ rs) = cond (passes r) (n ∷ places_from (n + 1) pas
 -- the places of the rules for the messages of this pair, in order
 unfoldable pub places_for : ℕ → List Rule → List ℕ
 places_for pair rules = places_from 0 (is_between (sender_of pair) (receiver_of pair)) rules
+
+-- the places of the rules for the messages from the sender of this pair, in order
+unfoldable pub places_sent : ℕ → List Rule → List ℕ
+places_sent pair rules = places_from 0 (is_from (sender_of pair)) rules
 
 -- the places that stand between the starts of this pair and of the next
 abbrev pub places_of : List ℕ → List ℕ → ℕ → List ℕ

@@ -1,11 +1,11 @@
 //! How long each message of a bus is on its way. Rules on delays are this project's own.
 #![tactic(auto)]
 
-ghost use Rattle.std.specs.Prelude.{◌≡◌, ℕ, List, ◌+◌, ◌<◌, ◌≤◌, ◌++◌, ◌∷◌, [], cond, IfOk, IfSome, IsTrue, if◌then◌else◌, length, reverse, slice_get};
+ghost use Rattle.std.specs.Prelude.{◌≡◌, ℕ, List, ◌+◌, ◌<◌, ◌≤◌, ◌++◌, ◌∷◌, [], ◌%◌, cond, IfOk, IfSome, IsTrue, if◌then◌else◌, length, reverse, slice_get, true};
 ghost use Rattle.rb_rules.specs.declared.link.Rule.{Rule as KeptRule};
-ghost use Rattle.std.specs.List.{filter_map, find};
+ghost use Rattle.std.specs.List.{filter, filter_map, find};
 ghost use Rattle.rb_rules.specs.Links.{applies, covers, delay_after, delay_of, is_in_range, same_node, stands_for};
-ghost use Rattle.rb_link.specs.Pairs.{AreLatest, IsIndex, IsLatest, delay_or, is_between, places_from, places_of, receiver_of, sender_of};
+ghost use Rattle.rb_link.specs.Pairs.{AreLatest, IsIndex, delay_or, is_between, is_from, is_to, places_from, places_of, places_sent, receiver_of, rule_or_base, sender_of};
 ghost use Rattle.rb_link.specs.Rows.{IsRow, has_row};
 
 mod rows;
@@ -67,33 +67,76 @@ impl Index {
         if rules.len() > NUMBERED {
             return Ok(Index { starts, places });
         }
+        let mut sent = Vec::new(alloc);
         for pair in 0..PAIRS {
+            sent = sent_by(alloc, sent, rules, pair)?;
             add_start(&mut starts, &places)?;
-            add_places(&mut places, rules, sender_of(pair), receiver_of(pair))?;
+            add_places(&mut places, rules, &sent, receiver_of(pair))?;
         }
         add_start(&mut starts, &places)?;
         Ok(Index { starts, places })
     }
 }
 
-// The numbers of the rules that are for messages from the one node to the other come behind those
-// that are there.
+// The numbers of the rules for messages from the pair's sender. The pairs of a sender are together,
+// so only the first of them looks for these rules.
+fn sent_by(
+    alloc: Global,
+    sent: Vec<u16>,
+    rules: &[Rule],
+    pair: u16,
+) -> Result<Vec<u16>, OutOfMemory>
+    requires few { length rules.now ≤ NUMBERED }
+    requires pair { pair < PAIRS }
+    requires kept { (pair % 16 ≡ 0 → ⊥) → sent.items ≡ places_sent pair rules.now }
+    ensures { IfOk result (λ sent. sent.items ≡ places_sent pair rules.now) }
+{
+    if pair % 16 == 0 {
+        places_from(alloc, rules, sender_of(pair))
+    } else {
+        Ok(sent)
+    }
+}
+
+// The numbers of the rules for messages from the node.
+fn places_from(alloc: Global, rules: &[Rule], from: NodeName) -> Result<Vec<u16>, OutOfMemory>
+    requires { length rules.now ≤ NUMBERED }
+    ensures { IfOk result (λ sent. sent.items ≡ places_from 0 (is_from from) rules.now) }
+{
+    let mut sent = Vec::new(alloc);
+    let mut number: usize = 0;
+    for rule in rules {
+        add_if(&mut sent, stands_for(rule.from, from), number as u16)?;
+        number += 1;
+    }
+    Ok(sent)
+}
+
+// The numbers of the sender's rules that are for messages to the node come behind those that are
+// there.
 fn add_places(
     places: &mut Vec<u16>,
     rules: &[Rule],
-    from: NodeName,
+    sent: &[u16],
     to: NodeName,
 ) -> Result<(), OutOfMemory>
-    requires { length rules.now ≤ NUMBERED }
     ensures { IfOk result (λ _. places.new.items
-        ≡ places.old.items ++ places_from 0 (is_between from to) rules.now) }
+        ≡ places.old.items ++ filter (λ number. is_to to (slice_get rules.now number)) sent.now) }
 {
-    let mut number: usize = 0;
-    for rule in rules {
-        add_if(places, is_between(rule, from, to), number as u16)?;
-        number += 1;
+    for number in sent {
+        add_if(places, is_to(rule_at(rules, *number), to), *number)?;
     }
     Ok(())
+}
+
+// Whether it is a rule for messages to the node.
+fn is_to(rule: Option<Rule>, to: NodeName) -> bool
+    ensures { result ≡ is_to to rule }
+{
+    match rule {
+        Some(rule) => stands_for(rule.to, to),
+        None => false,
+    }
 }
 
 // The next pair begins at the end of the places that are there.
@@ -154,7 +197,7 @@ impl Delays {
         ensures { IfOk result (λ d. d ≡ record { base = base; rules = rules.now }) }
     {
         let index = Index::new(alloc, rules)?;
-        let latest = latest_rules(alloc, base, rules)?;
+        let latest = latest_rules(alloc, base, rules, &index)?;
         let shared = shared_ranges(alloc, &latest)?;
         let flat = flat_delays(alloc, &latest)?;
         let rules = Vec::from_slice(alloc, rules)?;
@@ -253,34 +296,65 @@ fn is_empty(rules: &[Rule]) -> bool
 }
 
 // The latest rule of each pair.
-fn latest_rules(alloc: Global, base: u32, rules: &[Rule]) -> Result<Vec<Rule>, OutOfMemory>
+fn latest_rules(
+    alloc: Global,
+    base: u32,
+    rules: &[Rule],
+    index: &Index,
+) -> Result<Vec<Rule>, OutOfMemory>
+    requires { IsIndex rules.now index.now.starts.items index.now.places.items }
     ensures latest { IfOk result (λ latest. AreLatest base rules.now latest.items) }
     ensures many { IfOk result (λ latest. length latest.items ≡ PAIRS) }
 {
     let mut latest = Vec::with_capacity(alloc, usize::from(PAIRS))?;
     for pair in 0..PAIRS {
-        let rule = latest_rule(base, rules, sender_of(pair), receiver_of(pair));
+        let found = last_of(rules, &index.starts, &index.places, pair);
+        let rule = latest_rule(base, found, pair);
         add(&mut latest, rule)?;
     }
     Ok(latest)
 }
 
-// The last of the rules that is for messages from the one node to the other. If there is none it is
-// one for all places, with the base as its delay.
-fn latest_rule(base: u32, rules: &[Rule], from: NodeName, to: NodeName) -> Rule
-    ensures { IsLatest base rules.now from to result }
+// The rule that was found for the pair, else one for all places with the base as its delay.
+fn latest_rule(base: u32, found: Option<Rule>, pair: u16) -> Rule
+    requires { pair < PAIRS }
+    ensures { result ≡ rule_or_base base (sender_of pair) (receiver_of pair) found }
 {
-    match last_between(rules, from, to) {
+    match found {
         Some(rule) => rule,
         None => Rule {
-            from: Pattern::One(from),
-            to: Pattern::One(to),
+            from: Pattern::One(sender_of(pair)),
+            to: Pattern::One(receiver_of(pair)),
             frames: (0, u32::MAX),
             slots: (0, u16::MAX),
             stages: (0, u8::MAX),
             delay: base,
         },
     }
+}
+
+// The last of the rules of the pair.
+fn last_of(rules: &[Rule], starts: &[usize], places: &[u16], pair: u16) -> Option<Rule>
+    requires pair { pair < PAIRS }
+    requires index { IsIndex rules.now starts.now places.now }
+    ensures { result ≡ find (is_between (sender_of pair) (receiver_of pair)) (reverse rules.now) }
+{
+    match places_of(starts, places, pair) {
+        Some(places) => last_among(rules, places),
+        None => last_between(rules, sender_of(pair), receiver_of(pair)),
+    }
+}
+
+// The last of the rules with these numbers.
+fn last_among(rules: &[Rule], places: &[u16]) -> Option<Rule>
+    ensures { result ≡ find (λ _. true) (filter_map (slice_get rules.now) (reverse places.now)) }
+{
+    places
+        .iter()
+        .rev()
+        .copied()
+        .filter_map(|number| rule_at(rules, number))
+        .find(|_| true)
 }
 
 fn last_between(rules: &[Rule], from: NodeName, to: NodeName) -> Option<Rule>

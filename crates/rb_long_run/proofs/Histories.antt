@@ -3,13 +3,7 @@ use Rattle.std.proofs.{Common.{◌≡◌, ℕ, ◌<◌, ◌==◌, ◌⊎◌, inl
 use Rattle.rb_base.specs.declared.values.Heard.{Heard}
 use Rattle.rb_rules.specs.declared.record.SlotLine.{SlotLine}
 use Rattle.rb_long.specs.{Delivered.{is_from, is_named, letter_with, open_at, values_of}, Reading.{OpenLetter, open_after, with_value}}
-use Rattle.rb_long_run.specs.{Hearing.{Open, letter_of, lines_text, read_of, with_line, with_lines}, Reports.{given_text, slot_text}}
-
--- each receiver holds of each sender the letter that is open after the deliveries `past`
-pub record Hears (all : Open) (past : List SlotLine) : Type 0 where
-  pub many : length all ≡ 16
-  pub each : (r : ℕ) → r < 16 → length (get_or all r []) ≡ 16
-  pub known : (r s : ℕ) → r < 16 → s < 16 → get_or (get_or all r []) s None ≡ open_at r s past
+use Rattle.rb_long_run.specs.{Hearing.{Hears, Open, letter_of, lines_text, read_of, with_line, with_lines}, Reports.{given_text, slot_text}}
 
 -- at first nothing is heard
 pub none-heard : Hears (replicate 16 (replicate 16 None)) []

@@ -1,14 +1,12 @@
--- The text of one turn more.
+-- The text of one record more.
 use Rattle.std.proofs.{Common.{◌≡◌, ℕ, List, [], ◌∷◌, ◌++◌, Option, Some, None, refl, sym, ap, ◌∙◌, append_assoc, subst}, lemmas.List.append-nil}
 use Rattle.std.specs.Option.{option_to_list}
 use Rattle.rb_rules.specs.{declared.record.SlotLine.SlotLine, Book.Record, Book.Record.{Frame, Slot, Ended, Breach}}
-use Rattle.rb_world_book.specs.{Records.record_of, declared.turn.Turn.Turn}
-use Rattle.rb_long_run.specs.{Hearing.Open, Reports.{letters_after, slot_text}, Texts.{letters_text, open_with, turn_text}}
-use Rattle.rb_long_run.proofs.Histories.{Hears, hears-all, slot-same}
+use Rattle.rb_long_run.specs.{Hearing.{Hears, Open}, Reports.{letters_after, letters_report, slot_text}, Texts.{open_with, turn_text}}
+use Rattle.rb_long_run.proofs.Histories.{hears-all, slot-same}
 use Rattle.rb_long.specs.Delivered.{deliveries_in, lines_in}
 use Rattle.rb_report.specs.Report.{breach_text, end_text}
-use Rattle.rb_run.specs.{Reports.newest_after, Turns.records_in}
-use Rattle.rb_run.proofs.Texts.{records-more}
+use Rattle.rb_run.specs.Reports.{newest_after}
 
 -- the lines of a record, if there is one
 abbrev lines-of : Option Record → List SlotLine
@@ -16,7 +14,7 @@ lines-of None = []
 lines-of (Some r) = lines_in r
 
 -- the text of two parts of the records is that of the first, and then that of the second
-pub text-of-parts : (n : ℕ) (past : List SlotLine) (xs ys : List Record)
+text-of-parts : (n : ℕ) (past : List SlotLine) (xs ys : List Record)
     → letters_after n past (xs ++ ys) ≡ letters_after n past xs ++ letters_after (newest_after n xs) (past ++ deliveries_in xs) ys
 text-of-parts n past [] ys = ap (λ lines. letters_after n lines ys) (sym (append-nil past))
 text-of-parts n past (Frame frame nodes ports ∷ xs) ys = text-of-parts frame past xs ys
@@ -35,13 +33,12 @@ turn-same n all past (Some (Slot frame slot lines)) is = slot-same frame slot al
 turn-same n all past (Some Ended) is = sym (append-nil (end_text n))
 turn-same n all past (Some (Breach place cause)) is = sym (append-nil (breach_text place cause))
 
--- the text of some turns and one more
-pub text-more : (turns : List Turn) (t : Turn) (all : Open) → Hears all (deliveries_in (records_in turns))
-    → letters_text (turns ++ t ∷ []) ≡ letters_text turns ++ turn_text (newest_after 0 (records_in turns)) all (record_of t)
-text-more turns t all is =
-    ap (letters_after 0 []) (records-more turns t)
-    ∙ text-of-parts 0 [] (records_in turns) (option_to_list (record_of t))
-    ∙ ap (λ x. letters_text turns ++ x) (sym (turn-same (newest_after 0 (records_in turns)) all (deliveries_in (records_in turns)) (record_of t) is))
+-- the text of some records and one more
+pub text-more : (records : List Record) (o : Option Record) (all : Open) → Hears all (deliveries_in records)
+    → letters_report (records ++ option_to_list o) ≡ letters_report records ++ turn_text (newest_after 0 records) all o
+text-more records o all is =
+    text-of-parts 0 [] records (option_to_list o)
+    ∙ ap (λ x. letters_report records ++ x) (sym (turn-same (newest_after 0 records) all (deliveries_in records) o is))
 
 deliveries-with : (rs : List Record) (o : Option Record) → deliveries_in (rs ++ option_to_list o) ≡ deliveries_in rs ++ lines-of o
 deliveries-with [] None = refl
@@ -55,7 +52,5 @@ with-turn all past (Some (Slot frame slot lines)) is = hears-all all past lines 
 with-turn all past (Some Ended) is = subst (λ xs. Hears all xs) (sym (append-nil past)) is
 with-turn all past (Some (Breach place cause)) is = subst (λ xs. Hears all xs) (sym (append-nil past)) is
 
-pub hears-more : (turns : List Turn) (t : Turn) (all : Open) → Hears all (deliveries_in (records_in turns)) → Hears (open_with all (record_of t)) (deliveries_in (records_in (turns ++ t ∷ [])))
-hears-more turns t all is =
-    subst (λ xs. Hears (open_with all (record_of t)) xs) (sym (ap deliveries_in (records-more turns t) ∙ deliveries-with (records_in turns) (record_of t)))
-    (with-turn all (deliveries_in (records_in turns)) (record_of t) is)
+pub hears-more : (records : List Record) (o : Option Record) (all : Open) → Hears all (deliveries_in records) → Hears (open_with all o) (deliveries_in (records ++ option_to_list o))
+hears-more records o all is = subst (λ xs. Hears (open_with all o) xs) (sym (deliveries-with records o)) (with-turn all (deliveries_in records) o is)

@@ -1,12 +1,18 @@
 -- What the receivers of a bus hold, delivery by delivery.
-use Rattle.std.specs.Prelude.{ℕ, Option, None, List, [], ◌∷◌, ◌++◌, get_or, slice_set, if◌then◌else◌}
+use Rattle.std.specs.Prelude.{◌≡◌, ℕ, ◌<◌, Option, None, List, [], ◌∷◌, ◌++◌, get_or, length, slice_set, if◌then◌else◌}
 use Rattle.rb_rules.specs.declared.record.SlotLine.{SlotLine}
-use Rattle.rb_long.specs.{Delivered.is_named, Reading.{OpenLetter, Read, with_value}}
+use Rattle.rb_long.specs.{Delivered.{is_named, open_at}, Reading.{OpenLetter, Read, with_value}}
 use Rattle.rb_long_run.specs.Reports.{given_text}
 
 -- the letters that are open, by receiver and sender
 abbrev pub Open : Type 0
 Open = List (List (Option OpenLetter))
+
+-- each receiver holds of each sender the letter that is open after the deliveries `past`
+pub record Hears (all : Open) (past : List SlotLine) : Type 0 where
+  pub many : length all ≡ 16
+  pub each : (r : ℕ) → r < 16 → length (get_or all r []) ≡ 16
+  pub known : (r s : ℕ) → r < 16 → s < 16 → get_or (get_or all r []) s None ≡ open_at r s past
 
 -- what comes of a delivery
 abbrev pub read_of : Open → SlotLine → Read

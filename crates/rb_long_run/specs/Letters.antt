@@ -1,20 +1,11 @@
--- What comes of a run whose letters are written.
-use Rattle.std.specs.{Prelude.{ℕ, Bool, Option, List}, Io.KnownBytes.Appends}
-use Rattle.rb_rules.specs.Goodness.{Scenario}
-use Rattle.rb_world_book.specs.declared.turn.Turn.{Turn}
-use Rattle.rb_outside.specs.Bytes.{AppendsPart}
-use Rattle.rb_run.specs.Turns.{AreAll, AreGiven}
-use Rattle.rb_long_run.specs.Texts.{letters_text}
+-- What the letters of a run are told from.
+use Rattle.std.specs.Prelude.{◌≡◌, List}
+use Rattle.rb_rules.specs.Book.{Record}
+use Rattle.rb_long.specs.Delivered.{deliveries_in}
+use Rattle.rb_long_run.specs.{declared.letters.Letters.Letters, Hearing.Hears}
+use Rattle.rb_run.specs.Reports.{newest_after}
 
--- all turns of the run were given, and their letters were written
-pub record WritesLetters (sc : Scenario) (is_plain : Bool) (told since : Option (List Turn)) (held after : Option (List ℕ)) : Type 0 where
-  pub turns : List Turn
-  pub given : AreGiven sc is_plain told since turns
-  pub all : AreAll sc turns
-  pub text : Appends held after (letters_text turns)
-
--- some turns of the run were given, and a first part of their letters was written
-pub record WritesSome (sc : Scenario) (is_plain : Bool) (told since : Option (List Turn)) (held after : Option (List ℕ)) : Type 0 where
-  pub turns : List Turn
-  pub given : AreGiven sc is_plain told since turns
-  pub text : AppendsPart held after (letters_text turns)
+-- the newest block and the open letters are those of these records
+pub record HasHeard (records : List Record) (letters : Letters) : Type 0 where
+  pub block : letters.newest ≡ newest_after 0 records
+  pub heard : Hears letters.receivers (deliveries_in records)

@@ -1,4 +1,4 @@
 pub mod Texts
-pub mod Letters
 pub mod Reports
 pub mod Hearing
+pub mod Letters

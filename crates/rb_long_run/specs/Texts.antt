@@ -1,14 +1,8 @@
 -- The letters of a run, turn by turn.
 use Rattle.std.specs.Prelude.{ℕ, Option, Some, None, List, []}
 use Rattle.rb_rules.specs.{Book.Record, Book.Record.{Frame, Slot, Ended, Breach}}
-use Rattle.rb_world_book.specs.declared.turn.Turn.{Turn}
-use Rattle.rb_long_run.specs.{Hearing.{Open, lines_text, with_lines}, Reports.letters_report}
+use Rattle.rb_long_run.specs.Hearing.{Open, lines_text, with_lines}
 use Rattle.rb_report.specs.Report.{breach_text, end_text}
-use Rattle.rb_run.specs.Turns.{records_in}
-
--- the letters of the records that these turns are, and how the run ends
-abbrev pub letters_text : List Turn → List ℕ
-letters_text turns = letters_report (records_in turns)
 
 -- the text of a turn that is this record, if these letters are open and the newest block before it
 -- is that of frame `newest`

@@ -1,19 +1,14 @@
-//! The letters of a run, written a line at a time.
-ghost use Rattle.std.specs.Prelude.{◌≡◌, IfOk, OnErr, OnOk};
+//! The letters of a run, told turn by turn.
+ghost use Rattle.std.specs.Prelude.{◌≡◌, OnOk, []};
 ghost use Rattle.rb_world_book.specs.Records.{record_of};
-ghost use Rattle.rb_long_run.specs.Letters.{WritesLetters, WritesSome};
+ghost use Rattle.rb_long_run.specs.Letters.{HasHeard};
 ghost use Rattle.rb_long_run.specs.Texts.{open_with, turn_text};
-ghost use Rattle.rb_outside.specs.Causes.{HasCause};
 ghost use Rattle.rb_outside.specs.Writing.{Writes};
-ghost use Rattle.rb_run.specs.Runs.{EndsWith, HasGivenNothing};
 
 use crate::Receivers;
-use crate::ending::{ending_at, newest_block};
 use rb_outside::{Failed, Sink, write_line};
-use rb_port::Apps;
 use rb_report::{breach_line, end_line};
-use rb_run::Ending;
-use rb_world::{Drive, World};
+use rb_run::{Teller, newest_block};
 use rb_world_book::Turn;
 
 // Hears what a turn says was delivered, and writes what it says, the newest block before it being
@@ -41,35 +36,40 @@ fn write_turn<K: Sink>(
     }
 }
 
-/// Takes a run from its start to its end, and writes a line for each letter that a port receives
-/// whole, by slot and receiver, and then how the run ends: a line at a time, each write asking for
-/// the rest of one line. `Failed` is the answer only if a write failed; a first part of the text
-/// has then been written. The world must be as `World::open` gives it.
-pub fn write_letters<K: Sink, D: Drive>(
-    world: &mut World,
-    apps: &Apps,
-    drive: &mut D,
-    output: &mut K,
-) -> Result<Ending, Failed>
-    requires { HasGivenNothing world.old }
-    ensures all { OnOk result (WritesLetters world.old.bus (D.is_plain drive.old)
-        (D.told drive.old) (D.told drive.new) (K.held output.old) (K.held output.new)) }
-    ensures part { OnErr result (WritesSome world.old.bus (D.is_plain drive.old)
-        (D.told drive.old) (D.told drive.new) (K.held output.old) (K.held output.new)) }
-    ensures ending { IfOk result (EndsWith world.old.bus) }
-    ensures cause { HasCause (K.faults output.old) (K.faults output.new) result }
-    ensures bus { world.new.bus ≡ world.old.bus }
-    ensures stays { D.is_plain drive.new ≡ D.is_plain drive.old }
-{
-    let mut newest = 0;
-    let mut receivers = Receivers::new();
-    for passed in 0..u32::MAX {
-        let turn = drive.next(world, apps);
-        write_turn(&turn, newest, &mut receivers, output)?;
-        if let Some(ending) = ending_at(&turn) {
-            return Ok(ending);
+/// Tells the letters of a run: a line for each letter that a port receives whole, by slot and
+/// receiver, and then how the run ends.
+#[derive(Drop)]
+pub struct Letters {
+    pub newest: u32,
+    pub receivers: Receivers,
+}
+
+impl Letters {
+    /// No letter is open anywhere, and no turn was told.
+    pub fn new() -> Letters
+        ensures { HasHeard [] result }
+    {
+        Letters {
+            newest: 0,
+            receivers: Receivers::new(),
         }
-        newest = newest_block(newest, &turn);
     }
-    unreachable!()
+}
+
+impl Teller for Letters {
+    ghost use Rattle.std.specs.Prelude.{refl};
+    ghost use Rattle.rb_long_run.specs.Letters.{HasHeard};
+    ghost use Rattle.rb_long_run.specs.Reports.{letters_report};
+
+    ghost says = { λ _ _ records. letters_report records };
+
+    ghost has_told = { λ letters _ records. HasHeard records letters };
+
+    ghost says_nothing = { λ _ _. refl };
+
+    fn tell<K: Sink>(&mut self, turn: &Turn, output: &mut K) -> Result<(), Failed> {
+        write_turn(turn, self.newest, &mut self.receivers, output)?;
+        self.newest = newest_block(self.newest, turn);
+        Ok(())
+    }
 }

@@ -2,10 +2,9 @@
 #![tactic(auto)]
 
 pub use hearing::Receivers;
-pub use letters::write_letters;
+pub use letters::Letters;
 pub use spelling::write_spelling;
 
-mod ending;
 pub mod hearing;
-mod letters;
+pub mod letters;
 mod spelling;

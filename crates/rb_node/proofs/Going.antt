@@ -1,9 +1,9 @@
 -- The window of the next tick.
-use Rattle.std.proofs.{Common.{◌≡◌, ℕ, ◌+◌, ◌-◌, ◌<◌, ◌≤◌, ◌^◌, ◌==◌, ◌%◌, ◌&&◌, is_some, Bool, true, false, ap, sym, ◌∙◌, subst, arith, inl, inr, Option, Some, None, unwrap_or, if◌then◌else◌}, lemmas.Bool.cases_lt, lemmas.Bool.Decides.nat_tests}
+use Rattle.std.proofs.{Common.{◌≡◌, ℕ, ◌+◌, ◌-◌, ◌<◌, ◌≤◌, ◌^◌, ◌==◌, ◌%◌, ◌&&◌, is_some, Bool, true, false, ap, sym, ◌∙◌, subst, arith, inl, inr, Option, Some, None, unwrap_or, if◌then◌else◌}, lemmas.Bool.{cases_lt, eqb-true}, lemmas.Bool.Decides.nat_tests}
 use Rattle.rb_base.specs.{Nodes.Side, Nodes.Side.{Biu, Rmu}, Sizes.{IsShape, sync_slot_of}, declared.values.Heard.Heard}
 use Rattle.rb_rules.specs.{declared.message.Message.Message, declared.plan.Window.Window, Core.state_kept, ExactStage.says, Hearing.tail_at, Plan.IsPlan, Windows.window_at}
 use Rattle.rb_rules.proofs.Slots.{few_slots}
-use Rattle.rb_slot.specs.Engines.{IsSameFrame, Seated}
+use Rattle.rb_slot.specs.{Closable.IsOfFrame, Engines.{IsSameFrame, Seated}}
 use Rattle.rb_slot.proofs.Fitting.{IsPlaced, placed}
 use Rattle.rb_node.specs.Aheads.{IsEnded, IsWindowOf, following}
 use Rattle.rb_node.proofs.{Numbering.{IsNumbered, follows, numbered}, Windows.{ends-soon, goes-on, has-ticks}}
@@ -113,3 +113,14 @@ going me v1 v2 v3 now word w message closed e plan epoch not_closed =
     subst (λ x. IsWindowOf me x (now + 1) w) (sym is)
     (lasts me v2 now w plan2 epoch2 (said-window me v1 v2 v3 now word w message closed e)
     (differs now (v2.state.epoch + w.last) (sym not_closed ∙ e.closes)))
+
+-- a window that was closed has ended
+pub ending : (me : Side) (v1 v2 v3 : Seated) (now word : ℕ) (w : Window) (message : Option Message) (closed : Bool)
+    → Ends me v1 v2 v3 now word w message closed → closed ≡ true → IsEnded v3 w (now + 1)
+ending me v1 v2 v3 now word w message closed e is_closed =
+    let here : IsWindowOf me v2 now w = said-window me v1 v2 v3 now word w message closed e in
+    let last : now ≡ v2.state.epoch + w.last = eqb-true now (v2.state.epoch + w.last) (sym e.closes ∙ is_closed) in
+    record {
+      of_frame = subst (λ s. IsOfFrame s v3.plan w) (sym e.same.sizes) (subst (λ p. IsOfFrame v2.sizes p w) (sym e.same.plan) here.of_frame);
+      after = ap (λ k. k + 1) last ∙ ap (λ k. k + w.last + 1) (sym e.same.epoch);
+    }

@@ -6,7 +6,7 @@ ghost use Rattle.rb_rules.specs.Core.{is_tick};
 ghost use Rattle.rb_rules.specs.Hearing.{tail_at};
 ghost use Rattle.rb_rules.specs.Plan.{IsFeasible, IsPlan, tail_start_of};
 ghost use Rattle.rb_rules.specs.SyncStage.{send_tick_of};
-ghost use Rattle.rb_node.specs.Aheads.{IsChosen, IsExactUntil, IsNextBusy, IsSaidNext, IsSooner, IsWindowOf, LooksAhead, SaysIn, following, is_alone, tick_said, want_ahead, want_at, window_of_tick};
+ghost use Rattle.rb_node.specs.Aheads.{IsChosen, IsEnded, IsExactUntil, IsNextBusy, IsSaidNext, IsSooner, IsWindowOf, LooksAhead, SaysIn, following, is_alone, tick_said, want_ahead, want_at, window_of_tick};
 ghost use Rattle.rb_node.specs.Wants.{slot_of_words, want_for};
 
 use crate::act::Want;
@@ -117,14 +117,22 @@ pub(crate) fn following(plan: &Plan, window: &Window) -> Window
 }
 
 // The window of the tick before becomes that of the next tick, if it was closed; else it goes on.
+// After a window below the sync slot comes the one that follows it.
 #[inline(always)]
 pub(crate) fn go_on<K: Kind>(engine: &Engine<K>, window: &mut Window, closed: bool, next: u64)
     requires epoch { engine.now.state.epoch ≤ next }
     requires next { next ≤ 2 ^ 31 }
+    requires ended { closed ≡ true → IsEnded engine.now window.old next }
     requires goes_on { closed ≡ false → IsWindowOf (side_of K.CODE) engine.now next window.old }
     ensures { IsWindowOf (side_of K.CODE) engine.now next window.new }
 {
-    if closed {
+    if !closed {
+        return;
+    }
+    bounds(engine);
+    if window.slot < engine.plan().shape().sync_slot() {
+        *window = following(engine.plan().plan(), window);
+    } else {
         *window = window_of(engine, next);
     }
 }

@@ -1,18 +1,16 @@
 -- In each world of a run what comes to a node has 1 to 32 bytes, and at a node that has stopped
 -- nothing is pending.
-use Rattle.std.proofs.{Common.{◌≡◌, ℕ, zero, suc, ◌+◌, ◌<◌, ◌≤◌, ◌==◌, ◌&&◌, Bool, true, false, All, List, [], ◌∷◌, ◌++◌, length, remove, refl, sym, ◌∙◌, ap, subst, arith, cond, Option, Some, None, slice_get, map, filter}, lemmas.List.Elements.{All-head, All-tail}, lemmas.Option.{same_Some, slice_get_within}}
-use Rattle.std.specs.{Prelude.flat_map, List.range_with_len}
-use Rattle.rb_base.specs.{Nodes.{Side, other}, declared.values.Place.Place}
+use Rattle.std.proofs.{Common.{◌≡◌, ℕ, zero, suc, ◌<◌, ◌==◌, ◌&&◌, Bool, true, false, List, [], ◌∷◌, ◌++◌, length, refl, sym, ◌∙◌, ap, subst, arith, Option, Some, None, slice_get}, lemmas.Option.{same_Some, slice_get_within}}
+use Rattle.rb_base.specs.{Nodes.{Side, other}}
 use Rattle.rb_base.proofs.Plain.{option_map-back, true-false}
-use Rattle.rb_rules.specs.{declared.closing.Closed.Closed, declared.message.Message.Message, declared.message.Version.Version, declared.record.Epoch.Epoch, declared.say.Content.Content, declared.say.Content.TheVariants.{Word, Fault, Sync, Raw}, declared.say.Say.Say, Book.{Each, of_kind, each_of, map_each}, Core.Act, Entries.IsListed, Goodness.{Scenario, is_good, clock_of}, Hearing.{Coming, Sending, Span, coming_of}, Lawful.{IsContent, IsLawful, IsSayOf}, NodeState.NodeState, Ports.PortState, Slots.{count_of, same_side}, Spelling.spelling_of, WorldStep.{Due, Pending, Site, World, after_act, after_arrival, at_node, await, due_of, enter, first_world, fresh_site, go_on, happens, pass_and_tick, proceed, says_in, sent_to, settle, span_from, stop, take, take_if_due, with_act, with_close, with_epoch, with_message, with_pending}, WorldStep.Pending.{Tick, Arrival}, WorldStep.Way.{ByAnEvent, ByItself}}
+use Rattle.rb_rules.specs.{declared.closing.Closed.Closed, declared.message.Message.Message, declared.record.Epoch.Epoch, Book.{Each, of_kind, each_of, map_each}, Core.Act, Entries.IsListed, Goodness.{Scenario, is_good}, Hearing.{Coming, Sending, Span, coming_of}, Lawful.{IsLawful}, NodeState.NodeState, Ports.PortState, Slots.{count_of, same_side}, WorldStep.{Due, Pending, Site, World, after_act, after_arrival, at_node, await, due_of, enter, first_world, fresh_site, go_on, happens, pass_and_tick, proceed, says_in, sent_to, settle, span_from, stop, take, take_if_due, with_act, with_close, with_epoch, with_message, with_pending}, WorldStep.Pending.{Tick, Arrival}, WorldStep.Way.{ByAnEvent, ByItself}}
 use Rattle.rb_rules.proofs.WindowNumbers.{get-each, get-made}
 use Rattle.rb_laws_logs.specs.Given.{first_run}
 use Rattle.rb_laws_logs.proofs.Sized.{AreSized, run-sized}
-use Rattle.rb_laws_events.proofs.{DueEvents.{IsDue, IsReady}, PendingLists.StandsAt, SameHeard.Every, WorldNodes.{first-counts, settle-sites}, WorldStands.{is_node, node-is}}
+use Rattle.rb_laws_events.proofs.{DueEvents.{IsDue, IsReady}, PendingLists.StandsAt, WorldNodes.{first-counts, settle-sites}, WorldStands.{is_node, node-is}}
 use Rattle.rb_world.specs.Worlds.{IsReached}
 use Rattle.rb_world.proofs.Ready.{due-reached}
 use Rattle.rb_record.proofs.Runs.{run-busy, run-idle, run-reached}
-use Rattle.rb_rules.specs.declared.message.Version.TheVariants as version
 
 -- One node.
 

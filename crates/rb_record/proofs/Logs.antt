@@ -1,8 +1,8 @@
 -- What is recorded is a log.
-use Rattle.std.proofs.{Common.{◌≡◌, ℕ, zero, suc, ◌+◌, ◌^◌, ◌<◌, ◌≤◌, ◌&&◌, Bool, true, false, All, List, [], ◌∷◌, get_or, length, refl, sym, ◌∙◌, subst, arith, inl, inr, Option, Some, None, is_some, slice_get}, lemmas.Bool.cases_lt, lemmas.List.get_or_past, lemmas.List.Elements.{All-append, All-cons, All-nil}, lemmas.Nat.mod_below, lemmas.Option.same_Some}
+use Rattle.std.proofs.{Common.{◌≡◌, ℕ, zero, suc, ◌+◌, ◌<◌, ◌≤◌, ◌&&◌, Bool, true, false, All, List, [], ◌∷◌, refl, sym, ◌∙◌, subst, arith, inl, inr, Option, Some, None, is_some, slice_get}, lemmas.Bool.cases_lt, lemmas.List.Elements.{All-append, All-cons, All-nil}, lemmas.Option.same_Some}
 use Rattle.std.specs.Prelude.{if◌then◌else◌}
 use Rattle.rb_base.specs.{Nodes.{Side, other}, Sizes.Sizes, declared.event.Event.Event, declared.node.NodeName.NodeName}
-use Rattle.rb_rules.specs.{declared.role.Role.Role, declared.role.Role.TheVariants.{Schedule, Data, DiagBiu, DiagRmu, Sync}, Book.of_kind, Core.pass_to, Entries.IsListed, Goodness.Scenario, Hearing.{Coming, word_for}, Lawful.{HasEach, IsLawful, IsNodeOf, kind_of}, Links.same_node, Ports.PortState, Slots.{count_of, role_of}, WorldStep.{Due, Pending, Site, World, event_at, event_of, wants_in, word_of}, WorldStep.Pending.{Tick, Arrival}}
+use Rattle.rb_rules.specs.{Book.of_kind, Core.pass_to, Entries.IsListed, Goodness.Scenario, Hearing.{Coming}, Lawful.{IsLawful, IsNodeOf, kind_of}, Links.same_node, Ports.PortState, Slots.{count_of, role_of}, WorldStep.{Due, Pending, Site, World, event_at, event_of, wants_in, word_of}, WorldStep.Pending.{Tick, Arrival}}
 use Rattle.rb_laws_logs.specs.Given.{first_run, given_in, given_next, is_before_end, site_of}
 use Rattle.rb_laws_logs.proofs.{FirstRuns.same-given, Recorded.ticks-append}
 use Rattle.rb_log.specs.{Laws.{IsTellable, MayHappen, ticks_in}, LogText.senders_of, Writing.{given, ticks_given}}

@@ -1,5 +1,5 @@
 -- A run in which each step takes the first due event.
-use Rattle.std.proofs.Common.{◌≡◌, ℕ, zero, suc, ◌+◌, ◌^◌, ◌<◌, ◌≤◌, Some, None, List, [], ◌∷◌, ◌++◌, fold, length, slice_get, refl, sym, ap, ◌∙◌, subst, arith}
+use Rattle.std.proofs.Common.{◌≡◌, ℕ, zero, suc, ◌+◌, ◌^◌, ◌<◌, ◌≤◌, Some, None, List, [], ◌∷◌, ◌++◌, length, slice_get, refl, sym, ap, ◌∙◌, subst, arith}
 use Rattle.rb_rules.specs.{Entries.IsListed, Goodness.Scenario, Lawful.IsLawful, WorldStep.{Choice, Due, World, choose, due_of, first_world, go_on, take, world_after}, WorldStep.Choice.{Take, GoOn}}
 use Rattle.rb_laws_logs.specs.Given.{first_run, first_step, step_with}
 use Rattle.rb_laws_events.proofs.{EventsHold.ends-hold, EveryWorld.after-more, RunsEnd.takes-append}

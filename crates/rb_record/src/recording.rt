@@ -1,6 +1,5 @@
 //! Taking a run to its end, and writing what one node is given in it.
-ghost use Rattle.std.specs.Prelude.{◌≡◌, Option, Some, IfOk, OnErr, OnOk};
-ghost use Rattle.rb_world_book.specs.Records.{record_of};
+ghost use Rattle.std.specs.Prelude.{◌≡◌, IfOk, OnErr, OnOk};
 ghost use Rattle.rb_log.specs.Header.{header_of};
 ghost use Rattle.rb_outside.specs.Causes.{HasCause};
 ghost use Rattle.rb_outside.specs.Writing.{Writes};
@@ -8,7 +7,7 @@ ghost use Rattle.rb_record.specs.Observing.{MayRecord, RecordsRun};
 ghost use Rattle.rb_record.specs.Recording.{WritesAll, WritesPart, timetable_of};
 ghost use Rattle.rb_rules.specs.Lawful.{IsNodeOf};
 ghost use Rattle.rb_rules.specs.WorldStep.{first_world};
-ghost use Rattle.rb_run.specs.Runs.{EndsWith, end_at};
+ghost use Rattle.rb_run.specs.Runs.{EndsWith};
 ghost use Rattle.rb_world.specs.Worlds.{Stands};
 
 use crate::recorder::Recorder;
@@ -16,7 +15,7 @@ use rb_base::NodeName;
 use rb_log::header;
 use rb_outside::{Failed, Sink, write_all};
 use rb_port::Apps;
-use rb_run::Ending;
+use rb_run::{Ending, ending_at};
 use rb_world::{Turn, World};
 
 // Writes the header.
@@ -27,17 +26,6 @@ fn write_header<K: Sink>(world: &World, node: NodeName, output: &mut K) -> Resul
 {
     let header = header(world.plan(), node);
     write_all(output, header.as_slice())
-}
-
-// How the run ends with this turn, if it does.
-fn ending_at(turn: &Turn) -> Option<Ending>
-    ensures { result ≡ end_at (record_of turn.now) }
-{
-    match turn {
-        Turn::Ended => Some(Ending::Ended),
-        Turn::Breach(_, _) => Some(Ending::Breach),
-        _ => None,
-    }
 }
 
 // Takes a run to its last record, and has written down what the node is given. A run has fewer than

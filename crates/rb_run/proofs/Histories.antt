@@ -2,7 +2,7 @@
 use Rattle.std.proofs.{Common.{◌≡◌, ◌+◌, ◌<◌, ◌≤◌, Bool, true, false, Option, Some, None, List, [], ◌∷◌, ◌++◌, length, map, refl, sym, ap, ◌∙◌, subst, append_assoc, arith, length-append}, lemmas.List.append-nil}
 use Rattle.rb_rules.specs.{Book.Record, Goodness.Scenario, Rounds.records_of, WorldStep.World}
 use Rattle.rb_world_book.specs.{Records.record_of, declared.turn.Turn.Turn}
-use Rattle.rb_run.specs.{declared.ending.Ending.Ending, Histories.{GoesThrough, HasDriven, HasDrivenSome, MemDrivesKeepTheRun, gives_kept}, Runs.{HasGivenNothing, end_at}, Turns.turn_of}
+use Rattle.rb_run.specs.{Histories.{GoesThrough, HasDriven, HasDrivenSome, MemDrivesKeepTheRun, gives_kept}, Runs.{HasGivenNothing, end_at}, Seen.{SeenDrive, drive_of}, Turns.turn_of}
 use Rattle.rb_run.proofs.UnderWay.{IsUnderWay, begins, ends-last, first-given, goes, goes-on, same-record, turn-is, whole-given}
 use Rattle.rb_world.specs.{declared.ties.Ties.TheVariants.First, Driving.{GivesBy, GoesAlike, Keeps, KeptTurns, Tells, given_for}, Nexts.{GoesToNext, is_last}, Numbering.{GoesInRounds, IsNextRecord}, Worlds.{KeptWorld, Stands}}
 use Rattle.rb_world.proofs.Numbered.{alike-in-rounds, next-in-rounds}
@@ -19,29 +19,27 @@ through-more gives keeps before mid after (s ∷ records) (u ∷ turns) r t thro
     (through.0, (through.1.0, (through.1.1.0, through-more gives keeps through.0 mid after records turns r t through.1.1.1 given kept)))
 
 -- the drive has gone through what was given of a run so far
-pub record IsOnItsWay {D : Type 0} (gives : D → Turn → Turn → Type 0) (keeps : D → D → Turn → Type 0) (sc : Scenario) (is_plain : Bool) (told since : Option (List Turn))
-    (before now : D) (k : KeptWorld) (over : Bool) : Type 0 where
-  pub turns : List Turn
-  pub way : IsUnderWay sc is_plain told since k turns over
+pub record IsOnItsWay {D : Type 0} (gives : D → Turn → Turn → Type 0) (keeps : D → D → Turn → Type 0) (sc : Scenario) (drive : SeenDrive)
+    (before now : D) (k : KeptWorld) (turns : List Turn) (over : Bool) : Type 0 where
+  pub way : IsUnderWay sc drive k turns over
   pub through : GoesThrough gives keeps before now way.world.book.given turns
 
 pub sets-out : {D : Type 0} (gives : D → Turn → Turn → Type 0) (keeps : D → D → Turn → Type 0) (k : KeptWorld) (is_plain : Bool) (told : Option (List Turn)) (d : D) → HasGivenNothing k
-    → IsOnItsWay gives keeps k.bus is_plain told told d d k false
+    → IsOnItsWay gives keeps k.bus (drive_of is_plain told told) d d k [] false
 unfolding begins
 sets-out gives keeps k is_plain told d begun = record {
-  turns = [];
   way = begins k is_plain told begun;
   through = subst (λ records. GoesThrough gives keeps d d records []) (sym begun.given) refl;
 }
 
 -- what the next call gives, and what it leaves of the drive
-pub moves-on : {D : Type 0} (gives : D → Turn → Turn → Type 0) (keeps : D → D → Turn → Type 0) (sc : Scenario) (is_plain now : Bool) (told mid since : Option (List Turn)) (before d e : D)
-    (k after : KeptWorld) (t : Turn) → IsOnItsWay gives keeps sc is_plain told mid before d k false
+pub moves-on : {D : Type 0} {gives : D → Turn → Turn → Type 0} {keeps : D → D → Turn → Type 0} {sc : Scenario} {is_plain now : Bool} {told mid since : Option (List Turn)} {before d e : D}
+    {k after : KeptWorld} {turns : List Turn} {t : Turn} → IsOnItsWay gives keeps sc (drive_of is_plain told mid) before d k turns false
     → now ≡ is_plain → (now ≡ true → (w : World) → Stands k w → GoesToNext First k after t w) → ((w : World) → Stands k w → GoesAlike k after t w)
     → after.bus ≡ k.bus → Tells mid since t → ((w : World) → Stands k w → GivesBy (gives d) k after t w) → keeps d e t
-    → IsOnItsWay gives keeps sc is_plain told since before e after (is_last (record_of t))
+    → IsOnItsWay gives keeps sc (drive_of is_plain told since) before e after (turns ++ t ∷ []) (is_last (record_of t))
 unfolding goes
-moves-on gives keeps sc is_plain now told mid since before d e k after t is stays plain alike bus tells given kept =
+moves-on {D} {gives} {keeps} {sc} {is_plain} {now} {told} {mid} {since} {before} {d} {e} {k} {after} {turns} {t} is stays plain alike bus tells given kept =
     let way = is.way in
     let a : GoesAlike k after t way.world = alike way.world way.stands in
     let r : GoesInRounds k after a.turn way.world = alike-in-rounds k after t way.world way.stands a in
@@ -52,39 +50,41 @@ moves-on gives keeps sc is_plain now told mid since before d e k after t is stay
     same-record (records_of k.bus way.world.hands) (length way.world.book.given) p.given r.given (p.rounds.going way.ended).is_next one.is_next in
     let turn : g.turn ≡ turn_of r.given = turn-is g.turn p.given p.turn_is ∙ ap turn_of same in
     record {
-      turns = is.turns ++ t ∷ [];
-      way = goes sc is_plain now told mid since k after is.turns t way stays plain alike bus tells;
+      way = goes sc is_plain now told mid since k after turns t way stays plain alike bus tells;
       through =
-          subst (λ records. GoesThrough gives keeps before e records (is.turns ++ t ∷ [])) (sym one.added)
-          (through-more gives keeps before d e way.world.book.given is.turns r.given t is.through (subst (λ u. gives d u t) turn g.given_by) kept);
+          subst (λ records. GoesThrough gives keeps before e records (turns ++ t ∷ [])) (sym one.added)
+          (through-more gives keeps before d e way.world.book.given turns r.given t is.through (subst (λ u. gives d u t) turn g.given_by) kept);
     }
 
 -- after a turn that does not end the run the drive is still on its way
-pub still-on : {D : Type 0} (gives : D → Turn → Turn → Type 0) (keeps : D → D → Turn → Type 0) (sc : Scenario) (is_plain : Bool) (told since : Option (List Turn)) (before now : D) (k : KeptWorld) (t : Turn)
-    → IsOnItsWay gives keeps sc is_plain told since before now k (is_last (record_of t)) → end_at (record_of t) ≡ None
-    → IsOnItsWay gives keeps sc is_plain told since before now k false
-still-on gives keeps sc is_plain told since before now k t is going =
-    subst (λ over. IsOnItsWay gives keeps sc is_plain told since before now k over) (goes-on (record_of t) going) is
+pub still-on : {D : Type 0} {gives : D → Turn → Turn → Type 0} {keeps : D → D → Turn → Type 0} {sc drive before now k turns : _} (t : Turn)
+    → IsOnItsWay gives keeps sc drive before now k turns (is_last (record_of t)) → end_at (record_of t) ≡ None
+    → IsOnItsWay gives keeps sc drive before now k turns false
+still-on {D} {gives} {keeps} {sc} {drive} {before} {now} {k} {turns} t is going =
+    subst (λ over. IsOnItsWay gives keeps sc drive before now k turns over) (goes-on (record_of t) going) is
 
-pub has-driven-some : {D : Type 0} (gives : D → Turn → Turn → Type 0) (keeps : D → D → Turn → Type 0) (sc : Scenario) (is_plain : Bool) (told since : Option (List Turn)) (before now : D) (k : KeptWorld) (over : Bool)
-    → IsOnItsWay gives keeps sc is_plain told since before now k over → HasDrivenSome sc gives keeps before now
-has-driven-some gives keeps sc is_plain told since before now k over is = record {
+-- after a turn that ends the run the drive has gone through all of it
+pub is-through : {D : Type 0} {gives : D → Turn → Turn → Type 0} {keeps : D → D → Turn → Type 0} {sc drive before now k turns e : _} (t : Turn)
+    → IsOnItsWay gives keeps sc drive before now k turns (is_last (record_of t)) → end_at (record_of t) ≡ Some e
+    → IsOnItsWay gives keeps sc drive before now k turns true
+is-through {D} {gives} {keeps} {sc} {drive} {before} {now} {k} {turns} {e} t is ends =
+    subst (λ over. IsOnItsWay gives keeps sc drive before now k turns over) (ends-last (record_of t) e ends) is
+
+pub has-driven-some : {D : Type 0} {gives : D → Turn → Turn → Type 0} {keeps : D → D → Turn → Type 0} {sc drive before now k turns over : _}
+    → IsOnItsWay gives keeps sc drive before now k turns over → HasDrivenSome sc gives keeps before now
+has-driven-some {D} {gives} {keeps} {sc} {drive} {before} {now} {k} {turns} {over} is = record {
   records = is.way.world.book.given;
-  turns = is.turns;
-  first = first-given sc is_plain told since k is.turns over is.way;
+  turns = turns;
+  first = first-given sc drive k turns over is.way;
   through = is.through;
 }
 
-pub has-driven : {D : Type 0} (gives : D → Turn → Turn → Type 0) (keeps : D → D → Turn → Type 0) (sc : Scenario) (is_plain : Bool) (told since : Option (List Turn)) (before now : D) (k : KeptWorld) (t : Turn) (e : Ending)
-    → IsOnItsWay gives keeps sc is_plain told since before now k (is_last (record_of t)) → end_at (record_of t) ≡ Some e → HasDriven sc gives keeps before now
-has-driven gives keeps sc is_plain told since before now k t e is ends =
-    let over : is_last (record_of t) ≡ true = ends-last (record_of t) e ends in
-    let done : IsOnItsWay gives keeps sc is_plain told since before now k true =
-    subst (λ over. IsOnItsWay gives keeps sc is_plain told since before now k over) over is in
-    record {
-      turns = done.turns;
-      through = subst (λ records. GoesThrough gives keeps before now records done.turns) (whole-given sc is_plain told since k done.turns done.way) done.through;
-    }
+pub has-driven : {D : Type 0} {gives : D → Turn → Turn → Type 0} {keeps : D → D → Turn → Type 0} {sc drive before now k turns : _}
+    → IsOnItsWay gives keeps sc drive before now k turns true → HasDriven sc gives keeps before now
+has-driven {D} {gives} {keeps} {sc} {drive} {before} {now} {k} {turns} is = record {
+  turns = turns;
+  through = subst (λ records. GoesThrough gives keeps before now records turns) (whole-given sc drive k turns is.way) is.through;
+}
 
 -- A drive that keeps its turns.
 

@@ -5,7 +5,7 @@ pub mod Spreads
 pub mod Bounds
 pub mod UnderWay
 pub mod Opened
-pub mod Reported
+pub mod Histories
+pub mod Told
 pub mod Counted
 pub mod Plain
-pub mod Histories

@@ -5,21 +5,21 @@ use Rattle.rb_base.proofs.Plain.{last_or-append}
 use Rattle.rb_rules.specs.{Book.Record, Goodness.Scenario, Lawful.IsLawful, Ports.HandIn, Rounds.records_of, WorldStep.{IsPrefix, World}}
 use Rattle.rb_world_book.specs.{Records.record_of, declared.turn.Turn.Turn}
 use Rattle.rb_laws_events.proofs.EventsHold.{events-hold}
-use Rattle.rb_run.specs.{declared.ending.Ending.Ending, Runs.{EndsWith, HasGivenNothing, end_at}, Turns.{AreAll, AreGiven, TellsAll, turn_of}}
+use Rattle.rb_run.specs.{declared.ending.Ending.Ending, Runs.{EndsWith, HasGivenNothing, end_at}, Seen.{SeenDrive, drive_of}, Turns.{AreAll, AreGiven, TellsAll, turn_of}}
 use Rattle.rb_run.proofs.Bounds.{few-records}
 use Rattle.rb_world.specs.{declared.ties.Ties.TheVariants.First, Driving.{GoesAlike, Tells, bare}, Nexts.{GoesToNext, is_last}, Numbering.{GoesInRounds, IsNextRecord}, Worlds.{KeptWorld, Stands}}
 use Rattle.rb_world.proofs.{LastTurn.{reached-ended, reached-gave}, Numbered.{alike-in-rounds, alike-last, next-in-rounds}}
 use Rattle.rb_world_book.specs.declared.turn.Turn.TheVariants as shown
 
 -- `turns` were given, and `over` says whether the run has ended
-pub record IsUnderWay (sc : Scenario) (is_plain : Bool) (told since : Option (List Turn)) (k : KeptWorld) (turns : List Turn) (over : Bool) : Type 0 where
+pub record IsUnderWay (sc : Scenario) (drive : SeenDrive) (k : KeptWorld) (turns : List Turn) (over : Bool) : Type 0 where
   pub world : World
   pub stands : Stands k world
   pub bus : k.bus ≡ sc
   pub hands : world.hands ≡ []
   pub alike : map bare turns ≡ map (λ r. bare (turn_of r)) world.book.given
-  pub plain : is_plain ≡ true → turns ≡ map turn_of world.book.given
-  pub tells : TellsAll told since turns
+  pub plain : drive.is_plain ≡ true → turns ≡ map turn_of world.book.given
+  pub tells : TellsAll drive.told drive.since turns
   pub ended : world.book.ended ≡ over
 
 -- Turns and records.
@@ -98,7 +98,7 @@ not-over k begun = by begun.world.book.ended refl
         let gave = reached-gave k.bus begun.world begun.stands.reached some.0 some.1 in
         absurd (no-record some.0 gave.0 (sym begun.given ∙ gave.1))
 
-unfoldable pub begins : (k : KeptWorld) (is_plain : Bool) (told : Option (List Turn)) → HasGivenNothing k → IsUnderWay k.bus is_plain told told k [] false
+unfoldable pub begins : (k : KeptWorld) (is_plain : Bool) (told : Option (List Turn)) → HasGivenNothing k → IsUnderWay k.bus (drive_of is_plain told told) k [] false
 begins k is_plain told begun = record {
   world = begun.world;
   stands = begun.stands;
@@ -116,9 +116,9 @@ pub same-record : (xs : List Record) (n : ℕ) (a b : Record) → slice_get xs n
 same-record xs n a b x y = let both : Some a ≡ Some b = sym x ∙ y in cc
 
 -- what the next call gives
-unfoldable pub goes : (sc : Scenario) (is_plain now : Bool) (told mid since : Option (List Turn)) (k after : KeptWorld) (turns : List Turn) (t : Turn) → IsUnderWay sc is_plain told mid k turns false
+unfoldable pub goes : (sc : Scenario) (is_plain now : Bool) (told mid since : Option (List Turn)) (k after : KeptWorld) (turns : List Turn) (t : Turn) → IsUnderWay sc (drive_of is_plain told mid) k turns false
     → now ≡ is_plain → (now ≡ true → (w : World) → Stands k w → GoesToNext First k after t w) → ((w : World) → Stands k w → GoesAlike k after t w)
-    → after.bus ≡ k.bus → Tells mid since t → IsUnderWay sc is_plain told since after (turns ++ t ∷ []) (is_last (record_of t))
+    → after.bus ≡ k.bus → Tells mid since t → IsUnderWay sc (drive_of is_plain told since) after (turns ++ t ∷ []) (is_last (record_of t))
 goes sc is_plain now told mid since k after turns t is stays plain alike bus tells =
     let a : GoesAlike k after t is.world = alike is.world is.stands in
     let r : GoesInRounds k after a.turn is.world = alike-in-rounds k after t is.world is.stands a in
@@ -149,9 +149,9 @@ goes sc is_plain now told mid since k after turns t is stays plain alike bus tel
 
 -- What is known of it.
 
-pub first-given : (sc : Scenario) (is_plain : Bool) (told since : Option (List Turn)) (k : KeptWorld) (turns : List Turn) (over : Bool) → (is : IsUnderWay sc is_plain told since k turns over)
+pub first-given : (sc : Scenario) (drive : SeenDrive) (k : KeptWorld) (turns : List Turn) (over : Bool) → (is : IsUnderWay sc drive k turns over)
     → IsPrefix is.world.book.given (records_of sc [])
-first-given sc is_plain told since k turns over is =
+first-given sc drive k turns over is =
     let rounds = events-hold k.bus is.stands.lawful in
     let reached = is.stands.reached in
     let first : IsPrefix is.world.book.given (records_of k.bus is.world.hands) =
@@ -159,43 +159,43 @@ first-given sc is_plain told since k turns over is =
     let none : IsPrefix is.world.book.given (records_of k.bus []) = subst (λ (hands : List HandIn). IsPrefix is.world.book.given (records_of k.bus hands)) is.hands first in
     subst (λ (s : Scenario). IsPrefix is.world.book.given (records_of s [])) is.bus none
 
-pub are-given : (sc : Scenario) (is_plain : Bool) (told since : Option (List Turn)) (k : KeptWorld) (turns : List Turn) (over : Bool) → IsUnderWay sc is_plain told since k turns over
-    → AreGiven sc is_plain told since turns
-are-given sc is_plain told since k turns over is = record {
+pub are-given : (sc : Scenario) (drive : SeenDrive) (k : KeptWorld) (turns : List Turn) (over : Bool) → IsUnderWay sc drive k turns over
+    → AreGiven sc drive turns
+are-given sc drive k turns over is = record {
   records = is.world.book.given;
-  first = first-given sc is_plain told since k turns over is;
+  first = first-given sc drive k turns over is;
   alike = is.alike;
   plain = is.plain;
   told = is.tells;
 }
 
-many-given : (sc : Scenario) (is_plain : Bool) (told since : Option (List Turn)) (k : KeptWorld) (turns : List Turn) (over : Bool) → (is : IsUnderWay sc is_plain told since k turns over)
+many-given : (sc : Scenario) (drive : SeenDrive) (k : KeptWorld) (turns : List Turn) (over : Bool) → (is : IsUnderWay sc drive k turns over)
     → length turns ≡ length is.world.book.given
-many-given sc is_plain told since k turns over is =
+many-given sc drive k turns over is =
     sym (length-map turns bare) ∙ ap length is.alike ∙ length-map is.world.book.given (λ r. bare (turn_of r))
 
 -- fewer than 2^31 turns were given
-pub few-turns : (sc : Scenario) (is_plain : Bool) (told since : Option (List Turn)) (k : KeptWorld) (turns : List Turn) (over : Bool) → IsUnderWay sc is_plain told since k turns over
+pub few-turns : (sc : Scenario) (drive : SeenDrive) (k : KeptWorld) (turns : List Turn) (over : Bool) → IsUnderWay sc drive k turns over
     → length turns < 2 ^ 31
-few-turns sc is_plain told since k turns over is =
-    let many = many-given sc is_plain told since k turns over is in
-    let first = first-given sc is_plain told since k turns over is in
+few-turns sc drive k turns over is =
+    let many = many-given sc drive k turns over is in
+    let first = first-given sc drive k turns over is in
     let all = ap length first.1 ∙ length-append is.world.book.given first.0 in
     let few = few-records sc [] (subst IsLawful is.bus is.stands.lawful) in
     omega (arith, many, all, few)
 
-pub whole-given : (sc : Scenario) (is_plain : Bool) (told since : Option (List Turn)) (k : KeptWorld) (turns : List Turn) → (is : IsUnderWay sc is_plain told since k turns true)
+pub whole-given : (sc : Scenario) (drive : SeenDrive) (k : KeptWorld) (turns : List Turn) → (is : IsUnderWay sc drive k turns true)
     → is.world.book.given ≡ records_of sc []
-whole-given sc is_plain told since k turns is =
+whole-given sc drive k turns is =
     let reached = is.stands.reached in
     let whole : is.world.book.given ≡ records_of k.bus is.world.hands =
     subst (λ (w : World). w.book.ended ≡ true → w.book.given ≡ records_of k.bus w.hands) (sym reached.is) ((events-hold k.bus is.stands.lawful).whole reached.choices) is.ended in
     whole ∙ ap (records_of k.bus) is.hands ∙ ap (λ (s : Scenario). records_of s []) is.bus
 
 -- at the end of the run all turns were given
-pub are-all : (sc : Scenario) (is_plain : Bool) (told since : Option (List Turn)) (k : KeptWorld) (turns : List Turn) → IsUnderWay sc is_plain told since k turns true → AreAll sc turns
-are-all sc is_plain told since k turns is =
-    many-given sc is_plain told since k turns true is ∙ ap length (whole-given sc is_plain told since k turns is)
+pub are-all : (sc : Scenario) (drive : SeenDrive) (k : KeptWorld) (turns : List Turn) → IsUnderWay sc drive k turns true → AreAll sc turns
+are-all sc drive k turns is =
+    many-given sc drive k turns true is ∙ ap length (whole-given sc drive k turns is)
 
 last-map : {X Y : Type 0} (f : X → Y) (xs : List X) (o : Option X) (p : Option Y) (y : Y) → (o ≡ None → p ≡ None)
     → ((x : X) → o ≡ Some x → p ≡ Some (f x)) → last_or p (map f xs) ≡ Some y → (x : X) × ((last_or o xs ≡ Some x) × (f x ≡ y))
@@ -204,18 +204,18 @@ last-map f [] (Some x) p y none some e = (x, (refl, let both : Some (f x) ≡ So
 last-map f (x ∷ xs) o p y none some e = last-map f xs (Some x) (Some (f x)) y (λ e. absurd (cc)) (λ z e. let same : x ≡ z = cc in ap (λ v. Some (f v)) same) e
 
 -- if a turn ends the run, the run is over after it
-pub finished : (sc : Scenario) (is_plain : Bool) (told since : Option (List Turn)) (k : KeptWorld) (turns : List Turn) (t : Turn) (e : Ending)
-    → IsUnderWay sc is_plain told since k turns (is_last (record_of t)) → end_at (record_of t) ≡ Some e → IsUnderWay sc is_plain told since k turns true
-finished sc is_plain told since k turns t e is ends = subst (λ over. IsUnderWay sc is_plain told since k turns over) (ends-last (record_of t) e ends) is
+pub finished : (sc : Scenario) (drive : SeenDrive) (k : KeptWorld) (turns : List Turn) (t : Turn) (e : Ending)
+    → IsUnderWay sc drive k turns (is_last (record_of t)) → end_at (record_of t) ≡ Some e → IsUnderWay sc drive k turns true
+finished sc drive k turns t e is ends = subst (λ over. IsUnderWay sc drive k turns over) (ends-last (record_of t) e ends) is
 
-pub ends-so : (sc : Scenario) (is_plain : Bool) (told since : Option (List Turn)) (k : KeptWorld) (turns : List Turn) (t : Turn) (e : Ending)
-    → IsUnderWay sc is_plain told since k (turns ++ t ∷ []) (is_last (record_of t)) → end_at (record_of t) ≡ Some e → EndsWith sc e
-ends-so sc is_plain told since k turns t e going ends =
-    let is : IsUnderWay sc is_plain told since k (turns ++ t ∷ []) true = finished sc is_plain told since k (turns ++ t ∷ []) t e going ends in
+pub ends-so : (sc : Scenario) (drive : SeenDrive) (k : KeptWorld) (turns : List Turn) (t : Turn) (e : Ending)
+    → IsUnderWay sc drive k (turns ++ t ∷ []) (is_last (record_of t)) → end_at (record_of t) ≡ Some e → EndsWith sc e
+ends-so sc drive k turns t e going ends =
+    let is : IsUnderWay sc drive k (turns ++ t ∷ []) true = finished sc drive k (turns ++ t ∷ []) t e going ends in
     let last : last_or None (map (λ r. bare (turn_of r)) is.world.book.given) ≡ Some (bare t) =
     ap (last_or None) (sym is.alike ∙ map-append bare turns (t ∷ [])) ∙ last_or-append None (map bare turns) (bare t) in
     let r = last-map (λ r. bare (turn_of r)) is.world.book.given None None (bare t) (λ e. refl) (λ x e. absurd (cc)) last in
-    ap (λ rs. end_at (last_or None rs)) (sym (whole-given sc is_plain told since k (turns ++ t ∷ []) is))
+    ap (λ rs. end_at (last_or None rs)) (sym (whole-given sc drive k (turns ++ t ∷ []) is))
     ∙ ap end_at r.1.0
     ∙ ap end_at (sym (record-is r.0))
     ∙ alike-ends (turn_of r.0) t r.1.1

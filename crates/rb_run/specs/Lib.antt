@@ -1,3 +1,4 @@
+pub mod Seen
 pub mod Turns
 pub mod Reports
 pub mod Tallies

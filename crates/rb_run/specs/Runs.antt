@@ -1,9 +1,9 @@
 -- What comes of a run that is taken to its end.
-use Rattle.std.specs.{Prelude.{ℕ, ◌≡◌, Bool, Option, Some, None, List, []}, List.last_or, Io.KnownBytes.Appends}
+use Rattle.std.specs.{Prelude.{ℕ, ◌≡◌, Option, Some, None, List, [], ◌++◌, Result, OnErr, OnOk}, List.last_or, Option.option_to_list, Io.KnownBytes.Appends}
 use Rattle.rb_rules.specs.{Book.Record, Goodness.Scenario, Rounds.records_of, WorldStep.World}
 use Rattle.rb_world_book.specs.declared.turn.Turn.{Turn}
-use Rattle.rb_outside.specs.Bytes.{AppendsPart}
-use Rattle.rb_run.specs.{declared.ending.Ending.Ending, declared.totals.Totals.Totals, Tallies.totals_of, Turns.{AreAll, AreGiven, text_of}}
+use Rattle.rb_outside.specs.{Bytes.AppendsPart, Causes.HasCause, Writing.Writes}
+use Rattle.rb_run.specs.{declared.ending.Ending.Ending, declared.totals.Totals.Totals, Seen.SeenDrive, Tallies.totals_of, Turns.{AreAll, AreGiven, records_in}}
 use Rattle.rb_world.specs.Worlds.{KeptWorld, Stands}
 use Rattle.rb_run.specs.declared.ending.Ending.TheVariants as ending
 
@@ -27,22 +27,38 @@ end_at (Some (Record.Breach place cause)) = Some ending.Breach
 abbrev pub EndsWith : Scenario → Ending → Type 0
 EndsWith sc ending = end_at (last_or None (records_of sc [])) ≡ Some ending
 
--- all turns of the run were given, and their report was written
-pub record WritesAll (sc : Scenario) (is_plain : Bool) (told since : Option (List Turn)) (held after : Option (List ℕ)) : Type 0 where
-  pub turns : List Turn
-  pub given : AreGiven sc is_plain told since turns
-  pub all : AreAll sc turns
-  pub text : Appends held after (text_of turns)
+-- with the next record, if there is one, the text of the records so far gets more, and what it gets
+-- was written
+pub record WritesNext {K T E : Type 0} (says : List Record → List ℕ) (records : List Record) (next : Option Record)
+    (held : K → Option (List ℕ)) (faults : K → ℕ) (before after : K) (result : Result T E) : Type 0 where
+  pub more : List ℕ
+  pub adds : says (records ++ option_to_list next) ≡ says records ++ more
+  pub written : Writes held faults before after result more
 
--- some turns of the run were given, and a first part of their report was written
-pub record WritesPart (sc : Scenario) (is_plain : Bool) (told since : Option (List Turn)) (held after : Option (List ℕ)) : Type 0 where
+-- all turns of the run were given, and what is said of their records was written
+pub record WritesAll (says : List Record → List ℕ) (sc : Scenario) (drive : SeenDrive) (held after : Option (List ℕ)) : Type 0 where
   pub turns : List Turn
-  pub given : AreGiven sc is_plain told since turns
-  pub text : AppendsPart held after (text_of turns)
+  pub given : AreGiven sc drive turns
+  pub all : AreAll sc turns
+  pub text : Appends held after (says (records_in turns))
+
+-- some turns of the run were given, and a first part of what is said of their records was written
+pub record WritesPart (says : List Record → List ℕ) (sc : Scenario) (drive : SeenDrive) (held after : Option (List ℕ)) : Type 0 where
+  pub turns : List Turn
+  pub given : AreGiven sc drive turns
+  pub text : AppendsPart held after (says (records_in turns))
+
+-- Ok: what is said of all records that the drive gave was written. Err: a first part of it was
+-- written, and a call of the sink failed
+pub record WritesRun {K E : Type 0} (says : List Record → List ℕ) (sc : Scenario) (drive : SeenDrive)
+    (held : K → Option (List ℕ)) (faults : K → ℕ) (before after : K) (result : Result Ending E) : Type 0 where
+  pub all : OnOk result (WritesAll says sc drive (held before) (held after))
+  pub part : OnErr result (WritesPart says sc drive (held before) (held after))
+  pub cause : HasCause (faults before) (faults after) result
 
 -- all turns of the run were given, and these are their numbers
-pub record TalliesAll (sc : Scenario) (is_plain : Bool) (told since : Option (List Turn)) (totals : Totals) : Type 0 where
+pub record TalliesAll (sc : Scenario) (drive : SeenDrive) (totals : Totals) : Type 0 where
   pub turns : List Turn
-  pub given : AreGiven sc is_plain told since turns
+  pub given : AreGiven sc drive turns
   pub all : AreAll sc turns
   pub are : totals ≡ totals_of turns

@@ -1,9 +1,9 @@
 -- The turns that a drive gives in a run, and what they say.
-use Rattle.std.specs.Prelude.{⊤, ℕ, ◌≡◌, Bool, true, Option, Some, None, List, [], ◌++◌, filter_map, length, map}
+use Rattle.std.specs.Prelude.{⊤, ◌≡◌, true, Option, Some, None, List, [], ◌++◌, filter_map, length, map}
 use Rattle.rb_rules.specs.{Book.Record, Goodness.Scenario, Rounds.records_of, WorldStep.IsPrefix}
 use Rattle.rb_world_book.specs.{Records.record_of, declared.turn.Turn.Turn}
-use Rattle.rb_report.specs.Texts.{report_of}
 use Rattle.rb_world.specs.Driving.{bare}
+use Rattle.rb_run.specs.Seen.{SeenDrive}
 use Rattle.rb_world_book.specs.declared.turn.Turn.TheVariants as turn
 
 -- the turn that is a given record
@@ -22,12 +22,12 @@ TellsAll (Some told) (Some since) turns = since ≡ told ++ turns
 
 -- A drive, plain or not, has given these turns, one for each of these first records of the run, in
 -- order: that record, but for ticks, times, masks, states, losses and values
-pub record AreGiven (sc : Scenario) (is_plain : Bool) (before after : Option (List Turn)) (turns : List Turn) : Type 0 where
+pub record AreGiven (sc : Scenario) (drive : SeenDrive) (turns : List Turn) : Type 0 where
   pub records : List Record
   pub first : IsPrefix records (records_of sc [])
   pub alike : map bare turns ≡ map (λ r. bare (turn_of r)) records
-  pub plain : is_plain ≡ true → turns ≡ map turn_of records
-  pub told : TellsAll before after turns
+  pub plain : drive.is_plain ≡ true → turns ≡ map turn_of records
+  pub told : TellsAll drive.told drive.since turns
 
 -- one for each record of the run
 abbrev pub AreAll : Scenario → List Turn → Type 0
@@ -36,7 +36,3 @@ AreAll sc turns = length turns ≡ length (records_of sc [])
 -- the records that the turns are
 abbrev pub records_in : List Turn → List Record
 records_in turns = filter_map record_of turns
-
--- the report of the turns
-abbrev pub text_of : List Turn → List ℕ
-text_of turns = report_of (records_in turns)

@@ -4,6 +4,7 @@ ghost use Rattle.rb_base.specs.Nodes.{size};
 ghost use Rattle.rb_world_book.specs.Records.{record_of};
 ghost use Rattle.rb_run.specs.Histories.{HasDriven};
 ghost use Rattle.rb_run.specs.Runs.{EndsWith, HasGivenNothing, TalliesAll};
+ghost use Rattle.rb_run.specs.Seen.{drive_over};
 ghost use Rattle.rb_run.specs.Tallies.{convicted_in_first, counted, differences_in, greatest};
 
 use crate::ending::{Ending, ending_at};
@@ -72,8 +73,8 @@ fn count(totals: &Totals, turn: &Turn) -> Totals
 /// `World::open` gives it.
 pub fn tally<D: Drive>(world: &mut World, apps: &Apps, drive: &mut D) -> (Ending, Totals)
     requires { HasGivenNothing world.old }
-    ensures totals { TalliesAll world.old.bus (D.is_plain drive.old) (D.told drive.old)
-        (D.told drive.new) result.1 }
+    ensures totals { TalliesAll world.old.bus (drive_over D.is_plain D.told drive.old drive.new)
+        result.1 }
     ensures ending { EndsWith world.old.bus result.0 }
     ensures driven { HasDriven world.old.bus D.gives D.keeps drive.old drive.new }
     ensures bus { world.new.bus ≡ world.old.bus }

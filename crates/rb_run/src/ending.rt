@@ -12,8 +12,8 @@ pub enum Ending {
     Breach,
 }
 
-// How the run ends with this turn, if it does.
-pub(crate) fn ending_at(turn: &Turn) -> Option<Ending>
+/// How the run ends with this turn, if it does.
+pub fn ending_at(turn: &Turn) -> Option<Ending>
     ensures { result ≡ end_at (record_of turn.now) }
 {
     match turn {

@@ -1,17 +1,19 @@
-//! A run that is taken to its end by a drive: its report, written a line at a time, or its four
-//! numbers.
+//! A run that is taken to its end by a drive: what is told of it, written a line at a time, such as
+//! its report, or its four numbers.
 #![tactic(auto)]
 
 ghost use Rattle.rb_run.specs.Histories.{MemDrivesKeepTheRun};
 
 mod counting;
 pub mod ending;
-mod report;
+pub mod report;
+pub mod telling;
 pub mod totals;
 
 pub use counting::tally;
-pub use ending::Ending;
-pub use report::write_run;
+pub use ending::{Ending, ending_at};
+pub use report::{Report, newest_block};
+pub use telling::{Teller, tell_to_end};
 pub use totals::Totals;
 
 /// A drive that keeps its turns (`MemDrive`) and has room left for all turns of a run has, after

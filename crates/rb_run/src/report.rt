@@ -1,18 +1,13 @@
 //! The report of a run, written a line at a time.
-ghost use Rattle.std.specs.Prelude.{◌≡◌, IfOk, OnErr, OnOk};
+ghost use Rattle.std.specs.Prelude.{◌≡◌};
 ghost use Rattle.rb_world_book.specs.Records.{record_of};
-ghost use Rattle.rb_outside.specs.Causes.{HasCause};
 ghost use Rattle.rb_outside.specs.Writing.{Writes};
 ghost use Rattle.rb_report.specs.Texts.{block_text, deliveries_text};
-ghost use Rattle.rb_run.specs.Histories.{HasDriven, HasDrivenSome};
 ghost use Rattle.rb_run.specs.Reports.{convictions_text, epochs_text, newest_with, ports_text, turn_text};
-ghost use Rattle.rb_run.specs.Runs.{EndsWith, HasGivenNothing, WritesAll, WritesPart};
 
-use crate::ending::{Ending, ending_at};
+use crate::telling::Teller;
 use rb_outside::{Failed, Sink, write_line};
-use rb_port::Apps;
 use rb_report::{breach_line, convicted_line, delivery_line, end_line, epoch_line, port_line};
-use rb_world::{Drive, World};
 use rb_world_book::{FrameRecord, NodeLine, PortLine, SlotRecord, Turn};
 
 // Writes the first tick of each node.
@@ -97,8 +92,8 @@ fn write_turn<K: Sink>(turn: &Turn, newest: u32, output: &mut K) -> Result<(), F
     }
 }
 
-// The number of the newest block after a turn.
-fn newest_block(newest: u32, turn: &Turn) -> u32
+/// The number of the newest block after a turn, which was that of frame `newest` before it.
+pub fn newest_block(newest: u32, turn: &Turn) -> u32
     ensures { result ≡ newest_with newest (record_of turn.now) }
 {
     match turn {
@@ -107,37 +102,27 @@ fn newest_block(newest: u32, turn: &Turn) -> u32
     }
 }
 
-/// Takes a run from its start to its end, and writes its report as the drive gives the turns: a
-/// line at a time, each write asking for the rest of one line. `Failed` is the answer only if a
-/// write failed; a first part of the report has then been written. The world must be as
-/// `World::open` gives it.
-pub fn write_run<K: Sink, D: Drive>(
-    world: &mut World,
-    apps: &Apps,
-    drive: &mut D,
-    output: &mut K,
-) -> Result<Ending, Failed>
-    requires { HasGivenNothing world.old }
-    ensures all { OnOk result (WritesAll world.old.bus (D.is_plain drive.old)
-        (D.told drive.old) (D.told drive.new) (K.held output.old) (K.held output.new)) }
-    ensures part { OnErr result (WritesPart world.old.bus (D.is_plain drive.old)
-        (D.told drive.old) (D.told drive.new) (K.held output.old) (K.held output.new)) }
-    ensures ending { IfOk result (EndsWith world.old.bus) }
-    ensures driven { OnOk result (HasDriven world.old.bus D.gives D.keeps drive.old drive.new) }
-    ensures driven_in_part { OnErr result
-        (HasDrivenSome world.old.bus D.gives D.keeps drive.old drive.new) }
-    ensures cause { HasCause (K.faults output.old) (K.faults output.new) result }
-    ensures bus { world.new.bus ≡ world.old.bus }
-    ensures stays { D.is_plain drive.new ≡ D.is_plain drive.old }
-{
-    let mut newest = 0;
-    for passed in 0..u32::MAX {
-        let turn = drive.next(world, apps);
-        write_turn(&turn, newest, output)?;
-        if let Some(ending) = ending_at(&turn) {
-            return Ok(ending);
-        }
-        newest = newest_block(newest, &turn);
+/// Tells the report of a run. The newest block so far is that of frame `newest`, which is 0 at the
+/// start.
+#[derive(Clone, Copy, Debug, PartialEq, Eq)]
+pub struct Report {
+    pub newest: u32,
+}
+
+impl Teller for Report {
+    ghost use Rattle.std.specs.Prelude.{◌≡◌, refl};
+    ghost use Rattle.rb_report.specs.Texts.{report_of};
+    ghost use Rattle.rb_run.specs.Reports.{newest_after};
+
+    ghost says = { λ _ _ records. report_of records };
+
+    ghost has_told = { λ report _ records. report.newest ≡ newest_after 0 records };
+
+    ghost says_nothing = { λ _ _. refl };
+
+    fn tell<K: Sink>(&mut self, turn: &Turn, output: &mut K) -> Result<(), Failed> {
+        write_turn(turn, self.newest, output)?;
+        self.newest = newest_block(self.newest, turn);
+        Ok(())
     }
-    unreachable!()
 }

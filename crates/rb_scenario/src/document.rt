@@ -10,9 +10,8 @@ ghost use Rattle.rb_scenario.specs.Reading.{fits_bus, scenario_of, scenario_on};
 use crate::hosts::{apps_of, requests_of, words_of};
 use crate::reading::{delays_of, fits_bus, sayings_of};
 use crate::rules::{are_few, start_together};
-use crate::scenario::{ClockList, SayList, Scenario};
-use rb_base::{Biu, OutOfMemory, Rmu};
-use rb_link::Delays;
+use crate::scenario::{ClockList, DelayList, SayList, Scenario};
+use rb_base::{Biu, Rmu};
 use rb_plan::Feasible;
 use rb_scenario_document::{has_unknown_key, has_wrong_form, lacks_key};
 use rb_scenario_entries::bus::{Bus, bus_in};
@@ -56,10 +55,6 @@ pub(crate) fn scenario_on(alloc: Global, bus: &Bus, table: &Table) -> Result<Sce
     if !are_few(&says, &rules, &clocks) {
         return Err(Refusal::TooMany);
     }
-    let delays = match Delays::new(alloc, base, &rules) {
-        Ok(delays) => delays,
-        Err(OutOfMemory) => return Err(Refusal::OutOfMemory),
-    };
     Ok(Scenario {
         plan,
         frames: bus.frames,
@@ -67,7 +62,7 @@ pub(crate) fn scenario_on(alloc: Global, bus: &Bus, table: &Table) -> Result<Sce
         words: words_of(bus.shape.biu(), table),
         apps: apps_of(table),
         clocks: ClockList::new(clocks),
-        delays,
+        delays: DelayList::new(base, rules),
         biu_onset,
         rmu_onset,
         says: SayList::new(says),

@@ -10,4 +10,4 @@ pub mod scenario;
 pub use document::read;
 pub use rb_rules::{Content, Say};
 pub use rb_scenario_entries::Refusal;
-pub use scenario::{ClockList, SayList, Scenario};
+pub use scenario::{ClockList, DelayList, SayList, Scenario};

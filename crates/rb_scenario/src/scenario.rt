@@ -1,8 +1,7 @@
 //! What a document says.
 use rb_clock::Clock;
-use rb_link::Delays;
 use rb_plan::Feasible;
-use rb_rules::Say;
+use rb_rules::{Rule, Say};
 use std::marker::Model;
 
 /// The clocks of the nodes of a bus: those of the BIUs, then those of the RMUs.
@@ -43,6 +42,47 @@ impl ClockList {
         ensures { slice_get self.now i ≡ Some result.now }
     {
         &self.items[i]
+    }
+}
+
+/// How long messages are on their way, in reference units: the base for a message for which there
+/// is no rule, and the rules.
+#[derive(Drop)]
+pub struct DelayList {
+    base: u32,
+    rules: Vec<Rule>,
+}
+
+impl Model for DelayList {
+    ghost use Rattle.rb_rules.specs.Links.{DelayRules};
+
+    ghost Value = { DelayRules };
+
+    ghost view = { λ d. record { base = d.base; rules = d.rules.items } };
+}
+
+impl DelayList {
+    ghost use Rattle.std.specs.Prelude.{◌≡◌};
+
+    /// The list of these rules, with this base.
+    pub fn new(base: u32, rules: Vec<Rule>) -> DelayList
+        ensures { result ≡ record { base = base; rules = rules.items } }
+    {
+        DelayList { base, rules }
+    }
+
+    /// The delay of a message for which there is no rule.
+    pub fn base(&self) -> u32
+        ensures { result ≡ self.now.base }
+    {
+        self.base
+    }
+
+    /// The rules, as the document has them.
+    pub fn rules(&self) -> &[Rule]
+        ensures { result.now ≡ self.now.rules }
+    {
+        &self.rules
     }
 }
 
@@ -103,7 +143,7 @@ pub struct Scenario {
     /// The clocks of all nodes.
     pub clocks: ClockList,
     /// How long messages are on their way.
-    pub delays: Delays,
+    pub delays: DelayList,
     /// For each BIU the frame and the slot from which on it is not good, if it ever is not.
     pub biu_onset: [Option<(u32, u16)>; 16],
     /// For each RMU the first slot in which it is not good, if there is one.

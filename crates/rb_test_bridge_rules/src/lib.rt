@@ -103,11 +103,16 @@ pub fn a_faulty_replica()
     ensures schedule { IsSchedule faulty_replica [] 0 slot_each }
     ensures word { Outnumber (offers faulty_replica [] 0 slot_each 7 10)
         (has_slot faulty_replica slot_each 7) }
+    ensures port { IsGoodPort faulty_replica 0 0 }
+    ensures other_port { IsGoodPort faulty_replica 0 1 }
+{}
+
+/// The premises of the law on the middle of a group: the good owners among these replicas outnumber
+/// the others, and what they offer is within bounds.
+pub fn owners_beside_a_faulty_replica()
     ensures owners { Outnumber (is_good_owner faulty_replica [] 0 slot_each 7)
         (has_slot faulty_replica slot_each 7) }
     ensures within { OffersAreWithin faulty_replica [] 0 slot_each 7 10 10 }
-    ensures port { IsGoodPort faulty_replica 0 0 }
-    ensures other_port { IsGoodPort faulty_replica 0 1 }
 {}
 
 /// The premises of the laws on the order of records: up to one record those of a run are of frame

@@ -15,19 +15,25 @@ ghost use Rattle.rb_test_rules.specs.Ordinary.{greatest_drift, one_state};
 ghost use Rattle.rb_test_rules.specs.Ordinary.{ordinary_use, smallest_bus};
 ghost use Rattle.rb_test_rules.specs.Parts.{biu, plan, rmu, sizes};
 
-/// Slots and frames of the bus, at the edges of both.
-pub fn slots_and_frames_of_the_bus()
-    // The schedule is there from the last schedule slot on, and stays. If each BIU asks for one
-    // slot, the last four are idle.
-    ensures owners { map (λ bus. bus.owners)
+/// The schedule is there from the last schedule slot on, and stays. If each BIU asks for one slot,
+/// the last four are idle.
+pub fn owners_of_the_bus()
+    ensures { map (λ bus. bus.owners)
         (at_first ∷ scheduled ∷ bus_after_slot sizes Fault scheduled ∷ [])
         ≡ ([] ∷ (0 ∷ 1 ∷ 2 ∷ 3 ∷ 0 ∷ 1 ∷ 2 ∷ 3 ∷ []) ∷ (0 ∷ 1 ∷ 2 ∷ 3 ∷ 0 ∷ 1 ∷ 2 ∷ 3 ∷ []) ∷ []) }
+{}
+
+/// Slots of the bus at the edges of a frame, and who sends in them.
+pub fn slots_of_the_bus()
     ensures slots { map (λ bus. bus.slot) (at_first ∷ scheduled ∷ at_the_end ∷ [])
         ≡ (0 ∷ 4 ∷ 19 ∷ []) }
     ensures senders { map (sender_on sizes)
         (at_first ∷ scheduled ∷ record half_scheduled { slot = 8 } ∷ at_the_end ∷ [])
         ≡ (Node 0 ∷ Node 0 ∷ Nobody ∷ EachTrusted ∷ []) }
-    // What is delivered in a data slot: the value, at the BIUs that are good there.
+{}
+
+/// What is delivered in a data slot: the value, at the BIUs that are good there.
+pub fn deliveries_of_the_bus()
     ensures delivered_to_all { map (λ line. line.receiver)
         (lines_on ordinary_use 0 4 (Node 0) (Word 10))
         ≡ (0 ∷ 1 ∷ 2 ∷ 3 ∷ []) }
@@ -35,13 +41,20 @@ pub fn slots_and_frames_of_the_bus()
         (lines_on asymmetric_sender 0 5 (Node 1) Fault)
         ≡ (0 ∷ 2 ∷ 3 ∷ []) }
     ensures delivered_in_an_idle_slot { lines_on ordinary_use 0 4 Nobody Fault ≡ [] }
-    // Which slots are complete: all of a frame without a breach, so that the next one is reached,
-    // and those before a breach.
+{}
+
+/// Which slots are complete: all of a frame without a breach, so that the next one is reached, and
+/// those before a breach.
+pub fn complete_slots()
     ensures last_of_a_frame { IsComplete smallest_bus [] 0 4 }
     ensures next_frame { IsReached smallest_bus [] 1 }
     ensures before_the_breach { IsComplete two_sided [] 0 5 }
     ensures at_the_breach { (after_slot two_sided [] 0 6).book.ended ≡ true }
-    // The diagnosis slots of a frame convict, by those whom the bus trusts in it.
+{}
+
+/// The diagnosis slots of a frame convict, by those whom the bus trusts in it. The next frame
+/// begins with no owners.
+pub fn frames_of_the_bus()
     ensures bius { (bus_after_frame sizes 9170000 at_the_end).bius ≡ 13 }
     ensures rmus { (bus_after_frame sizes 9170000 at_the_end).rmus ≡ 3 }
     ensures anew { map (λ bus. bus.owners) (bus_after_frame sizes 9170000 at_the_end ∷ [])
@@ -49,47 +62,61 @@ pub fn slots_and_frames_of_the_bus()
     ensures next { (bus_after_frame sizes 9170000 at_the_end).frame ≡ 1 }
 {}
 
-/// Which steps the bus takes, and which it cannot.
+/// Steps of the bus from slot to slot: a good BIU's request and its word, and an idle slot.
 pub fn steps_of_the_bus()
-    // Steps of the bus: a good BIU's request and its word, an idle slot, and the step to the next
-    // frame, which takes 908 of the shortest ticks at least.
     ensures request { IsStep ordinary_use offered at_first
         (bus_after_slot sizes (Word 2) at_first) }
     ensures word { IsStep ordinary_use offered scheduled
         (bus_after_slot sizes (Word 10) scheduled) }
     ensures idle { IsStep ordinary_use offered (record half_scheduled { slot = 8 })
         (bus_after_slot sizes Fault (record half_scheduled { slot = 8 })) }
+{}
+
+/// The step to the next frame takes 908 of the shortest ticks at least. The steps of a run are
+/// counted over its frames.
+pub fn steps_over_frames()
     ensures frame { IsStep ordinary_use offered at_a_quiet_end
         (bus_after_frame sizes 9079092 at_a_quiet_end) }
     ensures run { IsRun ordinary_use offered 2 first_slots }
     ensures counted { map (steps_to sizes 1) (0 ∷ 19 ∷ []) ≡ (20 ∷ 39 ∷ []) }
-    // Values that a slot cannot have: Fault, or another word than it is offered, if its sender is
-    // good, and a word if it is idle.
+{}
+
+/// A slot whose sender is good has no Fault, and no other word or request than it is offered.
+pub fn values_of_a_good_sender()
     ensures fault_of_a_good_sender { ¬ MayHave ordinary_use scheduled (offered 0 4) (Data 0)
         (Node 0) Fault }
     ensures another_word { ¬ MayHave ordinary_use scheduled (offered 0 4) (Data 0) (Node 0)
         (Word 11) }
     ensures another_request { ¬ MayHave ordinary_use at_first (offered 0 0) (Schedule 0) (Node 0)
         (Word 3) }
-    ensures word_of_nobody { ¬ MayHave ordinary_use half_scheduled (offered 0 8) (Data 4) Nobody
+{}
+
+/// A slot that is idle has no word.
+pub fn value_of_an_idle_slot()
+    ensures { ¬ MayHave ordinary_use half_scheduled (offered 0 8) (Data 4) Nobody
         (Word 10) }
 {}
 
-/// What nodes have in common with the bus.
-pub fn nodes_of_the_bus()
-    // The bands of the bus at their edges: BIU 0, which starts as late and ticks as slowly as the
-    // plan allows, and all others. One unit later at the start, or one unit less a tick, is out of
-    // them.
+/// The bands of the bus at their edges: BIU 0, which starts as late and ticks as slowly as the plan
+/// allows, and all others. One unit later at the start, or one unit less a tick, is out of them.
+pub fn bands_of_the_bus()
     ensures latest { IsInBand greatest_drift at_first Biu 0 biu 855 }
     ensures earliest { IsInBand greatest_drift at_first Biu 1 biu 855 }
     ensures at_the_begin { IsInBand greatest_drift at_first Rmu 0 rmu 0 }
     ensures too_late { ¬ IsInBand out_of_bands at_first Biu 0 biu 855 }
     ensures too_early { ¬ IsInBand out_of_bands at_first Biu 1 biu 855 }
-    // Nodes that hold the bus's sets, votes and next epochs.
+{}
+
+/// Nodes that hold the sets and the owners of the bus.
+pub fn sets_of_the_bus()
     ensures trusted_by_a_biu { HoldsTrusted scheduled Biu biu }
     ensures trusted_by_an_rmu { HoldsTrusted scheduled Rmu rmu }
     ensures owners { HoldsOwners ordinary_use scheduled biu_with_owners }
     ensures before_the_schedule { HoldsOwners ordinary_use at_first biu }
+{}
+
+/// Nodes that hold the votes and the next epochs of the bus.
+pub fn votes_and_epochs_of_the_bus()
     ensures vote { HoldsVote ordinary_use 0 scheduled Biu (record biu { votes = Word 2 ∷ [] }) }
     ensures no_vote { HoldsVote ordinary_use 4 scheduled Rmu rmu }
     ensures next_epoch_of_a_biu { FrameTakes sizes plan Biu (record biu { k2 = Some 878 }) }

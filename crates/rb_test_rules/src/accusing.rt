@@ -25,20 +25,25 @@ pub fn convictions()
     ensures rmus_later { next_but_one_frame.far.trusted ≡ 3 }
 {}
 
-/// Whom nodes accuse, and for how long.
-pub fn accusations()
-    // Frames without evidence are counted up to 4096, which is the longest probation.
+/// Frames without evidence are counted up to 4096, which is the longest probation.
+pub fn longest_probation()
     ensures last_but_one { (standing_at_end 4096 (calm_for 4094)).direct ≡ 1 }
     ensures last { (standing_at_end 4096 (calm_for 4095)).direct ≡ 0 }
     ensures counted_no_further { slice_index (standing_at_end 0 (calm_for 4096)).calm 0 ≡ 4096 }
-    // A sender compares the relays with what it sent, and not with its vote, which is Fault here:
-    // two RMUs differ.
+{}
+
+/// A sender compares the relays with what it sent, and not with its vote, which is Fault here: two
+/// RMUs differ.
+pub fn accusations_by_a_sender()
     ensures kept_after_stage_1 { after_stage_1.sent ≡ Some (Word 2) }
     ensures voted { take 1 sender_of_unlike.votes ≡ (Fault ∷ []) }
     ensures accused { sender_of_unlike.far.mismatch ≡ 3 }
     ensures forgotten_after_stage_2 { sender_of_unlike.sent ≡ None }
-    // Who speaks in the tail is accused.
-    ensures noise_in_the_tail { after_noise_in_the_tail.far.direct ≡ 1 }
+{}
+
+/// Who speaks in the tail is accused.
+pub fn accusation_of_noise()
+    ensures { after_noise_in_the_tail.far.direct ≡ 1 }
 {}
 
 /// What is evidence.

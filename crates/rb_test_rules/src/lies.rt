@@ -6,25 +6,32 @@ ghost use Rattle.rb_rules.specs.Rounds.{records_of};
 ghost use Rattle.rb_test_rules.specs.Floods.{flooding_rmu};
 ghost use Rattle.rb_test_rules.specs.Lies.{silent_rmu, silent_rmu_records, symmetric_rmu, symmetric_rmu_records, asymmetric_sender, asymmetric_sender_records, no_majority, no_majority_records, two_sided, two_sided_records, too_few_good, too_few_good_records, message_in_time, message_in_time_records, message_too_late, message_too_late_records, ill_formed_messages, ill_formed_messages_records, greedy_biu, greedy_biu_records, nobody_good, nobody_good_records};
 
-/// One node is silent or lies.
-pub fn one_faulty_node()
-    // An RMU is silent: the words come all the same, and all convict it.
+/// One RMU is silent or lies.
+pub fn one_faulty_rmu()
+    // It is silent: the words come all the same, and all convict it.
     ensures silent_rmu { records_of silent_rmu [] ≡ silent_rmu_records }
-    // An RMU relays a wrong word alike to all: the words come all the same, each sender accuses it,
-    // and all convict it.
+    // It relays a wrong word alike to all: the words come all the same, each sender accuses it, and
+    // all convict it.
     ensures symmetric_rmu { records_of symmetric_rmu [] ≡ symmetric_rmu_records }
-    // A BIU says another word to one RMU in its data slot: all good BIUs deliver what the other
-    // RMUs relay, and all convict it.
-    ensures asymmetric_sender { records_of asymmetric_sender [] ≡ asymmetric_sender_records }
-    // A BIU says three different words: all good BIUs deliver none.
-    ensures no_majority { records_of no_majority [] ≡ no_majority_records }
-    // An RMU of which all else is right relays a request in the last tick of the window: nobody
-    // accuses it.
+{}
+
+/// One RMU, of which all else is right, relays a request in the last tick of the window.
+pub fn one_rmu_at_the_last_tick()
+    // Nobody accuses it.
     ensures message_in_time { records_of message_in_time [] ≡ message_in_time_records }
     // The relay comes in that tick at one BIU, and one tick later at the three others: these accuse
     // the RMU, and all convict it.
     ensures message_too_late { records_of message_too_late [] ≡ message_too_late_records }
-    // A BIU asks for more slots than there are, and falls silent: the others have their slots, and
+{}
+
+/// One BIU lies, or asks for too much.
+pub fn one_faulty_biu()
+    // It says another word to one RMU in its data slot: all good BIUs deliver what the other RMUs
+    // relay, and all convict it.
+    ensures asymmetric_sender { records_of asymmetric_sender [] ≡ asymmetric_sender_records }
+    // It says three different words: all good BIUs deliver none.
+    ensures no_majority { records_of no_majority [] ≡ no_majority_records }
+    // It asks for more slots than there are, and falls silent: the others have their slots, and
     // deliver none in those of the greedy one.
     ensures greedy_biu { records_of greedy_biu [] ≡ greedy_biu_records }
 {}

@@ -44,13 +44,16 @@ ghost use Rattle.rb_rules.specs.NodeState.{first_state};
 ghost use Rattle.rb_rules.specs.Plan.{longest_of, shortest_of};
 ghost use Rattle.rb_rules.specs.SyncStage.{new_epoch_of};
 
-/// A slot in which an RMU lies asymmetrically: the premise holds, all vote for the request, and
-/// both BIUs accuse the RMU, one by mismatch and one directly.
+/// A slot in which an RMU lies asymmetrically: the premise holds, and all vote for the request.
 pub fn slot_with_a_lying_relay()
     ensures exchange { IsExchange lying_relay all_trusted [] }
     ensures premise { KeepsPremise lying_relay }
     ensures bius { map (vote_after lying_relay Biu) (0 ∷ 1 ∷ []) ≡ (Word 2 ∷ Word 2 ∷ []) }
     ensures rmus { map (vote_after lying_relay Rmu) (0 ∷ 1 ∷ []) ≡ (Word 2 ∷ Word 2 ∷ []) }
+{}
+
+/// Both BIUs accuse the RMU that lies in this slot, one by mismatch and one directly.
+pub fn accusers_of_a_lying_relay()
     ensures mismatch { map (λ i. (state_after lying_relay 3 Biu i).far.mismatch) (0 ∷ 1 ∷ [])
         ≡ (4 ∷ 0 ∷ []) }
     ensures direct { map (λ i. (state_after lying_relay 3 Biu i).far.direct) (0 ∷ 1 ∷ [])
@@ -110,14 +113,19 @@ pub fn running_nodes()
     ensures alike { AreAlike one_state third_stage.hands 0 1 }
 {}
 
-/// A receiver beside the smallest bus accepts the call of its RMU as the BIU does: what
-/// `frames_begin_near` supposes of the receiver.
+/// A receiver beside the smallest bus takes the call of its RMU as the BIU does: what
+/// `frames_begin_near` supposes of the bus and of the receiver's clock.
 pub fn a_receiver_beside_the_bus()
     ensures lawful { IsLawful smallest_bus }
     ensures complete { IsComplete smallest_bus [] 0 4 }
     ensures most_good { AreMostGood smallest_bus 0 }
     ensures clock { IsClock (shortest_of smallest_bus.plan) (longest_of smallest_bus.plan) steady }
     ensures takes { TakesTheCalls smallest_bus [] 0 steady call_taken call_time }
+{}
+
+/// What this receiver saw of the call: what `frames_begin_near` supposes of its verdict, its sights
+/// and its middle.
+pub fn what_the_receiver_saw()
     ensures verdict { verdict_with call_seen (before_stage smallest_bus [] 0 4 3).book.stages
         ≡ None }
     ensures saw { SawTheTimes (before_stage smallest_bus [] 0 4 3).book.stages
@@ -125,25 +133,35 @@ pub fn a_receiver_beside_the_bus()
     ensures middle { middle_of (present (each_node call_taken)) ≡ Some 203 }
 {}
 
-/// What an RMU says less than a tick before it fails, by a late clock beside the bus: the premises
-/// of `faulty_rmus_may_speak_by_any_clock`.
-pub fn a_failing_rmu_by_the_latest_clock()
+/// An RMU fails in slot 2, and most RMUs stay good: premises of
+/// `faulty_rmus_may_speak_by_any_clock`.
+pub fn a_failing_rmu()
     ensures lawful { IsLawful failing_rmu }
     ensures most_good { are_most failing_rmu.sizes (set_of (is_always_good failing_rmu [])) ≡ true }
-    ensures begins { BeginsBeside failing_rmu [] latest_clock 0 0 }
     ensures running { IsRunning (before_slot failing_rmu [] 0 2) }
     ensures onset { get_or failing_rmu.rmu_onsets said_before.from None ≡ Some (0, 2) }
+{}
+
+/// What this RMU says less than a tick before it fails, by a late clock beside the bus: the
+/// premises of `faulty_rmus_may_speak_by_any_clock` on the clock.
+pub fn a_failing_rmu_by_the_latest_clock()
+    ensures begins { BeginsBeside failing_rmu [] latest_clock 0 0 }
     ensures time { time_of latest_clock 90 < said_before.time + shortest_of failing_rmu.plan }
 {}
 
 /// In the two frames of a run a good BIU offers the words of one letter, which a sender of letters
-/// gave: the premises of the laws of letters.
+/// gave: the premises of the laws of letters on the run.
 pub fn a_letter_over_the_bus()
     ensures lawful { IsLawful one_sender }
     ensures first { AreFirst one_sender second_word letter_records }
     ensures receiver { IsGoodThrough one_sender 1 letter_records }
     ensures sender { IsGoodThrough one_sender 0 letter_records }
     ensures offered { offered_by one_sender second_word 0 letter_records ≡ letter_sent.words }
+{}
+
+/// The letter that this sender took, and the words that it gave: the premises of the laws of
+/// letters on letters and their words.
+pub fn a_letter_in_words()
     ensures letters { All IsLetter letter_sent.taken }
     ensures bytes { All (λ letter. All (λ byte. byte < 256) letter) letter_sent.taken }
     ensures words { IsFirstPart (without_zeros letter_sent.words) (words_of letter_sent.taken) }

@@ -5,8 +5,8 @@ ghost use Rattle.std.specs.Prelude.{◌≡◌, []};
 ghost use Rattle.rb_rules.specs.Rounds.{records_of};
 ghost use Rattle.rb_test_rules.specs.Resynchronisation.{false_accuser, false_accuser_records, call_at_the_first_tick, call_at_the_first_tick_records, calls_at_both_edges, calls_at_both_edges_records, alike_in_time, alike_in_time_records, apart_in_time, apart_in_time_records};
 
-/// One node lies in the sync slot, or of both kinds one.
-pub fn lies_in_the_sync_slot()
+/// One node lies in the sync slot.
+pub fn one_liar_in_the_sync_slot()
     // A BIU accuses all RMUs and calls at its own ticks: nobody is convicted, and the middles stay.
     ensures false_accuser { records_of false_accuser [] ≡ false_accuser_records }
     // An RMU calls at the window's first tick at all BIUs: the middles stay.
@@ -15,8 +15,11 @@ pub fn lies_in_the_sync_slot()
     // An RMU calls at the first tick at two BIUs and at the last at the others: the middles stay,
     // and the premise holds.
     ensures calls_at_both_edges { records_of calls_at_both_edges [] ≡ calls_at_both_edges_records }
-    // Both kinds have a liar, but the calls of the RMU are as close as two good ones may be: they
-    // are alike.
+{}
+
+/// Of both kinds one node lies in the sync slot.
+pub fn liars_of_both_kinds()
+    // The calls of the RMU are as close as two good ones may be: they are alike.
     ensures alike_in_time { records_of alike_in_time [] ≡ alike_in_time_records }
     // The calls are one unit further apart: the run ends with the breach.
     ensures apart_in_time { records_of apart_in_time [] ≡ apart_in_time_records }

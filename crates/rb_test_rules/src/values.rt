@@ -19,60 +19,94 @@ ghost use Rattle.rb_test_rules.specs.Ordinary.{ordinary_use};
 ghost use Rattle.rb_test_rules.specs.Parts.{biu, sizes};
 ghost use Rattle.rb_test_rules.specs.Told.{at};
 
-/// Votes, and the owners that follow from them.
-pub fn votes_and_owners()
-    // A majority is more than half, and Fault counts as a value.
+/// A majority is more than half, and Fault counts as a value.
+pub fn majorities()
     ensures half { majority_of (Word 1 ∷ Word 1 ∷ Word 2 ∷ Word 2 ∷ []) ≡ Fault }
     ensures more_than_half { majority_of (Word 2 ∷ Word 1 ∷ Word 1 ∷ Word 2 ∷ Word 1 ∷ [])
         ≡ Word 1 }
     ensures against_faults { majority_of (Fault ∷ Word 1 ∷ Fault ∷ Word 1 ∷ []) ≡ Fault }
     ensures of_most { majority_of (Word 1 ∷ Word 1 ∷ Word 2 ∷ Word 3 ∷ []) ≡ Fault }
     ensures of_none { majority_of [] ≡ Fault }
-    // Who owns a slot: data slots have owners, once the schedule is known.
+{}
+
+/// Who owns a slot: data slots have owners, once the schedule is known.
+pub fn owners_of_slots()
     ensures before_the_schedule { owner_at sizes biu 4 ≡ None }
     ensures with_the_schedule { map (owner_at sizes (record biu { owners = 0 ∷ 3 ∷ [] }))
         (0 ∷ 4 ∷ 5 ∷ 6 ∷ 12 ∷ 16 ∷ 19 ∷ [])
         ≡ (None ∷ Some 0 ∷ Some 3 ∷ None ∷ None ∷ None ∷ None ∷ []) }
 {}
 
-/// Applications, and ports with their states and losses.
-pub fn applications_and_ports()
-    // What the applications offer, and their states after a delivery; None is Fault.
-    ensures offered { map (λ app. offered_by app 4294967303 5) (0 ∷ 1 ∷ 2 ∷ [])
+/// What the applications offer.
+pub fn offers_of_applications()
+    ensures { map (λ app. offered_by app 4294967303 5) (0 ∷ 1 ∷ 2 ∷ [])
         ≡ (7 ∷ 7 ∷ 12 ∷ []) }
+{}
+
+/// The states of the applications after a delivery. None is Fault.
+pub fn states_of_applications()
     ensures learned { map (λ app. learned_by app 5 (Some 9)) (0 ∷ 1 ∷ 2 ∷ []) ≡ (5 ∷ 6 ∷ 164 ∷ []) }
     ensures learned_of_a_fault { map (λ app. learned_by app 5 None) (0 ∷ 1 ∷ 2 ∷ [])
         ≡ (5 ∷ 6 ∷ 155 ∷ []) }
     ensures past_the_greatest { map (λ app. learned_by app 18446744073709551615 (Some 30))
         (1 ∷ 2 ∷ []) ≡ (0 ∷ 18446744073709551615 ∷ []) }
-    // Losses are counted among the last 64 deliveries.
-    ensures all_lost { losses_of (record { app = 0; state = 1; faults = replicate 64 true }) ≡ 64 }
-    ensures older { losses_of (record { app = 0; state = 1; faults = replicate 63 false ++ true ∷ true ∷ true ∷ [] }) ≡ 1 }
-    ensures delivered { losses_of (delivered_to (record { app = 0; state = 1; faults = true ∷ false ∷ [] }) Fault) ≡ 2 }
-    // A state is handed to its own port, in its own frame, and the later one counts.
-    ensures states { map (λ p. p.state) (hand_over 1 (record { frame = 1; biu = 1; state = 6 } ∷ record { frame = 2; biu = 0; state = 7 } ∷ record { frame = 1; biu = 1; state = 8 } ∷ [])
-        (record { app = 0; state = 1; faults = [] } ∷ record { app = 0; state = 2; faults = [] } ∷ [])) ≡ (1 ∷ 8 ∷ []) }
-    ensures losses { map losses_of (hand_over 1 (record { frame = 1; biu = 0; state = 6 } ∷ []) (record { app = 0; state = 1; faults = true ∷ [] } ∷ [])) ≡ (1 ∷ []) }
 {}
 
-/// What a book gives after a stage, and after its end.
-pub fn milestones_of_a_book()
-    // Three stages a slot; the frame's record comes after stage 3 of the sync slot, and that slot
-    // has none of its own.
+/// Losses are counted among the last 64 deliveries.
+pub fn losses_of_ports()
+    ensures all_lost { losses_of (record { app = 0; state = 1; faults = replicate 64 true }) ≡ 64 }
+    ensures older { losses_of
+        (record { app = 0; state = 1; faults = replicate 63 false ++ true ∷ true ∷ true ∷ [] })
+        ≡ 1 }
+    ensures delivered { losses_of
+        (delivered_to (record { app = 0; state = 1; faults = true ∷ false ∷ [] }) Fault)
+        ≡ 2 }
+{}
+
+/// A state is handed to its own port, in its own frame, and the later one counts.
+pub fn states_handed_over()
+    ensures { map (λ p. p.state) (hand_over 1
+        (record { frame = 1; biu = 1; state = 6 } ∷ record { frame = 2; biu = 0; state = 7 }
+        ∷ record { frame = 1; biu = 1; state = 8 } ∷ [])
+        (record { app = 0; state = 1; faults = [] } ∷ record { app = 0; state = 2; faults = [] }
+        ∷ []))
+        ≡ (1 ∷ 8 ∷ []) }
+{}
+
+/// A state that is handed over leaves the losses as they are.
+pub fn losses_after_a_state()
+    ensures { map losses_of (hand_over 1 (record { frame = 1; biu = 0; state = 6 } ∷ [])
+        (record { app = 0; state = 1; faults = true ∷ [] } ∷ []))
+        ≡ (1 ∷ []) }
+{}
+
+/// Three stages a slot. The frame's record comes after stage 3 of the sync slot.
+pub fn stages_of_a_book()
     ensures within_a_slot { after_stage sizes (at 0 5 1) ≡ Stage (at 0 5 2) }
     ensures next_slot { after_stage sizes (at 0 18 3) ≡ Stage (at 0 19 1) }
     ensures within_the_sync_slot { after_stage sizes (at 0 19 2) ≡ Stage (at 0 19 3) }
     ensures next_frame { after_stage sizes (at 0 19 3) ≡ Begin 1 }
+{}
+
+/// A slot's record comes after its stage 3, and the sync slot has none of its own.
+pub fn records_of_slots()
     ensures of_a_slot { slot_records sizes (at 0 5 3) [] ≡ (Slot 0 5 [] ∷ []) }
     ensures before_its_end { slot_records sizes (at 0 5 2) [] ≡ [] }
     ensures of_the_sync_slot { slot_records sizes (at 0 19 3) [] ≡ [] }
-    // In a book that has ended nothing is settled any more: no stage, no frame, no end.
+{}
+
+/// In a book that has ended no stage is settled any more.
+pub fn stage_after_the_end()
     ensures stage { (with_stage ordinary_use (at 0 18 3) nothing_told ended_book).given
         ≡ ended_book.given }
     ensures upcoming { (with_stage ordinary_use (at 0 18 3) nothing_told ended_book).upcoming
         ≡ End }
     ensures still_ended { (with_stage ordinary_use (at 0 18 3) nothing_told ended_book).ended
         ≡ true }
+{}
+
+/// In a book that has ended no frame is settled any more, and no end.
+pub fn frame_after_the_end()
     ensures frame { (with_frame ordinary_use 0 (begun ∷ []) ended_book).given ≡ ended_book.given }
     ensures end { (with_end ended_book).given ≡ ended_book.given }
 {}

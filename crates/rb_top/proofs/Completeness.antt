@@ -1,5 +1,5 @@
 -- The answers that must come of a command, from all that is said of an answer.
-use Rattle.std.proofs.Common.{◌≡◌, ℕ, ◌<◌, ◌⊎◌, true, false, Bool, List, length, Option, Some, None, Result, Ok, Err, arith, inl, inr, refl, subst, sym, ◌∙◌, ap}
+use Rattle.std.proofs.Common.{◌≡◌, ℕ, ◌<◌, ◌⊎◌, true, false, List, length, Option, Some, None, Result, Ok, Err, arith, inl, inr, refl, subst, sym, ◌∙◌, ap}
 use Rattle.rb_base.specs.declared.node.NodeName.{NodeName}
 use Rattle.rb_outside.specs.Bytes.{Gave, ReadsToEnd}
 use Rattle.rb_outside.proofs.Known.{gave_within, read_bytes}
@@ -12,9 +12,9 @@ use Rattle.rb_gen.specs.Generated.{generated}
 use Rattle.rb_scenario.specs.{Acceptance.{IsAccepted, IsRefused}, declared.scenario.Scenario.Scenario as Accepted}
 use Rattle.rb_scenario.proofs.Documents.{accepted_alike, accepted_is_toml, accepted_is_unbroken}
 use Rattle.rb_scenario_entries.specs.declared.refusal.Refusal.{Refusal}
-use Rattle.rb_world_book.specs.declared.turn.Turn.{Turn}
-use Rattle.rb_run.specs.declared.ending.Ending.{Ending}
-use Rattle.rb_top.specs.{declared.form.Form.Form, declared.form.Form.TheVariants.{Run, Check, Gen, Stress, Record, Replay, Spell, Letters, Group, Listen, Show}, declared.status.Status.Status, declared.status.Status.TheVariants.{Done, Breach, Usage, Refused, TooLong, ReadFault, WriteFault, OutOfMemory}, Answers.{CommandAnswers, CommandCompletes, CommandEnds, CommandRefuses, IsLeft, NothingFails, command_of}, Commands.{Command, EndsAs, IsNotForListeners, IsOverheard, IsReplay, IsSides, alone_command, check_command, group_command, listen_command, record_command, replay_command, status_of, stress_command, telling_command, text_command}, Inputs.{BreaksLog, BreaksRule, HasCode, IsReadBy, IsTextOf, IsUnreadBy}, Statuses.MayRefuse, Texts.Telling}
+use Rattle.rb_run.specs.{declared.ending.Ending.{Ending}, Seen.{SeenDrive, SeenSink, SeenSource}}
+use Rattle.rb_program.specs.{declared.status.Status.Status, declared.status.Status.TheVariants.{Breach, Done, OutOfMemory, ReadFault, Refused, TooLong, Usage, WriteFault}, Statuses.{MayRefuse, status_of}}
+use Rattle.rb_top.specs.{declared.form.Form.Form, declared.form.Form.TheVariants.{Check, Gen, Group, Letters, Listen, Record, Replay, Run, Show, Spell, Stress}, Answers.{CommandAnswers, CommandCompletes, CommandEnds, CommandRefuses, IsLeft, NothingFails, command_of}, Commands.{Command, EndsAs, IsNotForListeners, IsOverheard, IsReplay, IsSides, alone_command, check_command, group_command, listen_command, record_command, replay_command, stress_command, telling_command, text_command}, Inputs.{BreaksLog, BreaksRule, HasCode, IsReadBy, IsTextOf, IsUnreadBy}, Texts.Telling}
 use Rattle.rb_scenario_entries.specs.declared.refusal.Refusal.TheVariants as rule
 
 -- What excludes what.
@@ -69,21 +69,21 @@ not_of_both r a b is_a is_b biu rmu =
 
 -- an input has at most one end of the command, and none if it is refused
 pub record IsSound (command : Command) : Type 0 where
-  pub ends_so : (input : List ℕ) (is_plain : Bool) (told told' : Option (List Turn)) (status : Status) (text : List ℕ)
-      → command.is_due input is_plain told told' status text → command.is_end input status
+  pub ends_so : (input : List ℕ) (drive : SeenDrive) (status : Status) (text : List ℕ)
+      → command.is_due input drive status text → command.is_end input status
   pub one_end : (input : List ℕ) (a b : Status) → command.is_end input a → command.is_end input b → a ≡ b
   pub not_both : (input line : List ℕ) (end : Status) → command.is_end input end → ¬ command.is_refused input line
 
 text_sound : (text : List ℕ) → IsSound (text_command text)
 text_sound text = record {
-  ends_so = λ input is_plain told told' status due is. is.1.done;
+  ends_so = λ input drive status due is. is.1.done;
   one_end = λ input a b is_a is_b. is_a ∙ sym is_b;
   not_both = λ input line end e refused. refused;
 }
 
 pub telling_sound : (tells : Telling) → IsSound (telling_command tells)
 telling_sound tells = record {
-  ends_so = λ input is_plain told told' status text due. (due.scenario, due.says, due.ends);
+  ends_so = λ input drive status text due. (due.scenario, due.says, due.ends);
   one_end = λ input a b is_a is_b.
       let P : Scenario → Type 0 = λ sc. EndsAs sc a in
       same_end is_b.0 a b (subst P (same_scenario input is_a.0 is_b.0 is_a.1 is_b.1) is_a.2) is_b.2;
@@ -99,7 +99,7 @@ lacks_none which members input line end e (inr lacks) =
 
 pub group_sound : (which : Which) (members : ℕ) → IsSound (group_command which members)
 group_sound which members = record {
-  ends_so = λ input is_plain told told' status text due. (due.report.scenario, due.report.says, due.there, due.report.ends);
+  ends_so = λ input drive status text due. (due.report.scenario, due.report.says, due.there, due.report.ends);
   one_end = λ input a b is_a is_b.
       let P : Scenario → Type 0 = λ sc. EndsAs sc a in
       same_end is_b.0 a b (subst P (same_scenario input is_a.0 is_b.0 is_a.1 is_b.1) is_a.3) is_b.3;
@@ -108,7 +108,7 @@ group_sound which members = record {
 
 stress_sound : (seed frames : ℕ) → IsSound (stress_command seed frames)
 stress_sound seed frames = record {
-  ends_so = λ input is_plain told told' status text due. due.ends;
+  ends_so = λ input drive status text due. due.ends;
   one_end = λ input a b is_a is_b. same_end (generated seed frames) a b is_a is_b;
   not_both = λ input line end e refused. refused;
 }
@@ -121,7 +121,7 @@ no_node_none node input line end e (inr lacks) =
 
 pub record_sound : (node : NodeName) → IsSound (record_command node)
 record_sound node = record {
-  ends_so = λ input is_plain told told' status text due. (due.log.scenario, due.log.says, due.log.there, due.ends);
+  ends_so = λ input drive status text due. (due.log.scenario, due.log.says, due.log.there, due.ends);
   one_end = λ input a b is_a is_b.
       let P : Scenario → Type 0 = λ sc. EndsAs sc a in
       same_end is_b.0 a b (subst P (same_scenario input is_a.0 is_b.0 is_a.1 is_b.1) is_a.3) is_b.3;
@@ -131,7 +131,7 @@ record_sound node = record {
 alone_sound : (limit : ℕ) (IsText IsLine : List ℕ → List ℕ → Type 0) → ((input text line : List ℕ) → IsText input text → ¬ IsLine input line)
     → IsSound (alone_command limit IsText IsLine)
 alone_sound limit IsText IsLine apart = record {
-  ends_so = λ input is_plain told told' status text due. (text, due.0, due.1.done);
+  ends_so = λ input drive status text due. (text, due.0, due.1.done);
   one_end = λ input a b is_a is_b. is_a.2 ∙ sym is_b.2;
   not_both = λ input line end e refused. apart input e.0 line e.1 refused;
 }
@@ -165,94 +165,90 @@ is_sound (Show flag) = text_sound _
 -- What is known of an answer.
 
 -- the input that was read is the one that was left
-read_is_left : (limit : Option ℕ) (left left' : Option (List ℕ)) (input read : List ℕ) → IsLeft limit left input → IsReadBy limit left left' read → read ≡ input
-read_is_left None left left' input read is r = r ∙ sym is
-read_is_left (Some limit) left left' input read is r =
-    let P : Option (List ℕ) → Type 0 = λ l. ReadsToEnd l left' read in read_bytes input left' read (subst P is r)
+read_is_left : (limit : Option ℕ) (source : SeenSource) (input read : List ℕ) → IsLeft limit source.left input → IsReadBy limit source read → read ≡ input
+read_is_left None source input read is r = r ∙ sym is
+read_is_left (Some limit) source input read is r =
+    let P : Option (List ℕ) → Type 0 = λ l. ReadsToEnd l source.left' read in read_bytes input source.left' read (subst P is r)
 
 -- too long an input is not within the limit
-never_long : (limit : Option ℕ) (left left' : Option (List ℕ)) (reads reads' writes writes' : ℕ) (input : List ℕ) → IsLeft limit left input
-    → NothingFails limit input reads reads' writes writes' → ¬ IsUnreadBy limit TooLong left left' reads reads'
-never_long None left left' reads reads' writes writes' input is fine unread = unread.not_long refl
-never_long (Some limit) left left' reads reads' writes writes' input is fine unread =
-    let P : Option (List ℕ) → Type 0 = λ l. Gave l left' (λ n. limit < n) in
-    let long : limit < length input = gave_within input left' limit (subst P is (unread.too_long refl)) in
+never_long : (limit : Option ℕ) (source : SeenSource) (sink : SeenSink) (input : List ℕ) → IsLeft limit source.left input
+    → NothingFails limit input source sink → ¬ IsUnreadBy limit TooLong source
+never_long None source sink input is fine unread = unread.not_long refl
+never_long (Some limit) source sink input is fine unread =
+    let P : Option (List ℕ) → Type 0 = λ l. Gave l source.left' (λ n. limit < n) in
+    let long : limit < length input = gave_within input source.left' limit (subst P is (unread.too_long refl)) in
     absurd (omega (arith, long, fine.within))
 
-never_faulty : (limit : Option ℕ) (left left' : Option (List ℕ)) (reads reads' writes writes' : ℕ) (input : List ℕ)
-    → NothingFails limit input reads reads' writes writes' → ¬ IsUnreadBy limit ReadFault left left' reads reads'
-never_faulty None left left' reads reads' writes writes' input fine unread = unread.no_fault refl
-never_faulty (Some limit) left left' reads reads' writes writes' input fine unread = fine.no_read (unread.fault refl)
+never_faulty : (limit : Option ℕ) (source : SeenSource) (sink : SeenSink) (input : List ℕ)
+    → NothingFails limit input source sink → ¬ IsUnreadBy limit ReadFault source
+never_faulty None source sink input fine unread = unread.no_fault refl
+never_faulty (Some limit) source sink input fine unread = fine.no_read (unread.fault refl)
 
 -- Completeness.
 
 -- if the command has ended, `is_end` holds for its input and status
-has_ended : (command : Command) → IsSound command → (status : Status) (left left' held held' : Option (List ℕ)) (is_plain : Bool) (told told' : Option (List Turn)) (input : List ℕ)
-    → IsLeft command.limit left input → CommandEnds command status left left' held held' is_plain told told' → command.is_end input status
-has_ended command s status left left' held held' is_plain told told' input is e =
+has_ended : (command : Command) → IsSound command → (status : Status) (source : SeenSource) (sink : SeenSink) (drive : SeenDrive) (input : List ℕ)
+    → IsLeft command.limit source.left input → CommandEnds command status source sink drive → command.is_end input status
+has_ended command s status source sink drive input is e =
     let P : List ℕ → Type 0 = λ xs. command.is_end xs status in
-    subst P (read_is_left command.limit left left' input e.input is e.read) (s.ends_so e.input is_plain told told' status e.text e.due)
+    subst P (read_is_left command.limit source input e.input is e.read) (s.ends_so e.input drive status e.text e.due)
 
 -- if the command has refused the input, `is_refused` holds for the input and the line
-has_refused : (command : Command) (left left' held held' : Option (List ℕ)) (input : List ℕ) → IsLeft command.limit left input → (r : CommandRefuses command left left' held held')
+has_refused : (command : Command) (source : SeenSource) (sink : SeenSink) (input : List ℕ) → IsLeft command.limit source.left input → (r : CommandRefuses command source sink)
     → command.is_refused input r.line
-has_refused command left left' held held' input is r =
-    let P : List ℕ → Type 0 = λ xs. command.is_refused xs r.line in subst P (read_is_left command.limit left left' input r.input is r.read) r.refused
+has_refused command source sink input is r =
+    let P : List ℕ → Type 0 = λ xs. command.is_refused xs r.line in subst P (read_is_left command.limit source input r.input is r.read) r.refused
 
-ended : (command : Command) → IsSound command → (status : Status) (left left' : Option (List ℕ)) (reads reads' : ℕ) (held held' : Option (List ℕ)) (writes writes' : ℕ) (is_plain : Bool)
-    (told told' : Option (List Turn)) (input : List ℕ) (end : Status) → CommandAnswers command status left left' reads reads' held held' writes writes' is_plain told told'
-    → IsLeft command.limit left input → command.is_end input end → NothingFails command.limit input reads reads' writes writes' → (status ≡ end) ⊎ (status ≡ OutOfMemory)
-ended command s Done left left' reads reads' held held' writes writes' is_plain told told' input end x is e fine =
-    inl (s.one_end input Done end (has_ended command s Done left left' held held' is_plain told told' input is (x.ended tt)) e)
-ended command s Breach left left' reads reads' held held' writes writes' is_plain told told' input end x is e fine =
-    inl (s.one_end input Breach end (has_ended command s Breach left left' held held' is_plain told told' input is (x.ended tt)) e)
-ended command s Usage left left' reads reads' held held' writes writes' is_plain told told' input end x is e fine = absurd (x.known refl)
-ended command s Refused left left' reads reads' held held' writes writes' is_plain told told' input end x is e fine =
-    absurd (s.not_both input (x.refused refl).line end e (has_refused command left left' held held' input is (x.refused refl)))
-ended command s TooLong left left' reads reads' held held' writes writes' is_plain told told' input end x is e fine =
-    absurd (never_long command.limit left left' reads reads' writes writes' input is fine x.unread)
-ended command s ReadFault left left' reads reads' held held' writes writes' is_plain told told' input end x is e fine =
-    absurd (never_faulty command.limit left left' reads reads' writes writes' input fine x.unread)
-ended command s WriteFault left left' reads reads' held held' writes writes' is_plain told told' input end x is e fine = absurd (fine.no_write (x.failed refl).rose)
-ended command s OutOfMemory left left' reads reads' held held' writes writes' is_plain told told' input end x is e fine = inr refl
+ended : (command : Command) → IsSound command → (status : Status) (source : SeenSource) (sink : SeenSink) (drive : SeenDrive) (input : List ℕ) (end : Status) → CommandAnswers command status source sink drive
+    → IsLeft command.limit source.left input → command.is_end input end → NothingFails command.limit input source sink → (status ≡ end) ⊎ (status ≡ OutOfMemory)
+ended command s Done source sink drive input end x is e fine =
+    inl (s.one_end input Done end (has_ended command s Done source sink drive input is (x.ended tt)) e)
+ended command s Breach source sink drive input end x is e fine =
+    inl (s.one_end input Breach end (has_ended command s Breach source sink drive input is (x.ended tt)) e)
+ended command s Usage source sink drive input end x is e fine = absurd (x.known refl)
+ended command s Refused source sink drive input end x is e fine =
+    absurd (s.not_both input (x.refused refl).line end e (has_refused command source sink input is (x.refused refl)))
+ended command s TooLong source sink drive input end x is e fine =
+    absurd (never_long command.limit source sink input is fine x.unread)
+ended command s ReadFault source sink drive input end x is e fine =
+    absurd (never_faulty command.limit source sink input fine x.unread)
+ended command s WriteFault source sink drive input end x is e fine = absurd (fine.no_write (x.failed refl).rose)
+ended command s OutOfMemory source sink drive input end x is e fine = inr refl
 
-refused : (command : Command) → IsSound command → (status : Status) (left left' : Option (List ℕ)) (reads reads' : ℕ) (held held' : Option (List ℕ)) (writes writes' : ℕ) (is_plain : Bool)
-    (told told' : Option (List Turn)) (input line : List ℕ) → CommandAnswers command status left left' reads reads' held held' writes writes' is_plain told told'
-    → IsLeft command.limit left input → command.is_refused input line → MayRefuse status
-refused command s Done left left' reads reads' held held' writes writes' is_plain told told' input line x is r =
-    absurd (s.not_both input line Done (has_ended command s Done left left' held held' is_plain told told' input is (x.ended tt)) r)
-refused command s Breach left left' reads reads' held held' writes writes' is_plain told told' input line x is r =
-    absurd (s.not_both input line Breach (has_ended command s Breach left left' held held' is_plain told told' input is (x.ended tt)) r)
-refused command s Usage left left' reads reads' held held' writes writes' is_plain told told' input line x is r = absurd (x.known refl)
-refused command s Refused left left' reads reads' held held' writes writes' is_plain told told' input line x is r = tt
-refused command s TooLong left left' reads reads' held held' writes writes' is_plain told told' input line x is r = tt
-refused command s ReadFault left left' reads reads' held held' writes writes' is_plain told told' input line x is r = tt
-refused command s WriteFault left left' reads reads' held held' writes writes' is_plain told told' input line x is r = tt
-refused command s OutOfMemory left left' reads reads' held held' writes writes' is_plain told told' input line x is r = tt
+refused : (command : Command) → IsSound command → (status : Status) (source : SeenSource) (sink : SeenSink) (drive : SeenDrive) (input line : List ℕ) → CommandAnswers command status source sink drive
+    → IsLeft command.limit source.left input → command.is_refused input line → MayRefuse status
+refused command s Done source sink drive input line x is r =
+    absurd (s.not_both input line Done (has_ended command s Done source sink drive input is (x.ended tt)) r)
+refused command s Breach source sink drive input line x is r =
+    absurd (s.not_both input line Breach (has_ended command s Breach source sink drive input is (x.ended tt)) r)
+refused command s Usage source sink drive input line x is r = absurd (x.known refl)
+refused command s Refused source sink drive input line x is r = tt
+refused command s TooLong source sink drive input line x is r = tt
+refused command s ReadFault source sink drive input line x is r = tt
+refused command s WriteFault source sink drive input line x is r = tt
+refused command s OutOfMemory source sink drive input line x is r = tt
 
-refused_at_once : (command : Command) → IsSound command → (status : Status) (left left' : Option (List ℕ)) (reads reads' : ℕ) (held held' : Option (List ℕ)) (writes writes' : ℕ) (is_plain : Bool)
-    (told told' : Option (List Turn)) (input line : List ℕ) → CommandAnswers command status left left' reads reads' held held' writes writes' is_plain told told'
-    → IsLeft command.limit left input → command.is_refused input line → NothingFails command.limit input reads reads' writes writes'
+refused_at_once : (command : Command) → IsSound command → (status : Status) (source : SeenSource) (sink : SeenSink) (drive : SeenDrive) (input line : List ℕ) → CommandAnswers command status source sink drive
+    → IsLeft command.limit source.left input → command.is_refused input line → NothingFails command.limit input source sink
     → (status ≡ Refused) ⊎ (status ≡ OutOfMemory)
-refused_at_once command s Done left left' reads reads' held held' writes writes' is_plain told told' input line x is r fine =
-    absurd (s.not_both input line Done (has_ended command s Done left left' held held' is_plain told told' input is (x.ended tt)) r)
-refused_at_once command s Breach left left' reads reads' held held' writes writes' is_plain told told' input line x is r fine =
-    absurd (s.not_both input line Breach (has_ended command s Breach left left' held held' is_plain told told' input is (x.ended tt)) r)
-refused_at_once command s Usage left left' reads reads' held held' writes writes' is_plain told told' input line x is r fine = absurd (x.known refl)
-refused_at_once command s Refused left left' reads reads' held held' writes writes' is_plain told told' input line x is r fine = inl refl
-refused_at_once command s TooLong left left' reads reads' held held' writes writes' is_plain told told' input line x is r fine =
-    absurd (never_long command.limit left left' reads reads' writes writes' input is fine x.unread)
-refused_at_once command s ReadFault left left' reads reads' held held' writes writes' is_plain told told' input line x is r fine =
-    absurd (never_faulty command.limit left left' reads reads' writes writes' input fine x.unread)
-refused_at_once command s WriteFault left left' reads reads' held held' writes writes' is_plain told told' input line x is r fine =
+refused_at_once command s Done source sink drive input line x is r fine =
+    absurd (s.not_both input line Done (has_ended command s Done source sink drive input is (x.ended tt)) r)
+refused_at_once command s Breach source sink drive input line x is r fine =
+    absurd (s.not_both input line Breach (has_ended command s Breach source sink drive input is (x.ended tt)) r)
+refused_at_once command s Usage source sink drive input line x is r fine = absurd (x.known refl)
+refused_at_once command s Refused source sink drive input line x is r fine = inl refl
+refused_at_once command s TooLong source sink drive input line x is r fine =
+    absurd (never_long command.limit source sink input is fine x.unread)
+refused_at_once command s ReadFault source sink drive input line x is r fine =
+    absurd (never_faulty command.limit source sink input fine x.unread)
+refused_at_once command s WriteFault source sink drive input line x is r fine =
     absurd (fine.no_write (x.failed refl).rose)
-refused_at_once command s OutOfMemory left left' reads reads' held held' writes writes' is_plain told told' input line x is r fine = inr refl
+refused_at_once command s OutOfMemory source sink drive input line x is r fine = inr refl
 
-pub completes : (command : Command) → IsSound command → (status : Status) (left left' : Option (List ℕ)) (reads reads' : ℕ) (held held' : Option (List ℕ)) (writes writes' : ℕ) (is_plain : Bool)
-    (told told' : Option (List Turn)) → CommandAnswers command status left left' reads reads' held held' writes writes' is_plain told told'
-    → CommandCompletes command status left reads reads' writes writes'
-completes command s status left left' reads reads' held held' writes writes' is_plain told told' x = record {
-  ended = λ input end is e fine. ended command s status left left' reads reads' held held' writes writes' is_plain told told' input end x is e fine;
-  refused = λ input line is r. refused command s status left left' reads reads' held held' writes writes' is_plain told told' input line x is r;
-  refused_at_once = λ input line is r fine. refused_at_once command s status left left' reads reads' held held' writes writes' is_plain told told' input line x is r fine;
+pub completes : (command : Command) → IsSound command → (status : Status) (source : SeenSource) (sink : SeenSink) (drive : SeenDrive) → CommandAnswers command status source sink drive
+    → CommandCompletes command status source sink
+completes command s status source sink drive x = record {
+  ended = λ input end is e fine. ended command s status source sink drive input end x is e fine;
+  refused = λ input line is r. refused command s status source sink drive input line x is r;
+  refused_at_once = λ input line is r fine. refused_at_once command s status source sink drive input line x is r fine;
 }

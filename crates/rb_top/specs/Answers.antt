@@ -1,52 +1,53 @@
 -- When each answer comes, and what it leaves written: of a command, and of the words that ask the
 -- top call for one.
-use Rattle.std.specs.{Prelude.{⊤, ℕ, ◌≡◌, ◌≤◌, ◌⊎◌, Bool, List, [], length, String, Option, Some, None}, declared.alloc.Global.Global, Io.KnownBytes.Appends}
+use Rattle.std.specs.{Prelude.{⊤, ℕ, ◌≡◌, ◌≤◌, ◌⊎◌, List, [], length, String, Option, Some, None}, declared.alloc.Global.Global, Io.KnownBytes.Appends}
 use Rattle.rb_outside.specs.{Bytes.AppendsPart, Causes.Rose}
-use Rattle.rb_world_book.specs.declared.turn.Turn.{Turn}
+use Rattle.rb_run.specs.Seen.{SeenDrive, SeenSink, SeenSource}
 use Rattle.rb_long_run.specs.Reports.{spelling_text}
-use Rattle.rb_top.specs.{declared.form.Form.Form, declared.form.Form.TheVariants.{Run, Check, Gen, Stress, Record, Replay, Spell, Letters, Group, Listen, Show}, declared.status.Status.Status, Commands.{Command, check_command, group_command, letters_command, listen_command, record_command, replay_command, run_command, stress_command, text_command}, Inputs.{IsReadBy, IsUnreadBy}, Pages.page_text, Statuses.{HasEnded, MayRefuse, RunsNothing, WritesNothing}, Texts.generated_text, Words.AskFor}
-use Rattle.rb_top.specs.declared.status.Status.TheVariants as answer
+use Rattle.rb_program.specs.{declared.status.Status.Status, Statuses.{HasEnded, MayRefuse, RunsNothing, WritesNothing}}
+use Rattle.rb_top.specs.{declared.form.Form.Form, declared.form.Form.TheVariants.{Check, Gen, Group, Letters, Listen, Record, Replay, Run, Show, Spell, Stress}, Commands.{Command, check_command, group_command, letters_command, listen_command, record_command, replay_command, run_command, stress_command, text_command}, Inputs.{IsReadBy, IsUnreadBy}, Pages.page_text, Texts.generated_text, Words.AskFor}
+use Rattle.rb_program.specs.declared.status.Status.TheVariants as answer
 
 -- Answers of a command.
 
 -- the command has ended: its input has been read, and its text is written
-pub record CommandEnds (command : Command) (status : Status) (left left' held held' : Option (List ℕ)) (is_plain : Bool) (told told' : Option (List Turn)) : Type 0 where
+pub record CommandEnds (command : Command) (status : Status) (source : SeenSource) (sink : SeenSink) (drive : SeenDrive) : Type 0 where
   pub input : List ℕ
   pub text : List ℕ
-  pub read : IsReadBy command.limit left left' input
-  pub due : command.is_due input is_plain told told' status text
-  pub written : Appends held held' text
+  pub read : IsReadBy command.limit source input
+  pub due : command.is_due input drive status text
+  pub written : Appends sink.held sink.held' text
 
 -- the command's input has been read and is refused, and the one line of the refusal is written
-pub record CommandRefuses (command : Command) (left left' held held' : Option (List ℕ)) : Type 0 where
+pub record CommandRefuses (command : Command) (source : SeenSource) (sink : SeenSink) : Type 0 where
   pub input : List ℕ
   pub line : List ℕ
-  pub read : IsReadBy command.limit left left' input
+  pub read : IsReadBy command.limit source input
   pub refused : command.is_refused input line
-  pub written : Appends held held' line
+  pub written : Appends sink.held sink.held' line
 
 -- the input is refused with this line, and the drive gave nothing
-pub record IsRefusedAlone (command : Command) (input : List ℕ) (told told' : Option (List Turn)) (line : List ℕ) : Type 0 where
+pub record IsRefusedAlone (command : Command) (input : List ℕ) (drive : SeenDrive) (line : List ℕ) : Type 0 where
   pub refused : command.is_refused input line
-  pub silent : told' ≡ told
+  pub silent : drive.since ≡ drive.told
 
 -- a write failed: the count of the sink's faults rose, and of the text that was due the first bytes
 -- are written
-pub record CommandFailsToWrite (command : Command) (left left' held held' : Option (List ℕ)) (faults faults' : ℕ) (is_plain : Bool) (told told' : Option (List Turn)) : Type 0 where
-  pub rose : Rose faults faults'
+pub record CommandFailsToWrite (command : Command) (source : SeenSource) (sink : SeenSink) (drive : SeenDrive) : Type 0 where
+  pub rose : Rose sink.faults sink.faults'
   pub input : List ℕ
   pub text : List ℕ
-  pub read : IsReadBy command.limit left left' input
-  pub due : IsRefusedAlone command input told told' text ⊎ command.is_due_so_far input is_plain told told' text
-  pub written : AppendsPart held held' text
+  pub read : IsReadBy command.limit source input
+  pub due : IsRefusedAlone command input drive text ⊎ command.is_due_so_far input drive text
+  pub written : AppendsPart sink.held sink.held' text
 
 -- all that is said of the answer of a command
-pub record CommandAnswers (command : Command) (status : Status) (left left' : Option (List ℕ)) (reads reads' : ℕ) (held held' : Option (List ℕ)) (writes writes' : ℕ) (is_plain : Bool) (told told' : Option (List Turn)) : Type 0 where
+pub record CommandAnswers (command : Command) (status : Status) (source : SeenSource) (sink : SeenSink) (drive : SeenDrive) : Type 0 where
   pub known : ¬ (status ≡ answer.Usage)
-  pub ended : HasEnded status → CommandEnds command status left left' held held' is_plain told told'
-  pub refused : status ≡ answer.Refused → CommandRefuses command left left' held held'
-  pub unread : IsUnreadBy command.limit status left left' reads reads'
-  pub failed : status ≡ answer.WriteFault → CommandFailsToWrite command left left' held held' writes writes' is_plain told told'
+  pub ended : HasEnded status → CommandEnds command status source sink drive
+  pub refused : status ≡ answer.Refused → CommandRefuses command source sink
+  pub unread : IsUnreadBy command.limit status source
+  pub failed : status ≡ answer.WriteFault → CommandFailsToWrite command source sink drive
 
 -- the source tells that this input is left, within the limit
 abbrev pub IsLeft : Option ℕ → Option (List ℕ) → List ℕ → Type 0
@@ -59,20 +60,20 @@ IsWithin None input = ⊤
 IsWithin (Some limit) input = length input ≤ limit
 
 -- nothing fails: the input is within the limit, and no count of faults rises
-pub record NothingFails (limit : Option ℕ) (input : List ℕ) (reads reads' writes writes' : ℕ) : Type 0 where
+pub record NothingFails (limit : Option ℕ) (input : List ℕ) (source : SeenSource) (sink : SeenSink) : Type 0 where
   pub within : IsWithin limit input
-  pub no_read : ¬ Rose reads reads'
-  pub no_write : ¬ Rose writes writes'
+  pub no_read : ¬ Rose source.faults source.faults'
+  pub no_write : ¬ Rose sink.faults sink.faults'
 
 -- the answers that must be given if the source tells its input and nothing fails; only out of
 -- memory may be the answer in their place. Whatever fails, the answer for a refused input is one of
 -- those that it may have
-pub record CommandCompletes (command : Command) (status : Status) (left : Option (List ℕ)) (reads reads' writes writes' : ℕ) : Type 0 where
-  pub ended : (input : List ℕ) (end : Status) → IsLeft command.limit left input → command.is_end input end
-      → NothingFails command.limit input reads reads' writes writes' → (status ≡ end) ⊎ (status ≡ answer.OutOfMemory)
-  pub refused : (input line : List ℕ) → IsLeft command.limit left input → command.is_refused input line → MayRefuse status
-  pub refused_at_once : (input line : List ℕ) → IsLeft command.limit left input → command.is_refused input line
-      → NothingFails command.limit input reads reads' writes writes' → (status ≡ answer.Refused) ⊎ (status ≡ answer.OutOfMemory)
+pub record CommandCompletes (command : Command) (status : Status) (source : SeenSource) (sink : SeenSink) : Type 0 where
+  pub ended : (input : List ℕ) (end : Status) → IsLeft command.limit source.left input → command.is_end input end
+      → NothingFails command.limit input source sink → (status ≡ end) ⊎ (status ≡ answer.OutOfMemory)
+  pub refused : (input line : List ℕ) → IsLeft command.limit source.left input → command.is_refused input line → MayRefuse status
+  pub refused_at_once : (input line : List ℕ) → IsLeft command.limit source.left input → command.is_refused input line
+      → NothingFails command.limit input source sink → (status ≡ answer.Refused) ⊎ (status ≡ answer.OutOfMemory)
 
 -- Answers of the top call.
 
@@ -97,27 +98,26 @@ limit_of form = (command_of form).limit
 abbrev pub IsEnd : Form → List ℕ → Status → Type 0
 IsEnd form input status = (command_of form).is_end input status
 
-abbrev pub IsDue : Form → List ℕ → Bool → Option (List Turn) → Option (List Turn) → Status → List ℕ → Type 0
-IsDue form input is_plain told told' status text = (command_of form).is_due input is_plain told told' status text
+abbrev pub IsDue : Form → List ℕ → SeenDrive → Status → List ℕ → Type 0
+IsDue form input drive status text = (command_of form).is_due input drive status text
 
 abbrev pub IsRefusedWith : Form → List ℕ → List ℕ → Type 0
 IsRefusedWith form input line = (command_of form).is_refused input line
 
-abbrev pub IsUnread : Form → Status → Option (List ℕ) → Option (List ℕ) → ℕ → ℕ → Type 0
-IsUnread form status left left' faults faults' = IsUnreadBy (limit_of form) status left left' faults faults'
+abbrev pub IsUnread : Form → Status → SeenSource → Type 0
+IsUnread form status source = IsUnreadBy (limit_of form) status source
 
-abbrev pub Ends : Form → Status → Option (List ℕ) → Option (List ℕ) → Option (List ℕ) → Option (List ℕ) → Bool → Option (List Turn) → Option (List Turn) → Type 0
-Ends form status left left' held held' is_plain told told' = CommandEnds (command_of form) status left left' held held' is_plain told told'
+abbrev pub Ends : Form → Status → SeenSource → SeenSink → SeenDrive → Type 0
+Ends form status source sink drive = CommandEnds (command_of form) status source sink drive
 
-abbrev pub Refuses : Form → Option (List ℕ) → Option (List ℕ) → Option (List ℕ) → Option (List ℕ) → Type 0
-Refuses form left left' held held' = CommandRefuses (command_of form) left left' held held'
+abbrev pub Refuses : Form → SeenSource → SeenSink → Type 0
+Refuses form source sink = CommandRefuses (command_of form) source sink
 
-abbrev pub FailsToWrite : Form → Option (List ℕ) → Option (List ℕ) → Option (List ℕ) → Option (List ℕ) → ℕ → ℕ → Bool → Option (List Turn) → Option (List Turn) → Type 0
-FailsToWrite form left left' held held' faults faults' is_plain told told' =
-    CommandFailsToWrite (command_of form) left left' held held' faults faults' is_plain told told'
+abbrev pub FailsToWrite : Form → SeenSource → SeenSink → SeenDrive → Type 0
+FailsToWrite form source sink drive = CommandFailsToWrite (command_of form) source sink drive
 
-abbrev pub Completes : Form → Status → Option (List ℕ) → ℕ → ℕ → ℕ → ℕ → Type 0
-Completes form status left reads reads' writes writes' = CommandCompletes (command_of form) status left reads reads' writes writes'
+abbrev pub Completes : Form → Status → SeenSource → SeenSink → Type 0
+Completes form status source sink = CommandCompletes (command_of form) status source sink
 
 -- Usage is the answer if and only if the words ask for none of the forms
 pub record UsageExactly (status : Status) (words : List (String Global)) : Type 0 where

@@ -1,6 +1,6 @@
 -- What a command reads, and how its input is refused or not read to its end.
-use Rattle.std.specs.Prelude.{ℕ, ◌≡◌, ◌≤◌, ◌<◌, ◌⊎◌, List, [], Option, Some, None, IsSome, unwrap_or, Ok, Err, false, true}
-use Rattle.rb_outside.specs.{Bytes.{Gave, ReadsToEnd}, Causes.Rose}
+use Rattle.std.specs.Prelude.{ℕ, ◌≡◌, List, [], Option, Some, None, IsSome, unwrap_or, Ok, Err, false, true}
+use Rattle.rb_outside.specs.{Bytes.{ReadsToEnd}}
 use Rattle.rb_base.specs.declared.node.NodeName.{NodeName}
 use Rattle.rb_rules.specs.{Goodness.Scenario, Lawful.IsNodeOf}
 use Rattle.rb_report.specs.Report.{refused_text}
@@ -8,9 +8,10 @@ use Rattle.rb_scenario_entries.specs.{Codes.{code_of, detail_of}, declared.refus
 use Rattle.rb_log.specs.{LogText.{Log, log_in}, declared.refusal.LogRefusal.LogRefusal, declared.refusal.LogRefusal.TheVariants.{BadMagic, BadField, Truncated, AfterEnd}}
 use Rattle.rb_replay.specs.Overhearing.{is_of_biu}
 use Rattle.rb_group_run.specs.Members.{AreMembers}
+use Rattle.rb_run.specs.Seen.{SeenSource}
 use Rattle.rb_scenario.specs.{Acceptance.{IsAccepted, IsRefused, as_scenario}, declared.scenario.Scenario.Scenario as Accepted}
-use Rattle.rb_top.specs.declared.status.Status.{Status}
-use Rattle.rb_top.specs.declared.status.Status.TheVariants as answer
+use Rattle.rb_program.specs.{declared.status.Status.Status, Outside.IsUnreadOver}
+use Rattle.rb_program.specs.declared.status.Status.TheVariants as answer
 
 -- The input.
 
@@ -24,9 +25,9 @@ log_limit = 67108864
 
 -- within a limit this is all that the source had left, and without one nothing, since nothing is
 -- read
-abbrev pub IsReadBy : Option ℕ → Option (List ℕ) → Option (List ℕ) → List ℕ → Type 0
-IsReadBy None left left' input = input ≡ []
-IsReadBy (Some limit) left left' input = ReadsToEnd left left' input
+abbrev pub IsReadBy : Option ℕ → SeenSource → List ℕ → Type 0
+IsReadBy None source input = input ≡ []
+IsReadBy (Some limit) source input = ReadsToEnd source.left source.left' input
 
 -- the input is the text of an accepted scenario, this one
 pub record IsTextOf (input : List ℕ) (sc : Scenario) : Type 0 where
@@ -106,18 +107,11 @@ pub record IsOfRmu (input line : List ℕ) : Type 0 where
 
 -- Reading that does not come to the end.
 
--- TooLong is the answer if and only if the source gave more bytes than the limit, and ReadFault
--- only if the count of its faults rose
-pub record IsUnreadOver (limit : ℕ) (status : Status) (left left' : Option (List ℕ)) (faults faults' : ℕ) : Type 0 where
-  pub too_long : status ≡ answer.TooLong → Gave left left' (λ n. limit < n)
-  pub short_enough : ¬ (status ≡ answer.TooLong) → Gave left left' (λ n. n ≤ limit)
-  pub fault : status ≡ answer.ReadFault → Rose faults faults'
-
 -- neither TooLong nor ReadFault is the answer if nothing is read
 pub record IsNeverUnread (status : Status) : Type 0 where
   pub not_long : ¬ (status ≡ answer.TooLong)
   pub no_fault : ¬ (status ≡ answer.ReadFault)
 
-abbrev pub IsUnreadBy : Option ℕ → Status → Option (List ℕ) → Option (List ℕ) → ℕ → ℕ → Type 0
-IsUnreadBy None status left left' faults faults' = IsNeverUnread status
-IsUnreadBy (Some limit) status left left' faults faults' = IsUnreadOver limit status left left' faults faults'
+abbrev pub IsUnreadBy : Option ℕ → Status → SeenSource → Type 0
+IsUnreadBy None status source = IsNeverUnread status
+IsUnreadBy (Some limit) status source = IsUnreadOver limit status source

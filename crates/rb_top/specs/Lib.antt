@@ -1,6 +1,5 @@
 pub mod Words
 pub mod Pages
-pub mod Statuses
 pub mod Inputs
 pub mod CheckText
 pub mod Texts

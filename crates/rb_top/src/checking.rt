@@ -1,13 +1,14 @@
 //! The text of a check.
 ghost use Rattle.std.specs.Prelude.{◌≡◌, ◌<◌, ◌≤◌, ◌+◌};
 ghost use Rattle.rb_outside.specs.Writing.{Writes};
+ghost use Rattle.rb_run.specs.Seen.{sink_over};
 ghost use Rattle.rb_top.specs.CheckText.{check_text, text_after};
-ghost use Rattle.rb_top.specs.Serving.{WritesText};
+ghost use Rattle.rb_program.specs.Outside.{WritesText};
 
-use crate::status::Status;
 use arrayvec::ArrayString;
 use rb_outside::{Failed, Sink, write_line};
 use rb_plan::{Feasible, sides};
+use rb_program::Status;
 use rb_report::side_line;
 use rb_scenario::Scenario;
 
@@ -34,7 +35,7 @@ fn write_check<K: Sink>(plan: &Feasible, output: &mut K) -> Result<(), Failed>
 /// Writes both sides of the seven inequalities of the scenario's plan.
 pub(crate) fn show_sides<K: Sink>(scenario: &Scenario, output: &mut K) -> Status
     ensures { WritesText (check_text scenario.now.plan.sizes scenario.now.plan.plan) result
-        K.held K.faults output.old output.new }
+        (sink_over K.held K.faults output.old output.new) }
 {
     match write_check(&scenario.plan, output) {
         Ok(()) => Status::Done,

@@ -1,21 +1,25 @@
 //! Commands that read a source: each is a word of the program as a call of its own.
-ghost use Rattle.rb_top.specs.Calls.{AnswersAlone, AnswersDriven, AnswersRun};
-ghost use Rattle.rb_top.specs.declared.form.Form.TheVariants.{Check, Group, Letters, Listen, Record, Replay};
+ghost use Rattle.std.specs.Prelude.{◌≡◌, ◌↔◌, IsTrue};
+ghost use Rattle.rb_group_run.specs.Members.{AreMembers};
+ghost use Rattle.rb_run.specs.Seen.{drive_over, sink_over, source_over};
+ghost use Rattle.rb_top.specs.Calls.{AnswersAlone, AnswersDriven, DrivesTheInput};
+ghost use Rattle.rb_program.specs.Statuses.{HasEnded, RunsNothing, WritesNothing};
+ghost use Rattle.rb_top.specs.declared.form.Form.TheVariants.{Check, Group, Letters, Listen, Record, Replay, Run};
 
 use crate::checking::show_sides;
 use crate::listening::listen_to;
 use crate::reading::{read_log, read_scenario, refuse, refuse_member};
 use crate::recording::{has_node, write_log};
 use crate::replaying::replay_bytes;
-use crate::running::report;
-use crate::status::Status;
-use crate::telling::{has_all, tell_group, tell_letters};
+use crate::running::tell;
 use rb_base::NodeName;
 use rb_group::Voters;
-use rb_group_run::Asked;
+use rb_group_run::{Asked, GroupReport, Query, has_members, scope_of};
 use rb_outside::{Sink, Source};
 use rb_port::Apps;
-use rb_scenario::Refusal;
+use rb_program::Status;
+use rb_run::Report;
+use rb_scenario::{Refusal, Scenario};
 use rb_world::Drive;
 use std::alloc::Global;
 
@@ -33,12 +37,25 @@ pub fn run<S: Source, K: Sink, D: Drive>(
     apps: &Apps,
     drive: &mut D,
 ) -> Status
-    ensures { AnswersRun result S.left S.faults input.old input.new
-        K.held K.faults output.old output.new D.is_plain D.told D.gives D.keeps drive.old
-        drive.new }
+    ensures answers { AnswersDriven Run result
+        (source_over S.left S.faults input.old input.new)
+        (sink_over K.held K.faults output.old output.new)
+        (drive_over D.is_plain D.told drive.old drive.new) }
+    ensures unwritten { WritesNothing result → output.new ≡ output.old }
+    ensures not_driven { RunsNothing result → drive.new ≡ drive.old }
+    ensures driven { HasEnded result
+        → DrivesTheInput (source_over S.left S.faults input.old input.new)
+        D.gives D.keeps drive.old drive.new }
 {
     match read_scenario(alloc, input, output) {
-        Ok(scenario) => report(alloc, scenario, output, apps, drive),
+        Ok(scenario) => tell(
+            alloc,
+            scenario,
+            &mut Report { newest: 0 },
+            output,
+            apps,
+            drive,
+        ),
         Err(status) => status,
     }
 }
@@ -48,8 +65,10 @@ pub fn run<S: Source, K: Sink, D: Drive>(
 ///
 /// Answers come as those of `run`; `Breach` and `Usage` never come.
 pub fn check<S: Source, K: Sink>(alloc: Global, input: &mut S, output: &mut K) -> Status
-    ensures { AnswersAlone Check result S.left S.faults input.old input.new
-        K.held K.faults output.old output.new }
+    ensures answers { AnswersAlone Check result
+        (source_over S.left S.faults input.old input.new)
+        (sink_over K.held K.faults output.old output.new) }
+    ensures unwritten { WritesNothing result → output.new ≡ output.old }
 {
     match read_scenario(alloc, input, output) {
         Ok(scenario) => show_sides(&scenario, output),
@@ -69,8 +88,10 @@ pub fn record<S: Source, K: Sink>(
     output: &mut K,
     apps: &Apps,
 ) -> Status
-    ensures { AnswersAlone (Record node) result S.left S.faults input.old input.new
-        K.held K.faults output.old output.new }
+    ensures answers { AnswersAlone (Record node) result
+        (source_over S.left S.faults input.old input.new)
+        (sink_over K.held K.faults output.old output.new) }
+    ensures unwritten { WritesNothing result → output.new ≡ output.old }
 {
     let scenario = match read_scenario(alloc, input, output) {
         Ok(scenario) => scenario,
@@ -88,8 +109,10 @@ pub fn record<S: Source, K: Sink>(
 /// byte. `TooLong`: the source gave more than 67,108,864 bytes. Other answers come as those of
 /// `run`; `Breach` and `Usage` never come.
 pub fn replay<S: Source, K: Sink>(alloc: Global, input: &mut S, output: &mut K) -> Status
-    ensures { AnswersAlone Replay result S.left S.faults input.old input.new
-        K.held K.faults output.old output.new }
+    ensures answers { AnswersAlone Replay result
+        (source_over S.left S.faults input.old input.new)
+        (sink_over K.held K.faults output.old output.new) }
+    ensures unwritten { WritesNothing result → output.new ≡ output.old }
 {
     match read_log(alloc, input) {
         Ok(bytes) => replay_bytes(&bytes, output),
@@ -102,8 +125,10 @@ pub fn replay<S: Source, K: Sink>(alloc: Global, input: &mut S, output: &mut K) 
 ///
 /// The answers are those of `replay`; the log of an RMU is `Refused` too.
 pub fn listen<S: Source, K: Sink>(alloc: Global, skip: u32, input: &mut S, output: &mut K) -> Status
-    ensures { AnswersAlone (Listen skip) result S.left S.faults input.old input.new
-        K.held K.faults output.old output.new }
+    ensures answers { AnswersAlone (Listen skip) result
+        (source_over S.left S.faults input.old input.new)
+        (sink_over K.held K.faults output.old output.new) }
+    ensures unwritten { WritesNothing result → output.new ≡ output.old }
 {
     match read_log(alloc, input) {
         Ok(bytes) => listen_to(&bytes, skip, output),
@@ -122,13 +147,29 @@ pub fn letters<S: Source, K: Sink, D: Drive>(
     apps: &Apps,
     drive: &mut D,
 ) -> Status
-    ensures { AnswersDriven Letters result S.left S.faults input.old
-        input.new K.held K.faults output.old output.new D.is_plain D.told drive.old drive.new }
+    ensures answers { AnswersDriven Letters result
+        (source_over S.left S.faults input.old input.new)
+        (sink_over K.held K.faults output.old output.new)
+        (drive_over D.is_plain D.told drive.old drive.new) }
+    ensures unwritten { WritesNothing result → output.new ≡ output.old }
+    ensures not_driven { RunsNothing result → drive.new ≡ drive.old }
+    ensures driven { HasEnded result
+        → DrivesTheInput (source_over S.left S.faults input.old input.new)
+        D.gives D.keeps drive.old drive.new }
 {
-    match read_scenario(alloc, input, output) {
-        Ok(scenario) => tell_letters(alloc, scenario, output, apps, drive),
-        Err(status) => status,
-    }
+    let scenario = match read_scenario(alloc, input, output) {
+        Ok(scenario) => scenario,
+        Err(status) => return status,
+    };
+    let mut teller = rb_long_run::Letters::new();
+    tell(alloc, scenario, &mut teller, output, apps, drive)
+}
+
+// Whether the scenario's bus has all these members.
+fn has_all(scenario: &Scenario, members: u16) -> bool
+    ensures { IsTrue result ↔ AreMembers scenario.now.plan.sizes members }
+{
+    has_members(scenario.plan.shape(), members)
 }
 
 /// `group most MASK`, `group mid MASK`: reads a scenario, runs it and writes what the good BIUs
@@ -145,8 +186,15 @@ pub fn group<S: Source, K: Sink, D: Drive>(
     drive: &mut D,
     voters: &Voters,
 ) -> Status
-    ensures { AnswersDriven (Group asked.now.which asked.now.members) result S.left S.faults input.old
-        input.new K.held K.faults output.old output.new D.is_plain D.told drive.old drive.new }
+    ensures answers { AnswersDriven (Group asked.now.which asked.now.members) result
+        (source_over S.left S.faults input.old input.new)
+        (sink_over K.held K.faults output.old output.new)
+        (drive_over D.is_plain D.told drive.old drive.new) }
+    ensures unwritten { WritesNothing result → output.new ≡ output.old }
+    ensures not_driven { RunsNothing result → drive.new ≡ drive.old }
+    ensures driven { HasEnded result
+        → DrivesTheInput (source_over S.left S.faults input.old input.new)
+        D.gives D.keeps drive.old drive.new }
 {
     let scenario = match read_scenario(alloc, input, output) {
         Ok(scenario) => scenario,
@@ -155,5 +203,18 @@ pub fn group<S: Source, K: Sink, D: Drive>(
     if !has_all(&scenario, asked.members.bits()) {
         return refuse_member(output);
     }
-    tell_group(alloc, scenario, asked, output, apps, drive, voters)
+    let scope = scope_of(&scenario);
+    let query = Query {
+        scope: &scope,
+        voters,
+        asked,
+    };
+    tell(
+        alloc,
+        scenario,
+        &mut GroupReport::new(query),
+        output,
+        apps,
+        drive,
+    )
 }

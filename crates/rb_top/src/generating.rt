@@ -12,10 +12,10 @@ ghost use Rattle.rb_top.specs.Serving.{IsOfText};
 ghost use Rattle.rb_top.specs.Texts.{generated_text};
 ghost use Rattle.rb_top.specs.Words.{AreNumbers};
 
-use crate::status::Status;
 use rb_base::OutOfMemory;
 use rb_gen::line;
 use rb_outside::{Failed, Sink, write_line};
+use rb_program::Status;
 use rb_scenario::Scenario;
 use std::alloc::Global;
 

@@ -14,13 +14,11 @@ mod replaying;
 pub mod running;
 mod serving;
 pub mod spelling;
-pub mod status;
-mod telling;
 pub mod top;
 
 pub use commands::{check, group, letters, listen, record, replay, run};
 pub use generating::generate;
+pub use rb_program::Status;
 pub use running::stress;
 pub use spelling::spell;
-pub use status::Status;
 pub use top::run_robus;

@@ -1,11 +1,12 @@
 //! What the program says of itself.
 ghost use Rattle.std.specs.Prelude.{◌≡◌};
+ghost use Rattle.rb_run.specs.Seen.{sink_over};
 ghost use Rattle.rb_top.specs.Pages.{help_text, page_text};
-ghost use Rattle.rb_top.specs.Serving.{WritesText};
+ghost use Rattle.rb_program.specs.Outside.{WritesText};
 
-use crate::status::Status;
 use rb_flags::Flag;
-use rb_outside::{Failed, Sink, write_all};
+use rb_outside::Sink;
+use rb_program::{Status, write_text};
 
 const HELP: &'static str = "\
 Usage: robus WORDS < INPUT > OUTPUT
@@ -56,10 +57,8 @@ fn page_of(flag: Flag) -> &'static str
 
 /// Writes what the flag asks for.
 pub(crate) fn write_page<K: Sink>(flag: Flag, output: &mut K) -> Status
-    ensures { WritesText (page_text flag) result K.held K.faults output.old output.new }
+    ensures { WritesText (page_text flag) result
+        (sink_over K.held K.faults output.old output.new) }
 {
-    match write_all(output, page_of(flag).as_bytes()) {
-        Ok(()) => Status::Done,
-        Err(Failed) => Status::WriteFault,
-    }
+    write_text(page_of(flag), output)
 }

@@ -1,14 +1,14 @@
 //! Reading a scenario or a log from a source.
-ghost use Rattle.std.specs.Prelude.{◌≡◌, ◌<◌, ◌≤◌, ◌^◌, IfOk, IfErr};
+ghost use Rattle.std.specs.Prelude.{◌≡◌, ◌≤◌, IfOk, IfErr};
 ghost use Rattle.rb_outside.specs.Bytes.{Gave, ReadsToEnd};
-ghost use Rattle.rb_top.specs.Inputs.{HasCode, IsUnreadOver, log_limit, member_text, rule_text};
+ghost use Rattle.rb_run.specs.Seen.{sink_over, source_over};
+ghost use Rattle.rb_program.specs.Outside.{IsUnreadOver, RefusesWith};
+ghost use Rattle.rb_program.specs.Statuses.{IsNotRead, WritesNothing};
+ghost use Rattle.rb_top.specs.Inputs.{HasCode, log_limit, member_text, rule_text};
 ghost use Rattle.rb_top.specs.Reading.{ReadsNone, ReadsScenario};
-ghost use Rattle.rb_top.specs.Serving.{IsNotRead, RefusesWith};
-ghost use Rattle.rb_top.specs.Statuses.{WritesNothing};
 
-use crate::status::Status;
-use arrayvec::ArrayString;
-use rb_outside::{Failed, Sink, Source, Unread, read_all, write_line};
+use rb_outside::{Sink, Source};
+use rb_program::{Status, read_within, refuse_with};
 use rb_report::refused_line;
 use rb_scenario::{Refusal, Scenario, read};
 use std::alloc::Global;
@@ -22,20 +22,11 @@ const LOG_LIMIT: usize = 67_108_864;
 /// The code of a member that the bus has not.
 const NO_SUCH_MEMBER: u8 = 14;
 
-/// Refuses the input with this line.
-pub(crate) fn refuse_with<K: Sink, const N: usize>(line: &ArrayString<N>, output: &mut K) -> Status
-    ensures { RefusesWith line.now.bytes result K.held K.faults output.old output.new }
-{
-    match write_line(output, line) {
-        Ok(()) => Status::Refused,
-        Err(Failed) => Status::WriteFault,
-    }
-}
-
 /// Refuses the input for a rule that it breaks.
 pub(crate) fn refuse<K: Sink>(rule: Refusal, output: &mut K) -> Status
     requires { HasCode rule }
-    ensures { RefusesWith (rule_text rule) result K.held K.faults output.old output.new }
+    ensures { RefusesWith (rule_text rule) result
+        (sink_over K.held K.faults output.old output.new) }
 {
     let line = refused_line(rule.code().unwrap_or(0), rule.detail(), false);
     refuse_with(&line, output)
@@ -43,29 +34,11 @@ pub(crate) fn refuse<K: Sink>(rule: Refusal, output: &mut K) -> Status
 
 /// Refuses the input for a member that its bus has not.
 pub(crate) fn refuse_member<K: Sink>(output: &mut K) -> Status
-    ensures { RefusesWith member_text result K.held K.faults output.old output.new }
+    ensures { RefusesWith member_text result
+        (sink_over K.held K.faults output.old output.new) }
 {
     let line = refused_line(NO_SUCH_MEMBER, None, false);
     refuse_with(&line, output)
-}
-
-// The bytes that the source has left, or the answer if they are more than the limit or cannot be
-// had.
-fn read_within<S: Source>(alloc: Global, input: &mut S, limit: usize) -> Result<Vec<u8>, Status>
-    requires { limit < 2 ^ 32 }
-    ensures whole { IfOk result (λ v. ReadsToEnd (S.left input.old) (S.left input.new) v.items) }
-    ensures short_enough { IfOk result
-        (λ _. Gave (S.left input.old) (S.left input.new) (λ n. n ≤ limit)) }
-    ensures unread { IfErr result (λ status. IsUnreadOver limit status (S.left input.old)
-        (S.left input.new) (S.faults input.old) (S.faults input.new)) }
-    ensures one_of { IfErr result IsNotRead }
-{
-    match read_all(alloc, input, limit) {
-        Ok(bytes) => Ok(bytes),
-        Err(Unread::TooLong) => Err(Status::TooLong),
-        Err(Unread::Fault) => Err(Status::ReadFault),
-        Err(Unread::OutOfMemory) => Err(Status::OutOfMemory),
-    }
 }
 
 /// The scenario that the source has left, or the answer if there is none.
@@ -74,10 +47,11 @@ pub(crate) fn read_scenario<S: Source, K: Sink>(
     input: &mut S,
     output: &mut K,
 ) -> Result<Scenario, Status>
-    ensures scenario { IfOk result (ReadsScenario (S.left input.old) (S.left input.new)) }
-    ensures none { IfErr result (λ status. ReadsNone status (S.left input.old) (S.left input.new)
-        (S.faults input.old) (S.faults input.new) (K.held output.old) (K.held output.new)
-        (K.faults output.old) (K.faults output.new)) }
+    ensures scenario { IfOk result
+        (ReadsScenario (source_over S.left S.faults input.old input.new)) }
+    ensures none { IfErr result (λ status. ReadsNone status
+        (source_over S.left S.faults input.old input.new)
+        (sink_over K.held K.faults output.old output.new)) }
     ensures unwritten { IfOk result (λ _. output.new ≡ output.old) }
     ensures nothing { IfErr result (λ status. WritesNothing status → output.new ≡ output.old) }
 {
@@ -95,8 +69,8 @@ pub(crate) fn read_log<S: Source>(alloc: Global, input: &mut S) -> Result<Vec<u8
     ensures whole { IfOk result (λ v. ReadsToEnd (S.left input.old) (S.left input.new) v.items) }
     ensures short_enough { IfOk result
         (λ _. Gave (S.left input.old) (S.left input.new) (λ n. n ≤ log_limit)) }
-    ensures unread { IfErr result (λ status. IsUnreadOver log_limit status (S.left input.old)
-        (S.left input.new) (S.faults input.old) (S.faults input.new)) }
+    ensures unread { IfErr result (λ status. IsUnreadOver log_limit status
+        (source_over S.left S.faults input.old input.new)) }
     ensures one_of { IfErr result IsNotRead }
 {
     read_within(alloc, input, LOG_LIMIT)

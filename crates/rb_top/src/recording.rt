@@ -1,18 +1,15 @@
 //! The log of one node in a run.
 ghost use Rattle.std.specs.Prelude.{◌≡◌, ◌↔◌, IsTrue};
-ghost use Rattle.rb_outside.specs.Causes.{Rose};
-ghost use Rattle.rb_record.specs.Recording.{WritesPart};
 ghost use Rattle.rb_rules.specs.Entries.{IsListed};
 ghost use Rattle.rb_rules.specs.Lawful.{IsLawful, IsNodeOf};
 ghost use Rattle.rb_scenario.specs.Acceptance.{as_scenario};
-ghost use Rattle.rb_top.specs.Serving.{IsLogged, IsOfRun};
-ghost use Rattle.rb_top.specs.Statuses.{HasEnded};
+ghost use Rattle.rb_run.specs.Seen.{sink_over};
+ghost use Rattle.rb_top.specs.Serving.{Logs};
 
-use crate::running::status_of;
-use crate::status::Status;
 use rb_base::{NodeName, OutOfMemory};
 use rb_outside::{Failed, Sink};
 use rb_port::Apps;
+use rb_program::{Status, status_of};
 use rb_record::record;
 use rb_scenario::Scenario;
 use rb_world::World;
@@ -39,13 +36,9 @@ pub(crate) fn write_log<K: Sink>(
     requires lawful { IsLawful (as_scenario scenario) }
     requires listed { IsListed (as_scenario scenario) }
     requires node { IsNodeOf scenario.plan.sizes node }
-    ensures ended { HasEnded result
-        → IsLogged (as_scenario scenario) node result (K.held output.old) (K.held output.new) }
-    ensures part { result ≡ Status.WriteFault
-        → WritesPart (as_scenario scenario) node (K.held output.old) (K.held output.new) }
-    ensures cause { result ≡ Status.WriteFault → Rose (K.faults output.old) (K.faults output.new) }
+    ensures logs { Logs scenario node result
+        (sink_over K.held K.faults output.old output.new) }
     ensures unopened { result ≡ Status.OutOfMemory → output.new ≡ output.old }
-    ensures one_of { IsOfRun result }
 {
     let mut world = match World::open(alloc, scenario) {
         Ok(world) => world,

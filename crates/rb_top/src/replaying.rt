@@ -1,13 +1,14 @@
 //! What the node of a log tells.
 ghost use Rattle.std.specs.Prelude.{◌≡◌};
+ghost use Rattle.rb_run.specs.Seen.{sink_over};
 ghost use Rattle.rb_top.specs.Commands.{IsReplay};
 ghost use Rattle.rb_top.specs.Inputs.{BreaksLog, fault_text, log_code, log_place};
-ghost use Rattle.rb_top.specs.Serving.{RefusesWith, TellsOfLog};
+ghost use Rattle.rb_program.specs.Outside.{RefusesWith};
+ghost use Rattle.rb_top.specs.Serving.{TellsOfLog};
 
-use crate::reading::refuse_with;
-use crate::status::Status;
 use rb_log::{LogReader, LogRefusal};
 use rb_outside::{Failed, Sink};
+use rb_program::{Status, refuse_with};
 use rb_replay::replay;
 use rb_report::refused_line;
 
@@ -36,7 +37,8 @@ fn place_of(fault: LogRefusal) -> Option<u64>
 
 /// Refuses the log for its fault.
 pub(crate) fn refuse_log<K: Sink>(fault: LogRefusal, output: &mut K) -> Status
-    ensures { RefusesWith (fault_text fault) result K.held K.faults output.old output.new }
+    ensures { RefusesWith (fault_text fault) result
+        (sink_over K.held K.faults output.old output.new) }
 {
     let line = refused_line(code_of(fault), place_of(fault), true);
     refuse_with(&line, output)
@@ -46,7 +48,7 @@ pub(crate) fn refuse_log<K: Sink>(fault: LogRefusal, output: &mut K) -> Status
 /// why they spell none.
 pub(crate) fn replay_bytes<K: Sink>(bytes: &[u8], output: &mut K) -> Status
     ensures { TellsOfLog IsReplay BreaksLog bytes.now result
-        K.held K.faults output.old output.new }
+        (sink_over K.held K.faults output.old output.new) }
 {
     match LogReader::open(bytes) {
         Ok(log) => match replay(log, output) {

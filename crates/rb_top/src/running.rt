@@ -1,69 +1,55 @@
-//! Runs that are told to their end: as a report, or as four numbers.
-ghost use Rattle.std.specs.Prelude.{◌≡◌, ◌≤◌, IsTrue};
-ghost use Rattle.rb_outside.specs.Causes.{Rose};
+//! Runs that are taken to their end: told by a teller, or as four numbers.
+ghost use Rattle.std.specs.Prelude.{◌≡◌, ◌≤◌, IsTrue, []};
 ghost use Rattle.rb_outside.specs.Writing.{Writes};
 ghost use Rattle.rb_rules.specs.Entries.{IsListed};
 ghost use Rattle.rb_rules.specs.Lawful.{IsLawful};
 ghost use Rattle.rb_report.specs.Report.{summary_text};
 ghost use Rattle.rb_scenario.specs.Acceptance.{as_scenario};
 ghost use Rattle.rb_run.specs.Histories.{HasDriven};
-ghost use Rattle.rb_run.specs.Runs.{WritesPart};
-ghost use Rattle.rb_top.specs.Commands.{status_of};
+ghost use Rattle.rb_run.specs.Seen.{drive_over, sink_over};
+ghost use Rattle.rb_program.specs.Statuses.{HasEnded};
 ghost use Rattle.rb_top.specs.Promise.{SumsTheHeadline};
-ghost use Rattle.rb_top.specs.Serving.{FailsToSum, IsOfRun, IsReported, IsSummed};
-ghost use Rattle.rb_top.specs.Statuses.{HasEnded};
+ghost use Rattle.rb_top.specs.Serving.{Reports, Sums};
 ghost use Rattle.rb_top.specs.Texts.{summary_of};
 ghost use Rattle.rb_top.specs.Words.{AreNumbers};
 
-use crate::status::Status;
 use rb_base::OutOfMemory;
 use rb_gen::generate;
 use rb_outside::{Failed, Sink, write_line};
 use rb_port::Apps;
+use rb_program::{Status, status_of};
 use rb_report::summary_line;
-use rb_run::{Ending, Totals, tally, write_run};
+use rb_run::{Ending, Teller, Totals, tally, tell_to_end};
 use rb_scenario::Scenario;
 use rb_world::{Drive, World};
 use std::alloc::Global;
 
-/// The answer if a run ends so and all is written.
-pub(crate) fn status_of(ending: Ending) -> Status
-    ensures { result ≡ status_of ending }
-{
-    match ending {
-        Ending::Ended => Status::Done,
-        Ending::Breach => Status::Breach,
-    }
-}
-
-/// Opens the run of a scenario and writes its report.
-pub(crate) fn report<K: Sink, D: Drive>(
+/// Opens the run of a scenario and writes what the teller says of it. The teller must not have told
+/// anything yet.
+pub(crate) fn tell<K: Sink, D: Drive, T: Teller>(
     alloc: Global,
     scenario: Scenario,
+    teller: &mut T,
     output: &mut K,
     apps: &Apps,
     drive: &mut D,
 ) -> Status
     requires lawful { IsLawful (as_scenario scenario) }
     requires listed { IsListed (as_scenario scenario) }
-    ensures ended { HasEnded result
-        → IsReported (as_scenario scenario) result (D.is_plain drive.old) (D.told drive.old)
-        (D.told drive.new) (K.held output.old) (K.held output.new) }
+    requires fresh { T.has_told teller.old (as_scenario scenario) [] }
+    ensures reports { Reports (T.says teller.old) scenario result
+        (sink_over K.held K.faults output.old output.new)
+        (drive_over D.is_plain D.told drive.old drive.new) }
     ensures driven { HasEnded result
         → HasDriven (as_scenario scenario) D.gives D.keeps drive.old drive.new }
-    ensures part { result ≡ Status.WriteFault
-        → WritesPart (as_scenario scenario) (D.is_plain drive.old) (D.told drive.old)
-        (D.told drive.new) (K.held output.old) (K.held output.new) }
-    ensures cause { result ≡ Status.WriteFault → Rose (K.faults output.old) (K.faults output.new) }
     ensures unopened { result ≡ Status.OutOfMemory
         → (output.new ≡ output.old) × (drive.new ≡ drive.old) }
-    ensures one_of { IsOfRun result }
 {
     let mut world = match World::open(alloc, scenario) {
         Ok(world) => world,
         Err(OutOfMemory) => return Status::OutOfMemory,
     };
-    match write_run(&mut world, apps, drive, output) {
+    match tell_to_end(&mut world, apps, drive, teller, output) {
         Ok(ending) => status_of(ending),
         Err(Failed) => Status::WriteFault,
     }
@@ -103,18 +89,14 @@ pub fn stress<K: Sink, D: Drive>(
 ) -> Status
     requires { AreNumbers seed frames }
     ensures promise { IsTrue (D.is_plain drive.old) → HasEnded result
-        → SumsTheHeadline seed frames result (K.held output.old) (K.held output.new) }
-    ensures ended { HasEnded result
-        → IsSummed seed frames result (D.is_plain drive.old) (D.told drive.old) (D.told drive.new)
-        (K.held output.old) (K.held output.new) }
-    ensures part { result ≡ Status.WriteFault
-        → FailsToSum seed frames (D.is_plain drive.old) (D.told drive.old) (D.told drive.new)
-        (K.held output.old) (K.held output.new) }
-    ensures cause { result ≡ Status.WriteFault → Rose (K.faults output.old) (K.faults output.new) }
+        → SumsTheHeadline seed frames result
+        (sink_over K.held K.faults output.old output.new) }
+    ensures sums { Sums seed frames result
+        (sink_over K.held K.faults output.old output.new)
+        (drive_over D.is_plain D.told drive.old drive.new) }
     ensures unopened { result ≡ Status.OutOfMemory
         → (output.new ≡ output.old) × (drive.new ≡ drive.old) }
     ensures breach { result ≡ Status.Breach → output.new ≡ output.old }
-    ensures one_of { IsOfRun result }
 {
     let scenario = match generate(alloc, seed, frames) {
         Ok(scenario) => scenario,

@@ -1,8 +1,9 @@
 //! The command that a form of words asks for.
 ghost use Rattle.std.specs.Prelude.{ℕ, ◌≡◌, None};
+ghost use Rattle.rb_run.specs.Seen.{drive_over, sink_over, source_over};
 ghost use Rattle.rb_top.specs.declared.form.Form.TheVariants.{Stress};
 ghost use Rattle.rb_top.specs.Answers.{CommandAnswers, command_of, limit_of};
-ghost use Rattle.rb_top.specs.Statuses.{RunsNothing, WritesNothing};
+ghost use Rattle.rb_program.specs.Statuses.{RunsNothing, WritesNothing};
 ghost use Rattle.rb_top.specs.Words.{IsInRange};
 
 use crate::commands::{check, group, letters, listen, record, replay, run};
@@ -11,12 +12,12 @@ use crate::generating::generate;
 use crate::pages::write_page;
 use crate::running::stress;
 use crate::spelling::spell;
-use crate::status::Status;
 use rb_base::{Biu, NodeSet};
 use rb_group::{Voters, Which};
 use rb_group_run::Asked;
 use rb_outside::{Sink, Source};
 use rb_port::Apps;
+use rb_program::Status;
 use rb_world::Drive;
 use std::alloc::Global;
 
@@ -41,10 +42,10 @@ pub(crate) fn serve<S: Source, K: Sink, D: Drive>(
     voters: &Voters,
 ) -> Status
     requires { IsInRange form }
-    ensures answers { CommandAnswers (command_of form) result (S.left input.old) (S.left input.new)
-        (S.faults input.old) (S.faults input.new)
-        (K.held output.old) (K.held output.new) (K.faults output.old) (K.faults output.new)
-        (D.is_plain drive.old) (D.told drive.old) (D.told drive.new) }
+    ensures answers { CommandAnswers (command_of form) result
+        (source_over S.left S.faults input.old input.new)
+        (sink_over K.held K.faults output.old output.new)
+        (drive_over D.is_plain D.told drive.old drive.new) }
     ensures without_input { limit_of form ≡ None → input.new ≡ input.old }
     ensures unwritten { WritesNothing result → output.new ≡ output.old }
     ensures stress_with_breach { (seed frames : ℕ) → form ≡ Stress seed frames

@@ -1,12 +1,13 @@
 //! The words of a letter.
 ghost use Rattle.rb_long_run.specs.Reports.{spelling_text};
-ghost use Rattle.rb_top.specs.Serving.{WritesText};
+ghost use Rattle.rb_run.specs.Seen.{sink_over};
+ghost use Rattle.rb_program.specs.Outside.{WritesText};
 ghost use Rattle.rb_top.specs.Words.{IsLetter};
 
-use crate::status::Status;
 use arrayvec::ArrayVec;
 use rb_long_run::write_spelling;
 use rb_outside::{Failed, Sink};
+use rb_program::Status;
 
 /// `spell HEX`: writes the words that spell a letter of 1 to 255 bytes, a line each.
 ///
@@ -14,7 +15,7 @@ use rb_outside::{Failed, Sink};
 pub fn spell<K: Sink>(letter: &ArrayVec<u8, 255>, output: &mut K) -> Status
     requires { IsLetter letter.now.items }
     ensures { WritesText (spelling_text letter.now.items) result
-        K.held K.faults output.old output.new }
+        (sink_over K.held K.faults output.old output.new) }
 {
     match write_spelling(letter.as_slice(), output) {
         Ok(()) => Status::Done,

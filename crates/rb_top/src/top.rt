@@ -1,17 +1,18 @@
 //! The top call.
 ghost use Rattle.std.specs.Prelude.{◌≡◌, IsTrue};
+ghost use Rattle.rb_run.specs.Seen.{drive_over, sink_over, source_over};
 ghost use Rattle.rb_top.specs.declared.form.Form.{Form};
 ghost use Rattle.rb_top.specs.Answers.{Completes, Ends, FailsToWrite, IsUnread, Refuses, Untouched, UsageExactly};
 ghost use Rattle.rb_top.specs.Promise.{KeepsItsPromise};
-ghost use Rattle.rb_top.specs.Statuses.{HasEnded};
+ghost use Rattle.rb_program.specs.Statuses.{HasEnded};
 ghost use Rattle.rb_top.specs.Words.{AskFor};
 
 use crate::form::form_of;
 use crate::serving::serve;
-use crate::status::Status;
 use rb_group::Voters;
 use rb_outside::{Sink, Source};
 use rb_port::Apps;
+use rb_program::Status;
 use rb_world::Drive;
 use std::alloc::Global;
 
@@ -61,27 +62,25 @@ pub fn run_robus<S: Source, K: Sink, D: Drive>(
     ensures untouched { Untouched words.now result input.old input.new output.old output.new
         drive.old drive.new }
     ensures ended { HasEnded result → (form : Form) → AskFor words.now form
-        → Ends form result (S.left input.old) (S.left input.new) (K.held output.old)
-        (K.held output.new)
-        (D.is_plain drive.old) (D.told drive.old) (D.told drive.new) }
+        → Ends form result (source_over S.left S.faults input.old input.new)
+        (sink_over K.held K.faults output.old output.new)
+        (drive_over D.is_plain D.told drive.old drive.new) }
     ensures promise { IsTrue (D.is_plain drive.old) → HasEnded result → (form : Form)
         → AskFor words.now form
-        → KeepsItsPromise form result (S.left input.old) (S.left input.new) (K.held output.old)
-        (K.held output.new) }
+        → KeepsItsPromise form result (source_over S.left S.faults input.old input.new)
+        (sink_over K.held K.faults output.old output.new) }
     ensures refused { result ≡ Status.Refused → (form : Form) → AskFor words.now form
-        → Refuses form (S.left input.old) (S.left input.new) (K.held output.old)
-        (K.held output.new) }
+        → Refuses form (source_over S.left S.faults input.old input.new)
+        (sink_over K.held K.faults output.old output.new) }
     ensures unread { (form : Form) → AskFor words.now form
-        → IsUnread form result (S.left input.old) (S.left input.new) (S.faults input.old)
-        (S.faults input.new) }
+        → IsUnread form result (source_over S.left S.faults input.old input.new) }
     ensures write_fault { result ≡ Status.WriteFault → (form : Form) → AskFor words.now form
-        → FailsToWrite form (S.left input.old) (S.left input.new) (K.held output.old)
-        (K.held output.new)
-        (K.faults output.old) (K.faults output.new) (D.is_plain drive.old) (D.told drive.old)
-        (D.told drive.new) }
+        → FailsToWrite form (source_over S.left S.faults input.old input.new)
+        (sink_over K.held K.faults output.old output.new)
+        (drive_over D.is_plain D.told drive.old drive.new) }
     ensures complete { (form : Form) → AskFor words.now form
-        → Completes form result (S.left input.old) (S.faults input.old) (S.faults input.new)
-        (K.faults output.old) (K.faults output.new) }
+        → Completes form result (source_over S.left S.faults input.old input.new)
+        (sink_over K.held K.faults output.old output.new) }
 {
     match form_of(words) {
         Some(form) => serve(alloc, form, input, output, apps, drive, voters),

@@ -77,6 +77,7 @@ impl Bus {
         let sayings = Sayings::new(alloc, &shape, onsets, version, scenario.says)?;
         let restless_biu = restless_nodes::<Biu>(shape.biu(), &scenario.biu_onset, &sayings);
         let restless_rmu = restless_nodes::<Rmu>(shape.rmu(), &scenario.rmu_onset, &sayings);
+        let delays = Delays::new(alloc, scenario.delays.base(), scenario.delays.rules())?;
         Ok(Bus {
             plan: scenario.plan,
             frames: scenario.frames,
@@ -84,7 +85,7 @@ impl Bus {
             words: scenario.words,
             apps: scenario.apps,
             clocks: scenario.clocks,
-            delays: scenario.delays,
+            delays,
             onsets,
             sayings,
             says,

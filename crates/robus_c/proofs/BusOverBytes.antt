@@ -3,12 +3,13 @@ use Rattle.std.proofs.Common.{◌≡◌, ℕ, List, [], String, map, string_byte
 use Rattle.std.specs.declared.alloc.Global.{Global}
 use Rattle.rb_world.specs.declared.drive.FirstDrive.{FirstDrive}
 use Rattle.robus_c.specs.{Held.{Held, faults_of}, Bus.{Answers, Ask, IsOver, KeepsItsPromise, KeepsTheHeadline, KeepsTheLog, SumsTheHeadline, read_by}}
-use Rattle.robus_c.proofs.OverBytes.{fresh, given_over, never_rose, no_fault, read_is, written_is}
-use Rattle.rb_top.specs.{declared.form.Form.Form, declared.form.Form.TheVariants.{Run, Check, Gen, Stress, Record, Replay, Spell, Letters, Group, Listen, Show}, declared.status.Status.Status, Commands.IsReplay, Answers.{Completes, Ends, FailsToWrite, IsDue, IsLeft, IsRefusedWith, IsUnread, Refuses, Untouched, UsageExactly, limit_of}, Inputs.{IsReadBy, IsTextOf, IsUnreadBy}, Statuses.{HasEnded, MayRefuse}, Texts.Telling, Words.AskFor}
+use Rattle.robus_c.proofs.OverBytes.{fresh, given_over, in_memory, never_rose, no_fault, read_is, silent, to_memory, written_is}
+use Rattle.rb_program.specs.{declared.status.Status.Status, Statuses.{HasEnded, MayRefuse}}
+use Rattle.rb_top.specs.{declared.form.Form.Form, declared.form.Form.TheVariants.{Check, Gen, Group, Letters, Listen, Record, Replay, Run, Show, Spell, Stress}, Commands.IsReplay, Answers.{Completes, Ends, FailsToWrite, IsDue, IsLeft, IsRefusedWith, IsUnread, Refuses, Untouched, UsageExactly, limit_of}, Inputs.{IsReadBy, IsTextOf, IsUnreadBy}, Texts.Telling, Words.AskFor}
 use Rattle.rb_base.specs.declared.node.NodeName.{NodeName}
 use Rattle.rb_laws_logs.specs.Laws.{report_of_node}
 use Rattle.rb_rules.specs.Rounds.{records_of}
-use Rattle.rb_top.specs.declared.status.Status.TheVariants as code
+use Rattle.rb_program.specs.declared.status.Status.TheVariants as code
 use Rattle.rb_top.specs.Promise as outside
 
 -- Words.
@@ -21,7 +22,7 @@ from_asked words form a = record { same = a.same; in_range = a.in_range }
 
 -- Input.
 
-read_by_is : (limit : Option ℕ) (input source source' bytes : List ℕ) → source ≡ input → IsReadBy limit (Some source) (Some source') bytes → bytes ≡ read_by limit input
+read_by_is : (limit : Option ℕ) (input source source' bytes : List ℕ) → source ≡ input → IsReadBy limit (in_memory source source') bytes → bytes ≡ read_by limit input
 read_by_is None input source source' bytes e r = r
 read_by_is (Some limit) input source source' bytes e r = read_is input source source' bytes e r
 
@@ -30,18 +31,18 @@ is_left None input source e = refl
 is_left (Some limit) input source e = ap Some e
 
 is_over : (limit : Option ℕ) (status : Status) (input source source' : List ℕ) → source ≡ input
-    → IsUnreadBy limit status (Some source) (Some source') 0 0 → status ≡ code.TooLong → IsOver limit (read_by limit input)
+    → IsUnreadBy limit status (in_memory source source') → status ≡ code.TooLong → IsOver limit (read_by limit input)
 is_over None status input source source' e u long = absurd (u.not_long long)
 is_over (Some limit) status input source source' e u long = given_over limit input source source' e (u.too_long long)
 
-never_unread : (limit : Option ℕ) (status : Status) (source source' : List ℕ) → IsUnreadBy limit status (Some source) (Some source') 0 0 → status ≡ code.ReadFault → ⊥
+never_unread : (limit : Option ℕ) (status : Status) (source source' : List ℕ) → IsUnreadBy limit status (in_memory source source') → status ≡ code.ReadFault → ⊥
 never_unread None status source source' u fault = u.no_fault fault
 never_unread (Some limit) status source source' u fault = never_rose (u.fault fault)
 
 -- The promise.
 
 headline : (tells : Telling) (status : Status) (input source source' : List ℕ) (sink sink' : Held) → source ≡ input → sink ≡ fresh
-    → outside.KeepsTheHeadline tells status (Some source) (Some source') (Some sink.bytes) (Some sink'.bytes)
+    → outside.KeepsTheHeadline tells status (in_memory source source') (to_memory sink sink')
     → KeepsTheHeadline tells status input sink'.bytes
 headline tells status input source source' sink sink' e f k = record {
   scenario = k.scenario;
@@ -54,7 +55,7 @@ headline tells status input source source' sink sink' e f k = record {
 }
 
 sums : (seed frames : ℕ) (status : Status) (sink sink' : Held) → sink ≡ fresh
-    → outside.SumsTheHeadline seed frames status (Some sink.bytes) (Some sink'.bytes) → SumsTheHeadline seed frames status sink'.bytes
+    → outside.SumsTheHeadline seed frames status (to_memory sink sink') → SumsTheHeadline seed frames status sink'.bytes
 sums seed frames status sink sink' f k = record {
   ends = k.ends;
   is = written_is sink sink' _ f k.written;
@@ -62,7 +63,7 @@ sums seed frames status sink sink' f k = record {
 }
 
 log : (node : NodeName) (input source source' : List ℕ) (sink sink' : Held) → source ≡ input → sink ≡ fresh
-    → outside.KeepsTheLog node (Some source) (Some source') (Some sink.bytes) (Some sink'.bytes) → KeepsTheLog node input sink'.bytes
+    → outside.KeepsTheLog node (in_memory source source') (to_memory sink sink') → KeepsTheLog node input sink'.bytes
 log node input source source' sink sink' e f k = record {
   scenario = k.scenario;
   accepted = subst (λ bytes. IsTextOf bytes k.scenario) (read_is input source source' k.input e k.read) k.accepted;
@@ -71,7 +72,7 @@ log node input source source' sink sink' e f k = record {
 }
 
 promised : (form : Form) (status : Status) (input source source' : List ℕ) (sink sink' : Held) → source ≡ input → sink ≡ fresh
-    → outside.KeepsItsPromise form status (Some source) (Some source') (Some sink.bytes) (Some sink'.bytes)
+    → outside.KeepsItsPromise form status (in_memory source source') (to_memory sink sink')
     → KeepsItsPromise form status (read_by (limit_of form) input) sink'.bytes
 unfolding headline
 promised Run status input source source' sink sink' e f k = headline _ status input source source' sink sink' e f k
@@ -95,14 +96,14 @@ pub over_bytes : (words : List (String Global)) (status : Status) (input source 
     → source ≡ input → sink ≡ fresh → sink'.failed ≡ false
     → UsageExactly status words
     → Untouched words status source source' sink sink' drive drive'
-    → (HasEnded status → (form : Form) → AskFor words form → Ends form status (Some source) (Some source') (Some sink.bytes) (Some sink'.bytes) true None None)
+    → (HasEnded status → (form : Form) → AskFor words form → Ends form status (in_memory source source') (to_memory sink sink') silent)
     → (IsTrue true → HasEnded status → (form : Form) → AskFor words form
-    → outside.KeepsItsPromise form status (Some source) (Some source') (Some sink.bytes) (Some sink'.bytes))
-    → (status ≡ code.Refused → (form : Form) → AskFor words form → Refuses form (Some source) (Some source') (Some sink.bytes) (Some sink'.bytes))
-    → ((form : Form) → AskFor words form → IsUnread form status (Some source) (Some source') 0 0)
+    → outside.KeepsItsPromise form status (in_memory source source') (to_memory sink sink'))
+    → (status ≡ code.Refused → (form : Form) → AskFor words form → Refuses form (in_memory source source') (to_memory sink sink'))
+    → ((form : Form) → AskFor words form → IsUnread form status (in_memory source source'))
     → (status ≡ code.WriteFault → (form : Form) → AskFor words form
-    → FailsToWrite form (Some source) (Some source') (Some sink.bytes) (Some sink'.bytes) (faults_of sink) (faults_of sink') true None None)
-    → ((form : Form) → AskFor words form → Completes form status (Some source) 0 0 (faults_of sink) (faults_of sink'))
+    → FailsToWrite form (in_memory source source') (to_memory sink sink') silent)
+    → ((form : Form) → AskFor words form → Completes form status (in_memory source source') (to_memory sink sink'))
     → Answers (map string_bytes words) input sink'.bytes status
 over_bytes words status input source source' sink sink' drive drive' e f ok usage untouched ends promise refuses unread fails completes = record {
   unknown = λ u form a. usage.unknown u form (to_asked words form a);
@@ -114,13 +115,13 @@ over_bytes words status input source source' sink sink' drive drive' e f ok usag
       no_fault sink sink' f ok (fails fault known.0 known.1).rose;
   of_form = λ form a.
       let asked : AskFor words form = to_asked words form a in
-      let input_is : (limit : Option ℕ) (bytes : List ℕ) → IsReadBy limit (Some source) (Some source') bytes → bytes ≡ read_by limit input = λ limit bytes r. read_by_is limit input source source' bytes e r in
+      let input_is : (limit : Option ℕ) (bytes : List ℕ) → IsReadBy limit (in_memory source source') bytes → bytes ≡ read_by limit input = λ limit bytes r. read_by_is limit input source source' bytes e r in
       record {
         promise = λ h. promised form status input source source' sink sink' e f (promise refl h form asked);
-        ended = λ h. let d : Ends form status (Some source) (Some source') (Some sink.bytes) (Some sink'.bytes) true None None = ends h form asked in
-            subst (λ bytes. IsDue form bytes true None None status sink'.bytes) (input_is (limit_of form) d.input d.read)
-            (subst (λ text. IsDue form d.input true None None status text) (sym (written_is sink sink' d.text f d.written)) d.due);
-        refused = λ r. let d : Refuses form (Some source) (Some source') (Some sink.bytes) (Some sink'.bytes) = refuses r form asked in
+        ended = λ h. let d : Ends form status (in_memory source source') (to_memory sink sink') silent = ends h form asked in
+            subst (λ bytes. IsDue form bytes silent status sink'.bytes) (input_is (limit_of form) d.input d.read)
+            (subst (λ text. IsDue form d.input silent status text) (sym (written_is sink sink' d.text f d.written)) d.due);
+        refused = λ r. let d : Refuses form (in_memory source source') (to_memory sink sink') = refuses r form asked in
             subst (λ bytes. IsRefusedWith form bytes sink'.bytes) (input_is (limit_of form) d.input d.read)
             (subst (λ text. IsRefusedWith form d.input text) (sym (written_is sink sink' d.line f d.written)) d.refused);
         too_long = λ long. is_over (limit_of form) status input source source' e (unread form asked) long;

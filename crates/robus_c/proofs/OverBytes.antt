@@ -1,8 +1,20 @@
 -- What clauses over a source and a sink come to if these tell their bytes and never fail.
-use Rattle.std.proofs.{Common.{◌≡◌, ℕ, ◌+◌, ◌<◌, List, [], ◌++◌, length, Some, false, sym, ap, subst, ◌∙◌, arith, length-append}, lemmas.List.append-nil}
+use Rattle.std.proofs.{Common.{◌≡◌, ℕ, ◌+◌, ◌<◌, List, [], ◌++◌, length, None, Some, true, false, sym, ap, subst, ◌∙◌, arith, length-append}, lemmas.List.append-nil}
 use Rattle.std.specs.Io.KnownBytes.{Appends}
 use Rattle.rb_outside.specs.{Bytes.{Gave, ReadsToEnd}, Causes.Rose}
+use Rattle.rb_run.specs.Seen.{SeenDrive, SeenSink, SeenSource, drive_of}
 use Rattle.robus_c.specs.Held.{Held, faults_of}
+
+-- what is seen of bytes that are read and of a sink that holds its bytes
+abbrev pub in_memory : List ℕ → List ℕ → SeenSource
+in_memory source source' = record { left = Some source; left' = Some source'; faults = 0; faults' = 0 }
+
+abbrev pub to_memory : Held → Held → SeenSink
+to_memory sink sink' = record { held = Some sink.bytes; held' = Some sink'.bytes; faults = faults_of sink; faults' = faults_of sink' }
+
+-- a plain drive that tells nothing
+abbrev pub silent : SeenDrive
+silent = drive_of true None None
 
 abbrev pub fresh : Held
 fresh = record { bytes = []; failed = false }

@@ -5,20 +5,10 @@ use Rattle.rb_laws_promise.specs.Promise.{KeepsThePromise}
 use Rattle.rb_rules_bridge.specs.{declared.bank.Bank.Bank, Bridges.{Bridge, IsBridge, bus_on}, Crossings.{hands_of, hands_on}, Texts.bridge_text}
 use Rattle.rb_laws_bridge.specs.Laws.{WordsCrossOn}
 use Rattle.rb_bridge_document.specs.Acceptance.{AreListed, IsBridgeAccepted}
-use Rattle.rb_bridge_top.specs.{declared.form.Form.Form, declared.form.Form.TheVariants.{Run, Show}, declared.status.Status.Status, Inputs.{IsRefusedWith, input_limit}, Pages.page_text, Statuses.{HasEnded, WritesNothing, end_of}, Words.words_of}
+use Rattle.rb_program.specs.{declared.status.Status.Status, Statuses.{HasEnded, WritesNothing, number_of}}
+use Rattle.rb_bridge_top.specs.{declared.form.Form.Form, declared.form.Form.TheVariants.{Run, Show}, Inputs.{IsRefusedWith, input_limit}, Pages.page_text, Statuses.end_of, Words.words_of}
 use Rattle.robus_c.specs.{declared.answer.Answer.Answer, Put.IsAnswer}
-use Rattle.rb_bridge_top.specs.declared.status.Status.TheVariants as code
-
--- the number that a status has in the answer
-abbrev pub number_of : Status → ℕ
-number_of code.Done = 0
-number_of code.Breach = 1
-number_of code.Usage = 2
-number_of code.Refused = 3
-number_of code.TooLong = 4
-number_of code.ReadFault = 5
-number_of code.WriteFault = 6
-number_of code.OutOfMemory = 7
+use Rattle.rb_program.specs.declared.status.Status.TheVariants as code
 
 -- the words are those of the form
 abbrev pub Ask : List (List ℕ) → Form → Type 0

@@ -8,20 +8,11 @@ use Rattle.rb_laws_letters.specs.Laws.{PortsReceiveAlike, PortsReceiveGoodSender
 use Rattle.rb_laws_logs.specs.Laws.{EndsWithoutBreach, IsGoodThroughout, report_of_node}
 use Rattle.rb_laws_promise.specs.Promise.{KeepsThePromise}
 use Rattle.rb_gen.specs.Generated.{generated}
-use Rattle.rb_top.specs.{declared.form.Form.Form, declared.form.Form.TheVariants.{Run, Check, Gen, Stress, Record, Replay, Spell, Letters, Group, Listen, Show}, declared.status.Status.Status, Answers.{IsDue, IsEnd, IsRefusedWith, IsWithin, limit_of}, Commands.{EndsAs, IsReplay}, Inputs.IsTextOf, Statuses.{HasEnded, WritesNothing}, Texts.{Telling, summary_with, told_by_group, told_by_letters, told_by_run}, Words.{IsInRange, words_of}}
+use Rattle.rb_run.specs.Seen.{drive_of}
+use Rattle.rb_program.specs.{declared.status.Status.Status, Statuses.{HasEnded, WritesNothing, number_of}}
+use Rattle.rb_top.specs.{declared.form.Form.Form, declared.form.Form.TheVariants.{Check, Gen, Group, Letters, Listen, Record, Replay, Run, Show, Spell, Stress}, Answers.{IsDue, IsEnd, IsRefusedWith, IsWithin, limit_of}, Commands.{EndsAs, IsReplay}, Inputs.IsTextOf, Texts.{Telling, summary_with, told_by_group, told_by_letters, told_by_run}, Words.{IsInRange, words_of}}
 use Rattle.robus_c.specs.{declared.answer.Answer.Answer, Put.IsAnswer}
-use Rattle.rb_top.specs.declared.status.Status.TheVariants as code
-
--- the number that a status has in the answer
-abbrev pub number_of : Status → ℕ
-number_of code.Done = 0
-number_of code.Breach = 1
-number_of code.Usage = 2
-number_of code.Refused = 3
-number_of code.TooLong = 4
-number_of code.ReadFault = 5
-number_of code.WriteFault = 6
-number_of code.OutOfMemory = 7
+use Rattle.rb_program.specs.declared.status.Status.TheVariants as code
 
 -- the words are those of the form, whose numbers and letter are in range
 pub record Ask (words : List (List ℕ)) (form : Form) : Type 0 where
@@ -92,7 +83,7 @@ KeepsItsPromise (Show flag) status input output = ⊤
 -- The answer to a form, for what is read of the input
 pub record AnswersForm (form : Form) (input output : List ℕ) (status : Status) : Type 0 where
   pub promise : HasEnded status → KeepsItsPromise form status input output
-  pub ended : HasEnded status → IsDue form input true None None status output  -- the output is the form's text
+  pub ended : HasEnded status → IsDue form input (drive_of true None None) status output  -- the output is the form's text
   pub refused : status ≡ code.Refused → IsRefusedWith form input output  -- the input is refused, and the output is the line that says why
   pub too_long : status ≡ code.TooLong → IsOver (limit_of form) input
   pub complete : (end : Status) → IsEnd form input end → IsWithin (limit_of form) input

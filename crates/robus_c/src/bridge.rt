@@ -1,24 +1,17 @@
 //! `robus_bridge` over bytes in memory.
 ghost use Rattle.std.specs.Prelude.{◌≡◌, false, [], map, string_bytes};
-ghost use Rattle.robus_c.specs.Bridge.{Says, number_of};
+ghost use Rattle.robus_c.specs.Bridge.{Says};
 
 use crate::program::Program;
 use crate::sink::HeldSink;
 use crate::source::SliceSource;
-use rb_bridge_top::{Status, run_bridge};
+use rb_bridge_top::run_bridge;
 use rb_port::{Apps, applications};
 use rb_world::FirstDrive;
 use std::alloc::{AllocError, Global};
 
 /// `robus_bridge`.
 pub(crate) struct RobusBridge;
-
-// The number of a status.
-fn number_of(status: Status) -> u8
-    ensures { result ≡ number_of status }
-{
-    status as u8
-}
 
 // The top call over these bytes, into an empty sink.
 fn run_over(alloc: Global, words: &[String], input: &[u8], sink: &mut HeldSink, apps: &Apps) -> u8
@@ -30,7 +23,7 @@ fn run_over(alloc: Global, words: &[String], input: &[u8], sink: &mut HeldSink, 
     let mut left = FirstDrive::new();
     let mut right = FirstDrive::new();
     let status = run_bridge(alloc, words, &mut source, sink, apps, &mut left, &mut right);
-    number_of(status)
+    status.number()
 }
 
 impl Program for RobusBridge {

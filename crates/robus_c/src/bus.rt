@@ -1,25 +1,18 @@
 //! `robus` over bytes in memory.
 ghost use Rattle.std.specs.Prelude.{◌≡◌, false, [], map, string_bytes, IfOk};
-ghost use Rattle.robus_c.specs.Bus.{Says, number_of};
+ghost use Rattle.robus_c.specs.Bus.{Says};
 
 use crate::program::Program;
 use crate::sink::HeldSink;
 use crate::source::SliceSource;
 use rb_group::{Voters, voters};
 use rb_port::{Apps, applications};
-use rb_top::{Status, run_robus};
+use rb_top::run_robus;
 use rb_world::FirstDrive;
 use std::alloc::{AllocError, Global};
 
 /// `robus`.
 pub(crate) struct Robus;
-
-// The number of a status.
-fn number_of(status: Status) -> u8
-    ensures { result ≡ number_of status }
-{
-    status as u8
-}
 
 // The top call over these bytes, into an empty sink.
 fn run_over(
@@ -37,7 +30,7 @@ fn run_over(
     let mut source = SliceSource::new(input);
     let mut drive = FirstDrive::new();
     let status = run_robus(alloc, words, &mut source, sink, apps, &mut drive, voters);
-    number_of(status)
+    status.number()
 }
 
 // The call with the two voters, or an error if there is no memory for them.

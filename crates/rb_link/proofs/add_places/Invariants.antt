@@ -1,9 +1,6 @@
-use Rattle.std.proofs.Common.{◌≡◌, ◌++◌, take}
-use Rattle.rb_link.specs.Pairs.{is_between, places_from}
+use Rattle.std.proofs.Common.{◌≡◌, ◌++◌, filter, slice_get, take}
+use Rattle.rb_link.specs.Pairs.{is_to}
 use Rattle.rb_link.proofs.add_places.Given as goal
 
-abbrev pub invariant-loop-rule : goal.invariant-loop-rule
-invariant-loop-rule l = record {
-  number : l.number ≡ l.rule-index;
-  places : l.places.items ≡ l.initial.places.items ++ places_from 0 (is_between l.from l.to) (take l.rule-index l.rules);
-}
+abbrev pub invariant-loop-number : goal.invariant-loop-number
+invariant-loop-number l = l.places.items ≡ l.initial.places.items ++ filter (λ n. is_to l.to (slice_get l.rules n)) (take l.number-index l.sent)

@@ -1,5 +1,5 @@
-use Rattle.std.proofs.Common.{◌≡◌, ◌∙◌, ◌+◌, ◌∷◌, [], ap, arith, length, length-append, subst, sym}
-use Rattle.rb_link.specs.Pairs.{AreLatest}
+use Rattle.std.proofs.Common.{◌≡◌, ◌∙◌, ◌+◌, ◌∷◌, [], ap, arith, length, length-append, refl, subst, sym}
+use Rattle.rb_link.specs.Pairs.{AreLatest, receiver_of, rule_or_base, sender_of}
 use Rattle.rb_link.proofs.Latest.{latest_at_none, latest_more}
 use Rattle.rb_link.proofs.latest_rules.Goals as goal
 
@@ -16,6 +16,7 @@ loop-pair-preserved c =
     ap length c.in_ok-add.ensures ∙ length-append c.loop-pair.latest.items (c.latest_rule-rule.result ∷ []) in
     record {
       latest_are = subst (AreLatest c.args.base c.args.rules.now) (sym c.in_ok-add.ensures)
-          (latest_more c.args.base c.loop-pair.pair c.args.rules.now c.loop-pair.latest.items _ _ _ is.latest_are is.many c.sender_of.ensures c.receiver_of.ensures c.latest_rule-rule.ensures);
+          (latest_more c.args.base c.loop-pair.pair c.args.rules.now c.loop-pair.latest.items _ _ _ is.latest_are is.many refl refl
+          (c.latest_rule-rule.ensures ∙ ap (rule_or_base c.args.base (sender_of c.loop-pair.pair) (receiver_of c.loop-pair.pair)) c.last_of-found.ensures));
       many = omega (arith, long, is.many);
     }

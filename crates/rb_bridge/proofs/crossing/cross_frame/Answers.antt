@@ -1,4 +1,4 @@
-use Rattle.std.proofs.Common.{false, option_map, sym, ap, ◌∙◌, rules}
+use Rattle.std.proofs.Common.{option_map, sym, ap, ◌∙◌, rules}
 use Rattle.std.specs.Io.KnownBytes.{Appends}
 use Rattle.rb_base.proofs.Plain.{on_err}
 use Rattle.rb_outside.specs.Bytes.{AppendsPart}
@@ -28,7 +28,7 @@ returns-in_err-tell-clause-crosses g c = λ x.
       all = search rules;
       part = on_err _ (crosses-part (run_after x.run) c.args.frame c.pass_both-breach.new.left c.pass_both-breach.new.right c.pass_both-breach.result _ _ is
           (told-all (run_after x.run) c.args.frame c.pass_both-breach.new.left c.pass_both-breach.new.right c.pass_both-breach.result
-          (AppendsPart (g.K.Sink.held c.args.output.now) (g.K.Sink.held c.tell.new.output)) x.run.within x.run.plain is (λ found. c.in_err-tell.ensures.part x.run.b found)));
+          (AppendsPart (g.K.Sink.held c.args.output.now) (g.K.Sink.held c.tell.new.output)) x.run.within x.run.plain is (λ found. (c.in_err-tell.ensures.writes x.run.b found).part)));
     }
 
 pub returns-then-is_some-clause-crosses : goal.returns-then-is_some-clause-crosses
@@ -38,7 +38,7 @@ returns-then-is_some-clause-crosses g c = λ x.
     record {
       all = breaks-off (run_after x.run) c.args.frame c.pass_both-breach.new.left c.pass_both-breach.new.right c.pass_both-breach.new.left c.pass_both-breach.new.right c.pass_both-breach.result found.0 _ _ is found.1
           (told-all (run_after x.run) c.args.frame c.pass_both-breach.new.left c.pass_both-breach.new.right c.pass_both-breach.result
-          (Appends (g.K.Sink.held c.args.output.now) (g.K.Sink.held c.tell.new.output)) x.run.within x.run.plain is (λ found. c.in_ok-tell.ensures.all x.run.b found));
+          (Appends (g.K.Sink.held c.args.output.now) (g.K.Sink.held c.tell.new.output)) x.run.within x.run.plain is (λ found. (c.in_ok-tell.ensures.writes x.run.b found).all));
       part = search rules;
     }
 
@@ -50,7 +50,7 @@ returns-clause-crosses g c = λ x.
     record {
       all = goes-on (run_after x.run) c.args.frame c.pass_both-breach.new.left c.pass_both-breach.new.right c.exchange.new.left c.exchange.new.right c.pass_both-breach.result _ _ is none
           (told-all (run_after x.run) c.args.frame c.pass_both-breach.new.left c.pass_both-breach.new.right c.pass_both-breach.result
-          (Appends (g.K.Sink.held c.args.output.now) (g.K.Sink.held c.tell.new.output)) x.run.within x.run.plain is (λ found. c.in_ok-tell.ensures.all x.run.b found))
+          (Appends (g.K.Sink.held c.args.output.now) (g.K.Sink.held c.tell.new.output)) x.run.within x.run.plain is (λ found. (c.in_ok-tell.ensures.writes x.run.b found).all))
           (c.exchange.ensures (run_after x.run) c.args.frame
           (record { bridge = x.run.bridge; pairs_are = x.pairs_are; within = x.run.within; plain = x.run.plain; left = through.left; right = through.right; unbroken = λ sure. through.unbroken }));
       part = search rules;

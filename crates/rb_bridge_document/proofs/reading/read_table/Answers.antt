@@ -1,9 +1,9 @@
-use Rattle.std.proofs.Common.{◌≡◌, true, sym, ◌∙◌, subst, inr, refl}
+use Rattle.std.proofs.Common.{◌≡◌, ◌⊎◌, true, sym, ◌∙◌, subst, inr, refl}
 use Rattle.toml.specs.{View.table_view, Data.Members}
 use Rattle.rb_scenario.specs.Acceptance.{as_scenario}
 use Rattle.rb_rules_bridge.specs.Bridges.{IsBridge}
-use Rattle.rb_bridge_document.specs.{Acceptance.AreListed, Documents.has_bridge_form}
-use Rattle.rb_bridge_document.proofs.Fitting.{are-listed, few-pairs, says-bridge}
+use Rattle.rb_bridge_document.specs.{declared.refusal.BridgeRefusal.TheVariants.OutOfMemory, Acceptance.{AreListed, IsFirstBroken}, Documents.has_bridge_form}
+use Rattle.rb_bridge_document.proofs.{Fitting.{are-listed, few-pairs, says-bridge}, Refused.right-broken}
 use Rattle.rb_bridge_document.proofs.reading.read_table.Goals as goal
 
 pub returns-in-Some-clause-bridge : goal.returns-in-Some-clause-bridge
@@ -35,3 +35,9 @@ returns-in-None-clause-refused c =
         ),
       ),
     )
+
+pub returns-in-Err-bus_at-clause-refused : goal.returns-in-Err-bus_at-clause-refused
+returns-in-Err-bus_at-clause-refused c =
+    let t : Members = table_view c.args.table.now in
+    subst (λ e. (e ≡ OutOfMemory) ⊎ IsFirstBroken t e) (sym c.right_refused.ensures)
+    (right-broken t c.in-Ok.left c.in-Err-bus_at.why (sym c.has_bridge_form.ensures ∙ c.if-not-has_bridge_form.false) c.in-Ok.ensures.accepted c.in-Err-bus_at.ensures.refused)

@@ -1,7 +1,9 @@
-use Rattle.std.proofs.Common.{true, false, refl, subst, sym}
+use Rattle.std.proofs.Common.{true, false, refl, subst}
 use Rattle.rb_flags.specs.declared.Flag.{Flag}
+use Rattle.rb_run.specs.Seen.{sink_over}
 use Rattle.rb_bridge.proofs.Crossed.{never-plain}
-use Rattle.rb_bridge_top.specs.{declared.form.Form.TheVariants.{Run, Show}, Pages.Shows, Statuses.IsOfRun, Words.AskFor}
+use Rattle.rb_program.specs.{Outside.WritesText, Statuses.IsOfRun}
+use Rattle.rb_bridge_top.specs.{declared.form.Form.TheVariants.{Run, Show}, Pages.page_text, Words.AskFor}
 use Rattle.rb_bridge_top.proofs.{Answered.{shown-of-run, shown-writes}, Completed.{completes, promised}, OneForm.{idle_run, no_flag_runs, one_shown}}
 use Rattle.rb_bridge_top.proofs.top.run_bridge.Goals as goal
 
@@ -28,7 +30,7 @@ returns-in-Some-Run-clause-shown g c flag asked =
     absurd (no_flag_runs c.args.words.now flag (subst (AskFor c.args.words.now) c.in-Some-Run.field-0-is c.in-Some-Run.ensures.some) asked)
 
 pub returns-in-Some-Run-clause-promise : goal.returns-in-Some-Run-clause-promise
-returns-in-Some-Run-clause-promise g c asked left right h = promised c.serve.result _ _ _ _ _ _ _ _ _ _ ((c.serve.ensures.answers true (record { left = λ _. left; right = λ _. right })).ended h)
+returns-in-Some-Run-clause-promise g c asked left right h = promised c.serve.result _ _ _ ((c.serve.ensures.answers true (record { left = λ _. left; right = λ _. right })).ended h)
 
 pub returns-in-Some-Run-clause-ended : goal.returns-in-Some-Run-clause-ended
 returns-in-Some-Run-clause-ended g c asked both plain h = (c.serve.ensures.answers both plain).ended h
@@ -43,7 +45,7 @@ pub returns-in-Some-Run-clause-write_fault : goal.returns-in-Some-Run-clause-wri
 returns-in-Some-Run-clause-write_fault g c asked both plain e = (c.serve.ensures.answers both plain).failed e
 
 pub returns-in-Some-Run-clause-complete : goal.returns-in-Some-Run-clause-complete
-returns-in-Some-Run-clause-complete g c asked both plain = completes both c.serve.result _ _ _ _ _ _ _ _ _ _ _ _ _ _ (c.serve.ensures.answers both plain)
+returns-in-Some-Run-clause-complete g c asked both plain = completes both c.serve.result _ _ _ (c.serve.ensures.answers both plain)
 
 -- The words are a flag.
 
@@ -64,8 +66,7 @@ returns-in-Some-Show-clause-untouched g c = record {
 
 pub returns-in-Some-Show-clause-shown : goal.returns-in-Some-Show-clause-shown
 returns-in-Some-Show-clause-shown g c flag asked =
-    let P : Flag → Type 0 = λ f. Shows f c.write_page.result (g.K.Sink.held c.args.output.now) (g.K.Sink.held c.write_page.new.output)
-    (g.K.Sink.faults c.args.output.now) (g.K.Sink.faults c.write_page.new.output) in
+    let P : Flag → Type 0 = λ f. WritesText (page_text f) c.write_page.result (sink_over g.K.Sink.held g.K.Sink.faults c.args.output.now c.write_page.new.output) in
     let shows : AskFor c.args.words.now (Show c.in-Some-Show.flag) = subst (AskFor c.args.words.now) c.in-Some-Show.field-0-is c.in-Some-Show.ensures.some in
     subst P (one_shown c.args.words.now c.in-Some-Show.flag flag shows asked) c.write_page.ensures
 

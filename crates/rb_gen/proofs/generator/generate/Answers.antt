@@ -36,9 +36,9 @@ pub returns-clause-scenario : goal.returns-clause-scenario
 unfolding scenario_of with_rules
 returns-clause-scenario c =
     let drawn = c.drawn_from-drawn.result in
-    let delays = c.in_ok-delays.ensures ∙ ap with_rules (c.deref.ensures.value ∙ c.in_ok-rules.ensures) in
-    with_its_own drawn c.args.frames c.plan.result c.new-2.result c.in_ok-delays.delays c.new-3.result
-    c.plan.ensures (c.new-2.ensures ∙ c.in_ok-clocks.ensures) delays (c.new-3.ensures ∙ c.in_ok-says.ensures)
+    let delays = c.new-2.ensures ∙ ap with_rules c.in_ok-rules.ensures in
+    with_its_own drawn c.args.frames c.plan.result c.new.result c.new-2.result c.new-3.result
+    c.plan.ensures (c.new.ensures ∙ c.in_ok-clocks.ensures) delays (c.new-3.ensures ∙ c.in_ok-says.ensures)
     ∙ ap (λ d. scenario_of d c.args.frames) c.drawn_from-drawn.ensures
 
 pub returns-clause-lawful : goal.returns-clause-lawful

@@ -1,14 +1,18 @@
-use Rattle.std.proofs.{Common.{ℕ, ◌-◌, ◌/◌, ◌%◌, List, [], get_or, sym, ap, ◌∙◌, arith}, lemmas.Option.get_or_from_slice_get}
+use Rattle.std.proofs.{Common.{◌-◌, ◌/◌, ◌%◌, [], get_or, sym, ap, ◌∙◌, arith}, lemmas.Option.get_or_from_slice_get}
 use Rattle.rb_base.specs.declared.node.NodeName.{NodeName}
-use Rattle.rb_rules.specs.{Clock.Timeline, Links.{DelayRules, delay_of}}
+use Rattle.rb_rules.specs.{Clock.Timeline}
 use Rattle.rb_scenario.specs.Acceptance.{as_scenario}
-use Rattle.rb_gen.specs.{Generated.sender_of, Text.{clock_lines, link_lines, node_at}}
+use Rattle.rb_gen.specs.Text.{clock_lines, node_at}
 use Rattle.rb_gen.proofs.Places.{at_biu_fault, at_clock, at_link, at_rmu_fault, at_root, at_say, counts, found_line, no_line}
 use Rattle.rb_gen.proofs.text.line.Goals as goal
 
 pub get-clock-requires : goal.get-clock-requires
 get-clock-requires c =
     let e = (counts (as_scenario c.args.scenario.now) c.requires).clocks in omega (arith, e, c.if-n-lt58.true)
+
+pub bounds-rules-n : goal.bounds-rules-n
+bounds-rules-n c =
+    let e = (counts (as_scenario c.args.scenario.now) c.requires).rules in rw c.rules.ensures (omega (arith, e, c.if-n-lt378.true))
 
 pub get-say-requires : goal.get-say-requires
 get-say-requires c =
@@ -31,22 +35,13 @@ returns-then-n-lt58-clause-text c =
     ∙ ap (λ (x : Timeline). get_or (clock_lines (node_at ((n - 6) / 4)) x) ((n - 6) % 4) []) (sym clock)
     ∙ at_clock sc c.requires n c.if-n-lt6.false c.if-n-lt58.true)
 
--- what is printed of a link
-abbrev shown : DelayRules → NodeName → NodeName → List (List ℕ)
-shown delays from to = link_lines from to (delay_of delays from to (record { frame = 0; slot = 0; stage = 1 }))
-
 pub returns-then-n-lt378-clause-text : goal.returns-then-n-lt378-clause-text
 returns-then-n-lt378-clause-text c =
     let sc = as_scenario c.args.scenario.now in
     let n = c.args.n in
-    let link = (n - 58) / 4 in
-    let part = (n - 58) % 4 in
-    found_line sc c.requires n c.link_line.result.bytes (omega (arith, c.if-n-lt378.true))
-    (c.link_line.ensures.bytes
-    ∙ ap (λ d. get_or (link_lines c.sender_of-from.result c.receiver_of-to.result d) part []) c.delay-delay.ensures
-    ∙ ap (λ x. get_or (shown sc.delays x c.receiver_of-to.result) part []) c.sender_of-from.ensures
-    ∙ ap (λ x. get_or (shown sc.delays (sender_of link) x) part []) c.receiver_of-to.ensures
-    ∙ at_link sc c.requires n c.if-n-lt58.false c.if-n-lt378.true)
+    found_line sc c.requires n c.rule_line.result.bytes (omega (arith, c.if-n-lt378.true))
+    ((rw c.rules.ensures at c.rule_line.ensures.bytes)
+    ∙ at_link sc c.requires n _ c.if-n-lt58.false c.if-n-lt378.true)
 
 pub returns-then-n-lt382-clause-text : goal.returns-then-n-lt382-clause-text
 returns-then-n-lt382-clause-text c =

@@ -1,11 +1,15 @@
-use Rattle.std.proofs.Common.{ap, subst, sym, length, [], ◌∷◌, ◌++◌, ◌≡◌, ◌∙◌}
+use Rattle.std.proofs.Common.{ap, refl, subst, sym, length, [], ◌∷◌, ◌++◌, ◌≡◌, ◌∙◌}
 use Rattle.rb_link.specs.Pairs.{IsIndex}
-use Rattle.rb_link.proofs.PairIndex.{index_whole, its_places_more, one_start_more, places_below, starts_below}
+use Rattle.rb_link.proofs.PairIndex.{index_whole, its_places_more, one_start_more, places_below, sent_stays, starts_below}
 use Rattle.rb_link.proofs.Index.new.Goals as goal
 
 pub loop-pair-init : goal.loop-pair-init
 unfolding places_below starts_below
-loop-pair-init c = record { starts = c.new-starts.ensures.items; places = c.new-places.ensures.items }
+loop-pair-init c = record {
+  starts = c.new-starts.ensures.items;
+  places = c.new-places.ensures.items;
+  sent = λ more. absurd (more refl);
+}
 
 pub loop-pair-preserved : goal.loop-pair-preserved
 loop-pair-preserved c =
@@ -14,7 +18,9 @@ loop-pair-preserved c =
       starts = c.in_ok-add_start.ensures
           ∙ ap (λ l. c.loop-pair.starts.items ++ length l ∷ []) c.deref.ensures.value
           ∙ one_start_more c.loop-pair.pair c.args.rules.now _ c.loop-pair.places.items is.starts is.places;
-      places = c.in_ok-add_places.ensures ∙ its_places_more c.loop-pair.pair _ _ _ _ is.places c.sender_of.ensures c.receiver_of.ensures;
+      places = c.in_ok-add_places.ensures
+          ∙ its_places_more c.loop-pair.pair _ _ _ _ is.places (c.deref-in-loop-pair.ensures.value ∙ c.in_ok-sent.ensures) c.receiver_of.ensures;
+      sent = λ more. sent_stays c.loop-pair.pair c.args.rules.now _ c.in_ok-sent.ensures more;
     }
 
 pub returns : goal.returns

@@ -1,13 +1,17 @@
-use Rattle.std.proofs.Common.{◌≡◌, None, Some, refl, sym, ◌∙◌, arith}
+use Rattle.std.proofs.Common.{◌≡◌, None, Some, [], refl, sym, ◌∙◌, arith}
 use Rattle.rb_world_book.specs.Records.{record_of}
 use Rattle.rb_run.specs.Runs.{end_at}
-use Rattle.rb_run.proofs.{Counted.{all-counted, none-counted, one-counted}, Histories.{has-driven, moves-on, sets-out, still-on}, UnderWay.{ends-so, few-turns, goes}}
+use Rattle.rb_run.proofs.{Counted.{all-counted, one-counted}, Histories.{has-driven, is-through, moves-on, sets-out, still-on}, UnderWay.{ends-so, few-turns}}
 use Rattle.rb_run.proofs.counting.tally.Goals as goal
 
 pub loop-passed-init : goal.loop-passed-init
 loop-passed-init g c = record {
-  counted = none-counted c.args.world.now (g.D.Drive.is_plain c.args.drive.now) (g.D.Drive.told c.args.drive.now) _ refl c.requires;
-  way = sets-out g.D.Drive.gives g.D.Drive.keeps c.args.world.now (g.D.Drive.is_plain c.args.drive.now) (g.D.Drive.told c.args.drive.now) c.args.drive.now c.requires;
+  counted = record {
+    turns = [];
+    way = sets-out g.D.Drive.gives g.D.Drive.keeps c.args.world.now (g.D.Drive.is_plain c.args.drive.now) (g.D.Drive.told c.args.drive.now) c.args.drive.now c.requires;
+    many = refl;
+    are = refl;
+  };
   few = omega arith;
   bus = refl;
   stays = refl;
@@ -17,17 +21,23 @@ pub returns-in-Some-clause-totals : goal.returns-in-Some-clause-totals
 returns-in-Some-clause-totals g c =
     let is = c.loop-passed.invariant.counted in
     let ends : end_at (record_of c.next-turn.result) ≡ Some c.in-Some.ending = sym c.ending_at.ensures ∙ c.in-Some.is in
-    all-counted _ _ _ _ _ _ _ _ _ _ c.next-turn.result c.in-Some.ending is (goes c.args.world.now.bus (g.D.Drive.is_plain c.args.drive.now) (g.D.Drive.is_plain c.loop-passed.drive) (g.D.Drive.told c.args.drive.now) (g.D.Drive.told c.loop-passed.drive)
-    (g.D.Drive.told c.next-turn.new.self) c.loop-passed.world c.next-turn.new.world is.turns c.next-turn.result is.given c.loop-passed.invariant.stays
-    c.next-turn.ensures.plain c.next-turn.ensures.alike c.next-turn.ensures.bus c.next-turn.ensures.told) c.count-totals.ensures.counted ends
+    all-counted c.next-turn.result is (is-through c.next-turn.result (moves-on is.way c.loop-passed.invariant.stays c.next-turn.ensures.plain c.next-turn.ensures.alike
+    c.next-turn.ensures.bus c.next-turn.ensures.told c.next-turn.ensures.gives c.next-turn.ensures.keeps) ends) c.count-totals.ensures.counted
 
 pub returns-in-Some-clause-ending : goal.returns-in-Some-clause-ending
 returns-in-Some-clause-ending g c =
     let is = c.loop-passed.invariant.counted in
     let ends : end_at (record_of c.next-turn.result) ≡ Some c.in-Some.ending = sym c.ending_at.ensures ∙ c.in-Some.is in
-    ends-so _ _ _ _ _ is.turns c.next-turn.result c.in-Some.ending (goes c.args.world.now.bus (g.D.Drive.is_plain c.args.drive.now) (g.D.Drive.is_plain c.loop-passed.drive) (g.D.Drive.told c.args.drive.now) (g.D.Drive.told c.loop-passed.drive)
-    (g.D.Drive.told c.next-turn.new.self) c.loop-passed.world c.next-turn.new.world is.turns c.next-turn.result is.given c.loop-passed.invariant.stays
-    c.next-turn.ensures.plain c.next-turn.ensures.alike c.next-turn.ensures.bus c.next-turn.ensures.told) ends
+    let way = (moves-on is.way c.loop-passed.invariant.stays c.next-turn.ensures.plain c.next-turn.ensures.alike
+    c.next-turn.ensures.bus c.next-turn.ensures.told c.next-turn.ensures.gives c.next-turn.ensures.keeps) in
+    ends-so _ _ _ is.turns c.next-turn.result c.in-Some.ending way.way ends
+
+pub returns-in-Some-clause-driven : goal.returns-in-Some-clause-driven
+returns-in-Some-clause-driven g c =
+    let is = c.loop-passed.invariant.counted in
+    let ends : end_at (record_of c.next-turn.result) ≡ Some c.in-Some.ending = sym c.ending_at.ensures ∙ c.in-Some.is in
+    has-driven (is-through c.next-turn.result (moves-on is.way c.loop-passed.invariant.stays c.next-turn.ensures.plain c.next-turn.ensures.alike
+    c.next-turn.ensures.bus c.next-turn.ensures.told c.next-turn.ensures.gives c.next-turn.ensures.keeps) ends)
 
 pub loop-passed-preserved : goal.loop-passed-preserved
 loop-passed-preserved g c =
@@ -36,12 +46,8 @@ loop-passed-preserved g c =
     let more = c.count-totals.ensures.few in
     let few = c.loop-passed.invariant.few in
     record {
-      counted = one-counted _ _ _ _ _ _ _ _ _ _ c.next-turn.result is (goes c.args.world.now.bus (g.D.Drive.is_plain c.args.drive.now) (g.D.Drive.is_plain c.loop-passed.drive) (g.D.Drive.told c.args.drive.now) (g.D.Drive.told c.loop-passed.drive)
-          (g.D.Drive.told c.next-turn.new.self) c.loop-passed.world c.next-turn.new.world is.turns c.next-turn.result is.given c.loop-passed.invariant.stays
-          c.next-turn.ensures.plain c.next-turn.ensures.alike c.next-turn.ensures.bus c.next-turn.ensures.told) c.count-totals.ensures.counted going;
-      way = still-on _ _ _ _ _ _ _ _ _ c.next-turn.result (moves-on g.D.Drive.gives g.D.Drive.keeps c.args.world.now.bus (g.D.Drive.is_plain c.args.drive.now) _ (g.D.Drive.told c.args.drive.now) _
-          _ c.args.drive.now c.loop-passed.drive c.next-turn.new.self c.loop-passed.world c.next-turn.new.world c.next-turn.result c.loop-passed.invariant.way c.loop-passed.invariant.stays
-          c.next-turn.ensures.plain c.next-turn.ensures.alike c.next-turn.ensures.bus c.next-turn.ensures.told c.next-turn.ensures.gives c.next-turn.ensures.keeps) going;
+      counted = one-counted c.next-turn.result is (still-on c.next-turn.result (moves-on is.way c.loop-passed.invariant.stays c.next-turn.ensures.plain c.next-turn.ensures.alike
+          c.next-turn.ensures.bus c.next-turn.ensures.told c.next-turn.ensures.gives c.next-turn.ensures.keeps) going) c.count-totals.ensures.counted;
       few = omega (arith, more, few);
       bus = c.next-turn.ensures.bus ∙ c.loop-passed.invariant.bus;
       stays = c.next-turn.ensures.stays ∙ c.loop-passed.invariant.stays;
@@ -50,14 +56,7 @@ loop-passed-preserved g c =
 pub unreachable-requires : goal.unreachable-requires
 unreachable-requires g c =
     let is = c.loop-passed.invariant.counted in
-    let few = few-turns _ _ _ _ _ is.turns _ is.given in
+    let few = few-turns _ _ _ is.turns _ is.way.way in
     let many = is.many in
     let past = c.loop-passed-test.false in
     absurd (omega (arith, few, many, past))
-
-pub returns-in-Some-clause-driven : goal.returns-in-Some-clause-driven
-returns-in-Some-clause-driven g c =
-    let ends : end_at (record_of c.next-turn.result) ≡ Some c.in-Some.ending = sym c.ending_at.ensures ∙ c.in-Some.is in
-    has-driven _ _ _ _ _ _ _ _ _ c.next-turn.result c.in-Some.ending (moves-on g.D.Drive.gives g.D.Drive.keeps c.args.world.now.bus (g.D.Drive.is_plain c.args.drive.now) _ (g.D.Drive.told c.args.drive.now) _
-    _ c.args.drive.now c.loop-passed.drive c.next-turn.new.self c.loop-passed.world c.next-turn.new.world c.next-turn.result c.loop-passed.invariant.way c.loop-passed.invariant.stays
-    c.next-turn.ensures.plain c.next-turn.ensures.alike c.next-turn.ensures.bus c.next-turn.ensures.told c.next-turn.ensures.gives c.next-turn.ensures.keeps) ends

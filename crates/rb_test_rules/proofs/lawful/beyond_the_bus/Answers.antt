@@ -1,11 +1,5 @@
-use Rattle.std.proofs.{Common.{◌≡◌, ◌≤◌, ◌+◌, List, ◌∷◌, None, arith}, lemmas.Bool.false≢true}
-use Rattle.rb_rules.specs.{Clock.Timeline, Lawful.IsLawful}
-use Rattle.rb_test_rules.specs.{Buses.steady, Ordinary.ordinary_use}
+use Rattle.std.proofs.Common.{◌≤◌, None, arith}
 use Rattle.rb_test_rules.proofs.lawful.beyond_the_bus.Goals as goal
-
--- the first two clocks of a lawful scenario start near each other
-first_two : (a b : Timeline) (rest : List Timeline) → IsLawful (record ordinary_use { clocks = a ∷ b ∷ rest }) → a.start ≤ b.start + 60200
-first_two a b rest l = l.starts 0 a (omega arith) 1 a (omega arith)
 
 pub returns-clause-no_frame : goal.returns-clause-no_frame
 returns-clause-no_frame c = λ l. let e = l.frames.0 in omega arith
@@ -15,18 +9,6 @@ returns-clause-request_missing c = λ l. let e : 4 ≤ 3 = l.requests.enough in 
 
 pub returns-clause-great_request : goal.returns-clause-great_request
 returns-clause-great_request c = λ l. let e : 65 ≤ 64 = l.requests.each 0 0 (omega arith) in omega arith
-
-pub returns-clause-clock_missing : goal.returns-clause-clock_missing
-returns-clause-clock_missing c = λ l. let e : 6 ≡ 7 = l.one_clock_each in omega (arith, e)
-
-pub returns-clause-starts_apart : goal.returns-clause-starts_apart
-returns-clause-starts_apart c = λ l. let e : 60201 ≤ 60200 = first_two _ _ _ l in omega arith
-
-pub returns-clause-slow_clock : goal.returns-clause-slow_clock
-returns-clause-slow_clock c = λ l. false≢true (l.clocks 0 steady (omega arith)).within
-
-pub returns-clause-great_delay : goal.returns-clause-great_delay
-returns-clause-great_delay c = λ l. let e : 15001 ≤ 15000 = l.base_delay.greatest in omega arith
 
 pub returns-clause-onset_after_the_run : goal.returns-clause-onset_after_the_run
 returns-clause-onset_after_the_run c = λ l. let e = (l.biu_onsets.each 0 None (omega arith)).0 in omega arith

@@ -1,12 +1,7 @@
 use Rattle.std.proofs.{Common.{◌<◌, arith, refl}, lemmas.Bool.true≢false}
-use Rattle.rb_rules.specs.{Entries.IsListed, Lawful.IsSayOf, declared.say.Say.Say}
-use Rattle.rb_test_rules.proofs.LawfulTests.{lawful_by_tests}
-use Rattle.rb_test_rules.specs.{Lawful.saying, Ordinary.ordinary_use}
+use Rattle.rb_test_rules.specs.Ordinary.{ordinary_use}
+use Rattle.rb_test_rules.proofs.{Alone.said, LawfulTests.lawful_by_tests}
 use Rattle.rb_test_rules.proofs.lawful.bounds_of_scenarios.Goals as goal
-
--- the sole entry is one that the lawful scenario may have
-said : (say : Say) → IsListed (saying say) → IsSayOf (saying say) say
-said say l = l.says 0 say (omega arith)
 
 pub returns-clause-good_at_first : goal.returns-clause-good_at_first
 returns-clause-good_at_first c = λ l. true≢false (said _ l).faulty

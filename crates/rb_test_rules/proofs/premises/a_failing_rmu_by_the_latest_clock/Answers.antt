@@ -4,15 +4,7 @@ use Rattle.rb_base.proofs.Plain.{and_first}
 use Rattle.rb_rules.specs.{Book.{of_kind, with_frame, with_stage}, Conviction.{convicted_by, turn}, ExactStage.{close_exact, outcome_of}, Goodness.{is_before, is_good}, Hearing.{heard_from, row_of, sending}, Judging.{classes_of, verdict_of}, Links.delay_of, Moments.{IsGoodBefore, before_slot, time_in_frame}, NodeState.NodeState, Rounds.{after_window, begin_frame, close_on, go_through, results_of, sent_in, step}, Spelling.message_in, SyncStage.{close_sync, sync_outcome_of}}
 use Rattle.rb_laws_listener_near.specs.Laws.{LieWithin}
 use Rattle.rb_test_rules.specs.Receiver.{failing_rmu}
-use Rattle.rb_test_rules.proofs.LawfulTests.{lawful_by_tests}
 use Rattle.rb_test_rules.proofs.premises.a_failing_rmu_by_the_latest_clock.Goals as goal
-
-pub returns-clause-lawful : goal.returns-clause-lawful
-returns-clause-lawful c = lawful_by_tests failing_rmu refl
-
-pub returns-clause-most_good : goal.returns-clause-most_good
-unfolding set_of set_below size message_in close_exact outcome_of close_sync sync_outcome_of turn convicted_by classes_of verdict_of delay_of with_stage with_frame sending heard_from row_of sent_in close_on go_through results_of after_window begin_frame step
-returns-clause-most_good c = refl
 
 -- the time at which a node begins frame 0
 abbrev begin_of : Side → ℕ → Option ℕ
@@ -46,13 +38,6 @@ returns-clause-begins c = record {
   keeps = record { start = lit≤ tt; rising = refl; within = refl };
   near = λ me i st x. near (time_in_frame failing_rmu me i st 0) (at-0 me i st x);
 }
-
-pub returns-clause-running : goal.returns-clause-running
-unfolding set_of set_below size message_in close_exact outcome_of close_sync sync_outcome_of turn convicted_by classes_of verdict_of delay_of with_stage with_frame sending heard_from row_of sent_in close_on go_through results_of after_window begin_frame step
-returns-clause-running c = refl
-
-pub returns-clause-onset : goal.returns-clause-onset
-returns-clause-onset c = refl
 
 pub returns-clause-time : goal.returns-clause-time
 returns-clause-time c = lit< tt

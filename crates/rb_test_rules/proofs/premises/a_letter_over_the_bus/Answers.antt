@@ -1,8 +1,8 @@
-use Rattle.std.proofs.{Common.{◌≡◌, ◌<◌, true, All, [], ◌∷◌, get_or, lit<, refl, sym}, lemmas.List.append-nil, lemmas.List.Elements.{All-cons, All-nil}}
+use Rattle.std.proofs.{Common.{◌≡◌, true, [], get_or, refl, sym}, lemmas.List.append-nil}
 use Rattle.rb_base.specs.Nodes.{set_below, set_of, size}
 use Rattle.rb_rules.specs.{Book.{Record, with_frame, with_stage}, Book.Record.{Breach, Ended, Frame, Slot}, Conviction.{convicted_by, turn}, ExactStage.{close_exact, outcome_of}, Hearing.{heard_from, row_of, sending}, Judging.{classes_of, verdict_of}, Links.delay_of, Rounds.{after_window, begin_frame, close_on, go_through, results_of, sent_in, step}, Spelling.message_in, SyncStage.{close_sync, sync_outcome_of}}
-use Rattle.rb_laws_letters.specs.{Offers.is_good_in, Sent.IsLetter}
-use Rattle.rb_test_rules.specs.Letters.{letter, letter_records, one_sender}
+use Rattle.rb_laws_letters.specs.Offers.{is_good_in}
+use Rattle.rb_test_rules.specs.Letters.{letter_records, one_sender}
 use Rattle.rb_test_rules.proofs.LawfulTests.{lawful_by_tests}
 use Rattle.rb_test_rules.proofs.premises.a_letter_over_the_bus.Goals as goal
 
@@ -33,18 +33,3 @@ returns-clause-sender c = λ k d less. good-0 (get_or letter_records k d)
 pub returns-clause-offered : goal.returns-clause-offered
 unfolding set_of set_below size message_in close_exact outcome_of close_sync sync_outcome_of turn convicted_by classes_of verdict_of delay_of with_stage with_frame sending heard_from row_of sent_in close_on go_through results_of after_window begin_frame step
 returns-clause-offered c = refl
-
-one : {X : Type 0} (P : X → Type 0) (x : X) → P x → All P (x ∷ [])
-one P x h = All-cons P x [] h (All-nil P)
-
-bytes : All (λ byte. byte < 256) letter
-bytes = one (λ byte. byte < 256) 65 (lit< tt)
-
-pub returns-clause-letters : goal.returns-clause-letters
-returns-clause-letters c = one IsLetter letter (record { length = refl; bytes = bytes })
-
-pub returns-clause-bytes : goal.returns-clause-bytes
-returns-clause-bytes c = one (λ letter. All (λ byte. byte < 256) letter) letter bytes
-
-pub returns-clause-words : goal.returns-clause-words
-returns-clause-words c = ([], refl)

@@ -1,9 +1,9 @@
-use Rattle.std.proofs.{Common.{◌≡◌, ℕ, zero, suc, ◌<◌, ◌≤◌, ◌==◌, nat_lt, Bool, true, false, Option, Some, None, List, [], ◌∷◌, get_or, is_some, length, option_and_then, slice_get, if◌then◌else◌, lit<, lit≤, refl, sym, ◌∙◌, ap, subst, arith}, lemmas.Bool.ltb-true, lemmas.Bool.Decides.nat_tests, lemmas.Option.same_Some}
+use Rattle.std.proofs.{Common.{◌≡◌, ℕ, zero, suc, ◌<◌, ◌≤◌, ◌==◌, nat_lt, Bool, true, false, Option, Some, None, [], get_or, is_some, option_and_then, slice_get, if◌then◌else◌, lit<, lit≤, refl, sym, ◌∙◌, ap, subst, arith}, lemmas.Bool.ltb-true, lemmas.Bool.Decides.nat_tests, lemmas.Option.same_Some}
 use Rattle.rb_base.specs.{Nodes.{Side, has, set_below, set_of, size}, Nodes.Side.{Biu, Rmu}}
 use Rattle.rb_base.proofs.Plain.{and_first}
-use Rattle.rb_rules.specs.{Book.{of_kind, with_frame, with_stage}, Clock.{stamp_of, time_of}, Conviction.{convicted_by, turn}, ExactStage.{close_exact, outcome_of}, Goodness.{clock_of, is_before, is_good}, Hearing.{heard_from, judged_see, row_of, sending}, Judging.{JudgedStage, classes_of, verdict_of}, Links.delay_of, Moments.before_stage, NodeState.{NodeState, trusted_of}, Rounds.{after_window, begin_frame, close_on, go_through, results_of, sent_in, step}, Spelling.message_in, SyncStage.{call_tick_of, close_sync, see_time, sync_outcome_of}}
-use Rattle.rb_laws_listener_near.specs.{Calls.{ComesAfter, SawTheTimes}, Judged.verdict_with}
-use Rattle.rb_test_rules.specs.{Buses.steady, Ordinary.smallest_bus, Receiver.{call_seen, call_taken, call_time}}
+use Rattle.rb_rules.specs.{Book.{of_kind, with_frame, with_stage}, Clock.{stamp_of, time_of}, Conviction.{convicted_by, turn}, ExactStage.{close_exact, outcome_of}, Goodness.{clock_of, is_before, is_good}, Hearing.{heard_from, row_of, sending}, Judging.{classes_of, verdict_of}, Links.delay_of, Moments.before_stage, NodeState.{NodeState, trusted_of}, Rounds.{after_window, begin_frame, close_on, go_through, results_of, sent_in, step}, Spelling.message_in, SyncStage.{call_tick_of, close_sync, sync_outcome_of}}
+use Rattle.rb_laws_listener_near.specs.Calls.{ComesAfter}
+use Rattle.rb_test_rules.specs.{Buses.steady, Ordinary.smallest_bus, Receiver.{call_taken, call_time}}
 use Rattle.rb_test_rules.proofs.LawfulTests.{lawful_by_tests}
 use Rattle.rb_test_rules.proofs.premises.a_receiver_beside_the_bus.Goals as goal
 
@@ -79,28 +79,3 @@ returns-clause-takes c = record {
     stamped zero k taken = let e : 203 ≡ k = same_Some 203 k taken in (omega arith, stamp-is ∙ e)
     stamped (suc j) k taken =
         let first : 0 ≡ suc j = first-taken (suc j) (ap (λ o. is_some o) taken) in absurd (omega arith)
-
-pub returns-clause-verdict : goal.returns-clause-verdict
-unfolding set_of set_below size message_in close_exact outcome_of close_sync sync_outcome_of turn convicted_by classes_of verdict_of delay_of with_stage with_frame sending heard_from row_of sent_in close_on go_through results_of after_window begin_frame step verdict_with
-returns-clause-verdict c = refl
-
-fourteen : length (before_stage smallest_bus [] 0 4 3).book.stages ≡ 14
-unfolding set_of set_below size message_in close_exact outcome_of close_sync sync_outcome_of turn convicted_by classes_of verdict_of delay_of with_stage with_frame sending heard_from row_of sent_in close_on go_through results_of after_window begin_frame step
-fourteen = refl
-
-saw : (stages : List JudgedStage) → length stages ≡ 14 → SawTheTimes stages call_taken call_time call_seen
-saw [] h = absurd (omega arith)
-saw (newest ∷ earlier) h = record {
-  newest = newest;
-  earlier = earlier;
-  are = refl;
-  sight = λ j. judged_see (call_time j) (see_time (call_taken j));
-  here = let e : length earlier ≡ 13 = omega arith in rw e refl;
-  is = λ j less. refl;
-}
-
-pub returns-clause-saw : goal.returns-clause-saw
-returns-clause-saw c = saw (before_stage smallest_bus [] 0 4 3).book.stages fourteen
-
-pub returns-clause-middle : goal.returns-clause-middle
-returns-clause-middle c = refl

@@ -1,7 +1,7 @@
 use Rattle.std.proofs.Common.{◌≡◌, ◌+◌, ◌<◌, ◌≤◌, sym, subst, arith}
 use Rattle.rb_base.specs.Nodes.{side_of}
 use Rattle.rb_node.specs.{Aheads.SaysIn, Cores.Running}
-use Rattle.rb_node.proofs.{Going.going, Steps.{Kept, Parts, gives, keeps, quiet-gives, spent-gives}}
+use Rattle.rb_node.proofs.{Going.{Ends, ending, going}, Steps.{Kept, Parts, gives, keeps, quiet-gives, spent-gives}}
 use Rattle.rb_node.proofs.node.Node.step.Goals as goal
 
 pub returns-then-now-ge-MOST_TICKS-clause-core : goal.returns-then-now-ge-MOST_TICKS-clause-core
@@ -46,20 +46,26 @@ go_on-requires-clause-epoch g c =
     let epoch : c.close_at-closed.new.engine.state.epoch ≤ c.self.inside.had = k.epoch in
     omega arith
 
+ends : (g : _) (c : goal.After-go_on-arg-2-1 g)
+    → Ends (side_of g.K.Kind.CODE) c.turn_at.new.engine c.say_at-message.new.engine c.close_at-closed.new.engine c.self.inside.had c.args.word
+    c.turn_at.new.ahead.window c.say_at-message.result c.close_at-closed.result
+ends g c = record {
+  here = c.turn_at.ensures.ahead.window;
+  kept = c.say_at-message.ensures.keeps;
+  closes = c.close_at-closed.ensures.closes;
+  same = c.close_at-closed.ensures.same;
+  stays = c.close_at-closed.ensures.keeps;
+}
+
+pub go_on-requires-clause-ended : goal.go_on-requires-clause-ended
+go_on-requires-clause-ended g c = ending (side_of g.K.Kind.CODE) _ _ _ _ _ _ _ _ (ends g c)
+
 pub go_on-requires-clause-goes_on : goal.go_on-requires-clause-goes_on
 go_on-requires-clause-goes_on g c =
     let k : Kept c.self.inside.engine c.close_at-closed.new.engine c.self.inside.had =
     keeps (side_of g.K.Kind.CODE) _ c.turn_at.new.engine c.say_at-message.new.engine _ _ c.args.word c.say_at-message.result c.self.invariant.epoch
     c.turn_at.ensures.state c.say_at-message.ensures.keeps c.close_at-closed.ensures.same in
-    going (side_of g.K.Kind.CODE) c.turn_at.new.engine c.say_at-message.new.engine c.close_at-closed.new.engine c.self.inside.had c.args.word
-    c.turn_at.new.ahead.window c.say_at-message.result c.close_at-closed.result
-    (record {
-      here = c.turn_at.ensures.ahead.window;
-      kept = c.say_at-message.ensures.keeps;
-      closes = c.close_at-closed.ensures.closes;
-      same = c.close_at-closed.ensures.same;
-      stays = c.close_at-closed.ensures.keeps;
-    }) c.bounds.ensures.plan k.epoch
+    going (side_of g.K.Kind.CODE) _ _ _ _ _ _ _ _ (ends g c) c.bounds.ensures.plan k.epoch
 
 pub look_on-requires-clause-epoch : goal.look_on-requires-clause-epoch
 look_on-requires-clause-epoch g c =
