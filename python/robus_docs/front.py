@@ -3,13 +3,14 @@ from __future__ import annotations
 
 import re
 
+from robus.errors import BadArgument
 from robus_docs.atlas import Atlas, is_law, key_of
 from robus_docs.markup import anchor, count, escape
 from robus_docs.reading import Reading
 
 # Each phrase in brackets is a link to the definition or page behind the bar
 PROMISE = """If [the drive is plain|crates/rb_world.html#owner.Drive], as the program's own is, and
-[the status|rb_top.status.Status] is Done or Breach, then
+[the status|rb_program.status.Status] is Done or Breach, then
 [the input was read to its end|rb_outside.Bytes.ReadsToEnd], it is
 [the text of an accepted scenario|rb_top.Inputs.IsTextOf], which is
 [lawful|rb_rules.Lawful.IsLawful], and what was added to the output is exactly
@@ -40,10 +41,13 @@ say."""
 
 
 def phrases(reading: Reading, atlas: Atlas) -> dict[str, str]:
-    """The phrases of the promise, each with its address."""
+    """The phrases of the promise, each with its address. A phrase that leads to no definition is
+    refused by its name."""
     places = {key_of(place): place for place in atlas.places}
-    return {text: key if "/" in key else reading.link(places[key])
-            for text, key in PHRASE.findall(PROMISE + PREMISE)}
+    phrased = PHRASE.findall(PROMISE + PREMISE)
+    if lost := sorted({key for _, key in phrased if "/" not in key} - places.keys()):
+        raise BadArgument(f"robus_docs/front.py links to no definition: {', '.join(lost)}")
+    return {text: key if "/" in key else reading.link(places[key]) for text, key in phrased}
 
 
 def front(reading: Reading, atlas: Atlas) -> str:
