@@ -1,138 +1,46 @@
 -- The parts of a follower's tick make the core's act.
-use Rattle.std.proofs.{Common.{◌≡◌, ℕ, ◌+◌, ◌*◌, ◌<◌, ◌≤◌, ◌^◌, ◌==◌, ◌-◌, Bool, true, false, refl, ap, sym, ◌∙◌, subst, arith, Option, Some, None, List, [], if◌then◌else◌, unwrap_or, option_map}, Math.Path.fun_ext, lemmas.Bool.Decides.nat_tests}
+use Rattle.std.proofs.{Common.{◌≡◌, ℕ, ◌+◌, ◌*◌, ◌<◌, ◌≤◌, ◌^◌, ◌==◌, ◌-◌, Bool, true, false, refl, ap, sym, ◌∙◌, subst, arith, Option, Some, None, List, if◌then◌else◌, unwrap_or, option_map}, lemmas.Bool.Decides.nat_tests}
 use Rattle.rb_base.specs.{Nodes.Side.Biu, Sizes.{IsShape, Sizes, sync_slot_of}}
-use Rattle.rb_rules.specs.{declared.closing.Closed.Closed, declared.plan.Window.Window, declared.record.Epoch.Epoch, Conviction.turn, Core.{Act, Core, act_on, epoch_at, is_last, is_tick, of_source, state_at, window_here}, ExactStage.{Outcome, close_exact, outcome_of}, Hearing.{close_window, tail_at}, NodeState.NodeState, Plan.IsPlan, Sense.Arrival, SyncStage.{close_sync, new_epoch_of}, Windows.window_at, declared.sense.Sense.Sense}
-use Rattle.rb_rules.proofs.QuietTicks.{nothing}
+use Rattle.rb_rules.specs.{declared.closing.Closed.Closed, declared.plan.Window.Window, declared.record.Epoch.Epoch, Conviction.turn, Core.{Act, Core, act_on, is_tick, state_at}, ExactStage.{Outcome, close_exact, outcome_of}, Hearing.{tail_at}, NodeState.NodeState, Plan.IsPlan, SyncStage.{close_sync, new_epoch_of}, Windows.window_at, declared.sense.Sense.Sense}
 use Rattle.rb_eligible.specs.Inboxes.{HoldsArrivals, KeptArrivals, Received}
 use Rattle.rb_slot.specs.Engines.{IsSameFrame, Seated, outcome_on}
-use Rattle.rb_node.specs.{Acts.IsAct, Aheads.window_of_tick, Cores.{IsCore, Running, received_of}, declared.act.Step.Step}
-use Rattle.rb_node.proofs.{Busy.{no-turn, turned-epoch}, Cores.arrivals-are, Steps.turned-frame, Windows.{first-is, has-ticks}}
+use Rattle.rb_node.specs.{Aheads.window_of_tick, Cores.{IsCore, Running, received_of}, declared.act.Step.Step}
+use Rattle.rb_node.proofs.{Busy.{no-turn, turned-epoch}, Steps.{Gives, Nothing, Parts, gives-on, nothing-quiet, nothing-spent, turned-frame}, Windows.{first-is, has-ticks}}
 use Rattle.rb_listen.specs.{Following.{follow, follow_at, wakes}, Waking.{IfKnown, wakes_at}}
 use Rattle.rb_listen.proofs.Waking.{follow-now, follow-spent, quiet-tick}
 
--- the parts of a tick, one after another: it turns, tells of its frame, and closes the window
-pub record Parts (v v1 v2 : Seated) (now : ℕ) (w : Window) (epoch : Option Epoch) (closed : Bool) (before after : Closed) (inbox rest : KeptArrivals) : Type 0 where
-  pub index : v.index ≡ 16
-  pub turned : v1 ≡ record v { state = state_at v.sizes v.plan Biu v.state now }
-  pub begun : epoch ≡ epoch_at v1.sizes Biu v1.state now
-  pub window : w ≡ window_of_tick Biu v1 now
-  pub closes : closed ≡ (now == v1.state.epoch + w.last)
-  pub state : (received : List Received) → HoldsArrivals inbox received
-      → v2 ≡ record v1 { state = if closed then (outcome_on Biu v1 w received).state else v1.state }
-  pub shown : (received : List Received) → HoldsArrivals inbox received → after ≡ (if closed then (outcome_on Biu v1 w received).closed else before)
-  pub holds : (received : List Received) → HoldsArrivals inbox received → HoldsArrivals rest (if closed then [] else received)
-
--- the act, by whether the window is closed
-abbrev act-by : Sizes → Core → NodeState → Outcome → Bool → Act
-act-by sizes c st o b = elim b [
-  | true ↦ record {
-    core = record { state = o.state; had = c.had + 1; inbox = [] };
-    epoch = epoch_at sizes Biu st c.had;
-    message = None;
-    closed = Some o.closed;
-  }
-  | false ↦ record {
-    core = record { state = st; had = c.had + 1; inbox = c.inbox };
-    epoch = epoch_at sizes Biu st c.had;
-    message = None;
-    closed = None;
-  }
-]
-
--- what the close of the window makes of the node
-abbrev closing-of : Seated → NodeState → Window → List (ℕ × Arrival) → Outcome
-closing-of v st w inbox = close_window v.sizes v.plan Biu 16 st w (of_source inbox)
-
-act-is : (v : Seated) (now : ℕ) (inbox : List (ℕ × Arrival)) (st : NodeState)
-    → act_on v.sizes v.plan Biu 16 (record { state = v.state; had = now; inbox = inbox }) st None st
-    ≡ act-by v.sizes (record { state = v.state; had = now; inbox = inbox }) st
-    (closing-of v st (window_here v.sizes v.plan Biu st now) inbox) (is_last v.sizes v.plan Biu st now)
-unfolding act_on
-act-is v now inbox st = refl
-
--- the core, and what is given
-pub record Gives (n : Running) (s : Step) (x : Act) : Type 0 where
-  pub core : IsCore n x.core
-  pub act : IsAct n.shown s x
-
-by-closed : (v v2 : Seated) (now : ℕ) (st : NodeState) (o : Outcome) (inbox : List (ℕ × Arrival)) (before after : Closed) (rest : KeptArrivals) (closed : Bool)
-    → v2 ≡ record v { state = if closed then o.state else st } → after ≡ (if closed then o.closed else before)
-    → HoldsArrivals rest (if closed then [] else received_of inbox)
-    → Gives (record { seat = v2; had = now + 1; inbox = rest; shown = after })
-    (record { epoch = epoch_at v.sizes Biu st now; message = None; closed = closed })
-    (act-by v.sizes (record { state = v.state; had = now; inbox = inbox }) st o closed)
-by-closed v v2 now st o inbox before after rest true is shown holds = record {
-  core = record { state = sym (ap (λ (x : Seated). x.state) is); had = refl; inbox = holds };
-  act = record { epoch = refl; message = refl; closed = ap (λ c. Some c) shown };
-}
-by-closed v v2 now st o inbox before after rest false is shown holds = record {
-  core = record { state = sym (ap (λ (x : Seated). x.state) is); had = refl; inbox = holds };
-  act = record { epoch = refl; message = refl; closed = refl };
-}
+-- the act of a core at tick `now` in the state `s`
+abbrev follow-in : Seated → Core → NodeState → ℕ → Act
+follow-in v c s now = act_on v.sizes v.plan Biu 16 c (state_at v.sizes v.plan Biu s now) None (state_at v.sizes v.plan Biu s now)
 
 pub gives : (v v1 v2 : Seated) (now : ℕ) (w : Window) (epoch : Option Epoch) (closed : Bool) (before after : Closed) (inbox rest : KeptArrivals)
-    → Parts v v1 v2 now w epoch closed before after inbox rest
+    → v.index ≡ 16 → Parts Biu v v1 v1 v2 now w epoch closed before after inbox rest
     → now < 2 ^ 31 → (c : Core) → c.state ≡ v.state → c.had ≡ now → HoldsArrivals inbox (received_of c.inbox)
-    → Gives (record { seat = v2; had = now + 1; inbox = rest; shown = after }) (record { epoch = epoch; message = None; closed = closed })
+    → Gives Biu (record { seat = v2; had = now + 1; inbox = rest; shown = after }) (record { epoch = epoch; message = None; closed = closed })
     (follow v.sizes v.plan c)
-gives v v1 v2 now w epoch closed before after inbox rest p below c state had holds =
+gives v v1 v2 now w epoch closed before after inbox rest index p below c state had holds =
     let st : NodeState = state_at v.sizes v.plan Biu v.state now in
-    let turned : Seated = record v { state = st } in
-    let here : Window = window_here v.sizes v.plan Biu st now in
-    let o : Outcome = closing-of v st here c.inbox in
-    let last : Bool = is_last v.sizes v.plan Biu st now in
-    let core : Core = record { state = v.state; had = now; inbox = c.inbox } in
-    let core_is : c ≡ core =
-    ap (λ s. let x : Core = record { state = s; had = c.had; inbox = c.inbox } in x) state
-    ∙ ap (λ n. let x : Core = record { state = v.state; had = n; inbox = c.inbox } in x) had in
-    let window_is : w ≡ here = p.window ∙ ap (λ x. window_of_tick Biu x now) p.turned in
-    let closed_is : closed ≡ last =
-    p.closes ∙ ap (λ (x : Seated). now == x.state.epoch + w.last) p.turned ∙ ap (λ (y : Window). now == st.epoch + y.last) window_is in
-    let epoch_is : epoch ≡ epoch_at v.sizes Biu st now = p.begun ∙ ap (λ (x : Seated). epoch_at x.sizes Biu x.state now) p.turned in
-    let outcome_is : outcome_on Biu v1 w (received_of c.inbox) ≡ o =
-    ap (λ x. outcome_on Biu x w (received_of c.inbox)) p.turned ∙ ap (λ y. outcome_on Biu turned y (received_of c.inbox)) window_is
-    ∙ ap (close_window v.sizes v.plan Biu v.index st here) (fun_ext (λ j. arrivals-are j c.inbox))
-    ∙ ap (λ i. close_window v.sizes v.plan Biu i st here (of_source c.inbox)) p.index in
-    let state_is : v2 ≡ record v { state = if closed then o.state else st } =
-    p.state (received_of c.inbox) holds
-    ∙ ap (λ (x : Outcome). record v1 { state = if closed then x.state else v1.state }) outcome_is
-    ∙ ap (λ (x : Seated). record x { state = if closed then o.state else x.state }) p.turned in
-    let shown_is : after ≡ (if closed then o.closed else before) =
-    p.shown (received_of c.inbox) holds ∙ ap (λ (x : Outcome). if closed then x.closed else before) outcome_is in
-    let act : follow v.sizes v.plan c ≡ act-by v.sizes core st o closed =
-    ap (λ x. follow v.sizes v.plan x) core_is ∙ follow-now v.sizes v.plan core below
-    ∙ act-is v now c.inbox st ∙ ap (act-by v.sizes core st o) (sym closed_is) in
-    let all = by-closed v v2 now st o c.inbox before after rest closed state_is shown_is (p.holds (received_of c.inbox) holds) in
+    let act : follow v.sizes v.plan c ≡ act_on v.sizes v.plan Biu v.index c st None st =
+    follow-now v.sizes v.plan c (omega arith) ∙ ap (λ s. follow-in v c s c.had) state ∙ ap (follow-in v c v.state) had
+    ∙ ap (λ i. act_on v.sizes v.plan Biu i c st None st) (sym index) in
     let n : Running = record { seat = v2; had = now + 1; inbox = rest; shown = after } in
-    subst (λ x. Gives n (record { epoch = epoch; message = None; closed = closed }) x) (sym act)
-    (subst (λ e. Gives n (record { epoch = e; message = None; closed = closed }) (act-by v.sizes core st o closed)) (sym epoch_is) all)
+    subst (λ x. Gives Biu n (record { epoch = epoch; message = None; closed = closed }) x) (sym act)
+    (gives-on Biu v v1 v1 v2 now w epoch None st closed before after inbox rest p p.turned refl c state had holds)
 
 -- Ticks at which nothing happens.
 
-abbrev pub Nothing : Step → Type 0
-Nothing s = s ≡ (let x : Step = record { epoch = None; message = None; closed = false } in x)
-
-pub spent-gives : (n : Running) (s : Step) (c : Core) → Nothing s → IsCore n c → 2 ^ 31 ≤ n.had → Gives n s (follow_at n c)
+pub spent-gives : (n : Running) (s : Step) (c : Core) → Nothing s → IsCore n c → 2 ^ 31 ≤ n.had → Gives Biu n s (follow_at n c)
 spent-gives n s c is core spent =
     let had : c.had ≡ n.had = core.had in
-    let act : follow_at n c ≡ record { core = c; epoch = None; message = None; closed = None } =
-    follow-spent n.seat.sizes n.seat.plan c (omega arith) in
-    subst (λ x. Gives n s x) (sym act) (subst (λ y. Gives n y (record { core = c; epoch = None; message = None; closed = None })) (sym is)
-    (record { core = core; act = record { epoch = refl; message = refl; closed = refl } }))
+    nothing-spent Biu n s c _ is core (follow-spent n.seat.sizes n.seat.plan c (omega arith))
 
 pub quiet-gives : (n : Running) (s : Step) (c : Core) → Nothing s → IsCore n c → wakes_at n.seat n.had ≡ false → n.had < 2 ^ 31
-    → Gives (record n { had = n.had + 1 }) s (follow_at n c)
+    → Gives Biu (record n { had = n.had + 1 }) s (follow_at n c)
 quiet-gives n s c is core quiet below =
     let had : c.had ≡ n.had = core.had in
     let here : wakes n.seat.sizes n.seat.plan c.state c.had ≡ false =
     ap (λ st. wakes n.seat.sizes n.seat.plan st c.had) core.state ∙ ap (wakes_at n.seat) had ∙ quiet in
-    let act : follow_at n c ≡ nothing c = quiet-tick n.seat.sizes n.seat.plan c here (omega arith) in
-    let m : Running = record n { had = n.had + 1 } in
-    subst (λ x. Gives m s x) (sym act) (subst (λ y. Gives m y (nothing c)) (sym is)
-    (record {
-      core = record { state = core.state; had = ap (λ k. k + 1) had; inbox = core.inbox };
-      act = record { epoch = refl; message = refl; closed = refl };
-    }))
+    nothing-quiet Biu n s c _ is core (quiet-tick n.seat.sizes n.seat.plan c here (omega arith))
 
 -- What does not run ahead.
 
@@ -154,7 +62,7 @@ if-middle : (a b : NodeState) (closed : Bool) → a.k2 ≡ b.k2 → (if closed t
 if-middle a b true h = h
 if-middle a b false h = refl
 
-pub closed-middle : (v v2 : Seated) (w : Window) (received : List Received) (closed : Bool) → (w.slot == sync_slot_of v.sizes) ≡ false
+closed-middle : (v v2 : Seated) (w : Window) (received : List Received) (closed : Bool) → (w.slot == sync_slot_of v.sizes) ≡ false
     → v2 ≡ record v { state = if closed then (outcome_on Biu v w received).state else v.state } → v2.state.k2 ≡ v.state.k2
 closed-middle v v2 w received closed below is =
     ap (λ (x : Seated). x.state.k2) is
@@ -162,7 +70,7 @@ closed-middle v v2 w received closed below is =
     (closes-middle v.sizes v.index v.state w.slot w.stage w.first _ (w.slot == sync_slot_of v.sizes) below)
 
 -- a frame begins below the sync slot
-pub first-below : (v : Seated) (w : Window) (k : ℕ) → IsShape v.sizes → IsPlan v.plan → v.state.epoch ≡ k → w ≡ window_of_tick Biu v k
+first-below : (v : Seated) (w : Window) (k : ℕ) → IsShape v.sizes → IsPlan v.plan → v.state.epoch ≡ k → w ≡ window_of_tick Biu v k
     → (w.slot == sync_slot_of v.sizes) ≡ false
 first-below v w k shape plan e is =
     let some : 1 ≤ v.sizes.bius = shape.some_biu in
@@ -221,14 +129,14 @@ before-known : (v v2 : Seated) (now : ℕ) (o : Option ℕ) → v2.state.epoch �
 before-known v v2 now None e h = tt
 before-known v v2 now (Some k) e h = omega arith
 
-pub keeps : (v v1 v2 : Seated) (now : ℕ) (w : Window) → v.state.epoch ≤ now → 2 * v.state.frame ≤ 131072 + v.state.epoch → IfKnown v now v.state.k2
+pub keeps : (v v1 v2 : Seated) (now : ℕ) (w : Window) (received : List Received) (closed : Bool) → v.state.epoch ≤ now → 2 * v.state.frame ≤ 131072 + v.state.epoch → IfKnown v now v.state.k2
     → v1 ≡ record v { state = state_at v.sizes v.plan Biu v.state now } → w ≡ window_of_tick Biu v1 now → IsShape v1.sizes → IsPlan v1.plan
-    → IsSameFrame v1 v2 → ((w.slot == sync_slot_of v1.sizes) ≡ false → v2.state.k2 ≡ v1.state.k2) → Kept v v2 now
-keeps v v1 v2 now w epoch frame known turned window shape plan same middle =
+    → IsSameFrame v1 v2 → v2 ≡ record v1 { state = if closed then (outcome_on Biu v1 w received).state else v1.state } → Kept v v2 now
+keeps v v1 v2 now w received closed epoch frame known turned window shape plan same closes =
     let index : v2.index ≡ v.index = same.index ∙ ap (λ (x : Seated). x.index) turned in
     let f : v2.state.frame ≡ v1.state.frame = same.frame in
     let e : v2.state.epoch ≡ v1.state.epoch = same.epoch in
-    let begins : v1.state.epoch ≡ now → v2.state.k2 ≡ v1.state.k2 = λ at. middle (first-below v1 w now shape plan at window) in
+    let begins : v1.state.epoch ≡ now → v2.state.k2 ≡ v1.state.k2 = λ at. closed-middle v1 v2 w received closed (first-below v1 w now shape plan at window) closes in
     elim (turns v v1 now turned known) [
       | Turns f1 e1 none two ↦ record {
         index = index;

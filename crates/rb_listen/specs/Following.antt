@@ -1,10 +1,10 @@
 -- A listener from its first epoch on is the core of a BIU without a number that says nothing. It
 -- goes through windows and frames as any BIU does.
-use Rattle.std.specs.Prelude.{ℕ, zero, suc, ◌-◌, ◌^◌, ◌==◌, ◌||◌, Bool, true, false, Option, Some, None, unwrap_or, List, []}
+use Rattle.std.specs.Prelude.{ℕ, zero, suc, ◌-◌, ◌^◌, Bool, true, false, Option, Some, None, unwrap_or, List, []}
 use Rattle.rb_base.specs.{Nodes.Side.Biu, Sizes.Sizes}
-use Rattle.rb_rules.specs.{declared.plan.Plan.Plan, Core.{Act, Core, act_on, arrive, is_last, is_spent, state_at}, NodeState.{NodeState, fresh_state}}
+use Rattle.rb_rules.specs.{declared.plan.Plan.Plan, Core.{Act, Core, act_on, arrive, is_spent, state_at}, NodeState.{NodeState, fresh_state}}
 use Rattle.rb_slot.specs.Engines.{trusting}
-use Rattle.rb_node.specs.Cores.{Running}
+use Rattle.rb_node.specs.{Aheads.wakes as wakes_of, Cores.Running}
 
 -- at first: this frame begins with this tick, which is the next, these nodes are trusted, nobody is
 -- accused, and nothing came
@@ -30,10 +30,8 @@ follows sizes plan (suc n) c = follows sizes plan n (follow sizes plan c).core
 -- Quiet ticks.
 
 -- tick k is not quiet: a frame begins with it, or a window is closed
-unfoldable pub wakes : Sizes → Plan → NodeState → ℕ → Bool
-wakes sizes plan st k =
-    let now : NodeState = state_at sizes plan Biu st k in
-    (now.epoch == k) || is_last sizes plan Biu now k
+abbrev pub wakes : Sizes → Plan → NodeState → ℕ → Bool
+wakes sizes plan st k = wakes_of sizes plan Biu st k
 
 -- the first such tick among `others` ticks from k on
 abbrev pub wake_among : Sizes → Plan → NodeState → ℕ → ℕ → Option ℕ

@@ -1,26 +1,17 @@
 -- What a follower keeps at hand of what is ahead of it.
-use Rattle.std.specs.Prelude.{ℕ, ◌≡◌, ◌≤◌, ◌<◌, ◌^◌, ◌+◌, ◌*◌, Bool, true, false, Option, Some, None}
+use Rattle.std.specs.Prelude.{ℕ, ◌≡◌, ◌≤◌, ◌^◌, ◌+◌, ◌*◌, Bool, Option, Some, None}
 use Rattle.rb_base.specs.Nodes.Side.{Biu}
 use Rattle.rb_eligible.specs.Inboxes.{KeptArrivals, StampsUpTo}
 use Rattle.rb_slot.specs.Engines.{Seated}
-use Rattle.rb_node.specs.Aheads.{IsWindowOf, window_of_tick}
+use Rattle.rb_node.specs.Aheads.{IsNextWake, IsWindowOf}
 use Rattle.rb_listen.specs.{declared.ahead.Ahead.Ahead, Following.wakes}
 
 abbrev pub wakes_at : Seated → ℕ → Bool
 wakes_at v k = wakes v.sizes v.plan v.state k
 
--- from tick `had` on all ticks before this one are quiet, and lie in one window with it. The tick
--- itself is not quiet, unless it is 2^31
-pub record IsNextWake (v : Seated) (had tick : ℕ) : Type 0 where
-  pub later : had ≤ tick
-  pub most : tick ≤ 2 ^ 31
-  pub quiet : (k : ℕ) → had ≤ k → k < tick → wakes_at v k ≡ false
-  pub busy : tick < 2 ^ 31 → wakes_at v tick ≡ true
-  pub here : (k : ℕ) → had ≤ k → k ≤ tick → window_of_tick Biu v k ≡ window_of_tick Biu v had
-
 -- what is kept is so for a follower that has had `had` ticks
 pub record LooksAhead (v : Seated) (had : ℕ) (a : Ahead) : Type 0 where
-  pub next : IsNextWake v had a.tick
+  pub next : IsNextWake Biu v had a.tick
   pub window : IsWindowOf Biu v had a.window
 
 -- if the middle that fixes the next epoch is known, the frame has had two ticks

@@ -7,11 +7,13 @@ ghost use Rattle.rb_node.specs.Cores.{IsCore, IsSameNode};
 ghost use Rattle.rb_listen.specs.Following.{arrive_at, core_from, follow_at, follows_at, next_wake_at, passing_end};
 ghost use Rattle.rb_listen.specs.Waking.{wakes_at};
 
-use crate::ahead::{Ahead, bounds, look_ahead};
-use crate::parts::{close_at, epoch_at, nothing, turn_at};
+use crate::ahead::{Ahead, look_ahead};
+use crate::parts::turn_at;
 use rb_base::{Biu, MOST_TICKS, NodeId, NodeSet, Rmu};
 use rb_eligible::Inbox;
 use rb_node::Step;
+use rb_node::ahead::bounds;
+use rb_node::parts::{close_at, epoch_at, nothing};
 use rb_plan::Feasible;
 use rb_slot::{Engine, Shown};
 use std::marker::Model;
@@ -156,6 +158,7 @@ impl Follower {
         }
         let here = turn_at(&mut self.engine, &self.ahead.window, now);
         bounds(&self.engine);
+        let _came = self.inbox.came();
         let epoch = epoch_at(&self.engine, now);
         let closed = close_at(
             &mut self.engine,

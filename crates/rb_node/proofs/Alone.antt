@@ -6,7 +6,7 @@ use Rattle.rb_rules.proofs.Lawfulness.{sends_inside_all}
 use Rattle.rb_eligible.specs.Inboxes.{HoldsArrivals, KeptArrivals, Received}
 use Rattle.rb_slot.specs.{Closable.IsOfFrame, Engines.{IsSameFrame, Seated, outcome_on}}
 use Rattle.rb_node.specs.{Aheads.{IsEnded, IsWindowOf, LooksAhead, SaysIn, following, is_alone}, Aheads.SaysIn.{Silent, First, Second, Third}, Cores.received_of, Ends.EndsExactWindow, Saids.said_in, declared.ahead.Ahead.Ahead, declared.ahead.Busy.Busy}
-use Rattle.rb_node.proofs.{Acting.says-none, Busy.{no-turn, said, said-form, some-first, some-second, some-third, stage_at}, Cores.{at-message, next-none, tick-now}, Ending.{ShowsEnd, ends-kept, kept-ends, kept-next, kept-stays, stays-kept, window-kept}, Going.{ended-follows, ended-soon, ended-stage}, Numbering.{IsNumbered, numbered-here}, Steps.{Gives, Parts, gives}, Windows.has-ticks}
+use Rattle.rb_node.proofs.{Acting.says-none, Busy.{no-turn, said, said-form, some-first, some-second, some-third, stage_at}, Cores.{at-message, next-none, tick-now}, Ending.{ShowsEnd, ends-kept, kept-ends, kept-next, kept-stays, stays-kept, window-kept}, Going.{ended-follows, ended-soon, ended-stage}, Numbering.{IsNumbered, numbered-here}, Steps.{Gives, Parts, Says, gives}, Windows.has-ticks}
 
 -- The flag, part by part.
 
@@ -134,18 +134,20 @@ alone-gives me v v3 had word a before after inbox rest plan feasible l is closes
     let at : a.busy.tick ≡ k = kept-next me v had a c k l state had_is next in
     let later : had ≤ a.busy.tick = l.next.later in
     let passed : max c.had k ≡ a.busy.tick = omega arith in
-    let parts : Parts me v v v v3 a.busy.tick word a.window None None true before after inbox rest = record {
+    let parts : Parts me v v v v3 a.busy.tick a.window None true before after inbox rest = record {
       turned = ap (λ (s : NodeState). record v { state = s }) (sym (no-turn v me a.busy.tick alone.stays));
       begun = no-epoch me v had a plan feasible l is;
       window = window-kept me v had a l;
-      said = says-none me v a.window.slot a.busy.stage word a.busy.tick l.stage alone.stage;
-      kept = refl;
       closes = sym (eq-eqb a.busy.tick (v.state.epoch + a.window.last) (sym alone.last));
       state = closes;
       shown = shows;
       holds = λ received held. empty;
     } in
-    gives me v v v v3 a.busy.tick word a.window None None true before after inbox rest parts alone.below (pass_to k c) state passed holds
+    let says : Says me v v a.busy.tick word a.window None = record {
+      said = says-none me v a.window.slot a.busy.stage word a.busy.tick l.stage alone.stage;
+      kept = refl;
+    } in
+    gives me v v v v3 a.busy.tick word a.window None None true before after inbox rest parts says alone.below (pass_to k c) state passed holds
 
 -- If a window ends and nothing else happens, it is kept so.
 

@@ -1,19 +1,19 @@
 -- What a node keeps at hand between two busy ticks.
-use Rattle.std.proofs.{Common.{◌≡◌, ℕ, ◌<◌, ◌≤◌, ◌^◌, ◌&&◌, ◌++◌, ◌∷◌, [], max, nat_lt, not, Bool, true, false, refl, ap, sym, ◌∙◌, subst, arith, inl, inr, List, unwrap_or, if◌then◌else◌}, lemmas.Bool.{cases_lt, le-ltb, lt-ltb}}
+use Rattle.std.proofs.{Common.{◌≡◌, ℕ, ◌<◌, ◌≤◌, ◌^◌, ◌&&◌, ◌++◌, ◌∷◌, [], max, nat_lt, not, Bool, true, false, ap, sym, ◌∙◌, subst, arith, inl, inr, List, if◌then◌else◌}, lemmas.Bool.{cases_lt, le-ltb, lt-ltb}}
 use Rattle.rb_base.specs.{Nodes.{Side, other}, Sizes.Sizes}
 use Rattle.rb_base.proofs.Plain.{and-not_true}
-use Rattle.rb_rules.specs.{Core.{Core, arrive, is_spent, pass_to, wants}, Slots.count_of, Sense.Arrival}
+use Rattle.rb_rules.specs.{declared.plan.Window.Window, Core.{Core, arrive, is_spent, pass_to, wants}, Slots.count_of, Sense.Arrival}
 use Rattle.rb_rules.proofs.QuietTicks.{not-spent}
 use Rattle.rb_eligible.specs.Inboxes.{HoldsArrivals, KeptArrivals}
 use Rattle.rb_slot.specs.Engines.{Seated}
-use Rattle.rb_node.specs.{Aheads.{IsNextBusy, IsRunning, IsWindowOf, LooksAhead, want_ahead, want_at}, Cores.{Running, bare_core, next_of, passing_end, received_of}, Wants.{want_for, want_then}, declared.ahead.Ahead.Ahead}
-use Rattle.rb_node.proofs.Cores.{next-is, next-none, received-append, spent-is, want-is, want-quiet, want-spent}
+use Rattle.rb_node.specs.{Aheads.{IsNextBusy, IsNextTick, IsRunning, IsWindowOf, LooksAhead, busy_at, want_ahead, want_at}, Cores.{Running, next_of, passing_end, received_of}, Wants.{want_for, want_then}, declared.ahead.Ahead.Ahead}
+use Rattle.rb_node.proofs.Cores.{busy-search, found-end, next-is, next-none, received-append, spent-is, want-is, want-quiet, want-spent}
 use Rattle.rb_node.specs.declared.act.Want.TheVariants as want
 
 -- What is kept stays as it is up to the busy tick.
 
-pub next-on : (me : Side) (v : Seated) (had m k : ℕ) → IsNextBusy me v had k → had ≤ m → m ≤ k → IsNextBusy me v m k
-next-on me v had m k n lo hi = record {
+pub next-on : (comes : ℕ → Bool) (me : Side) (v : Seated) (had m k : ℕ) → IsNextTick comes me v had k → had ≤ m → m ≤ k → IsNextTick comes me v m k
+next-on comes me v had m k n lo hi = record {
   later = hi;
   most = n.most;
   quiet = λ j a b. n.quiet j (omega arith) b;
@@ -21,9 +21,10 @@ next-on me v had m k n lo hi = record {
   here = λ j a b. n.here j (omega arith) b ∙ sym (n.here m lo hi);
 }
 
-pub window-on : (me : Side) (v : Seated) (had m : ℕ) (a : Ahead) → LooksAhead me v had a → had ≤ m → m ≤ a.busy.tick → IsWindowOf me v m a.window
-window-on me v had m a l lo hi =
-    record { is = l.window.is ∙ sym (l.next.here m lo hi); of_frame = l.window.of_frame; slot = l.window.slot; first = l.window.first; fits = l.window.fits }
+pub window-on : (comes : ℕ → Bool) (me : Side) (v : Seated) (had m k : ℕ) (w : Window) → IsNextTick comes me v had k → IsWindowOf me v had w
+    → had ≤ m → m ≤ k → IsWindowOf me v m w
+window-on comes me v had m k w n is lo hi =
+    record { is = is.is ∙ sym (n.here m lo hi); of_frame = is.of_frame; slot = is.slot; first = is.first; fits = is.fits }
 
 pub runs-on : (me : Side) (v : Seated) (had m : ℕ) (inbox : KeptArrivals) (a : Ahead) → IsRunning me v had inbox a → had ≤ m → m ≤ a.busy.tick
     → IsRunning me v m inbox a
@@ -37,18 +38,11 @@ runs-on me v had m inbox a r lo hi =
       frame = omega arith;
       epoch = omega arith;
       stamps = r.stamps;
-      ahead = record { next = next-on me v had m a.busy.tick r.ahead.next lo hi; window = window-on me v had m a r.ahead lo hi; stage = r.ahead.stage; wants = r.ahead.wants; alone = r.ahead.alone };
+      ahead = record { next = next-on (busy_at me v) me v had m a.busy.tick r.ahead.next lo hi; window = window-on (busy_at me v) me v had m a.busy.tick a.window r.ahead.next r.ahead.window lo hi; stage = r.ahead.stage; wants = r.ahead.wants; alone = r.ahead.alone };
     }
 
 pub passing-is : (me : Side) (n : Running) (k : ℕ) → IsNextBusy me n.seat n.had k → passing_end me n ≡ k
-passing-is me n k next =
-    let most : k ≤ 2 ^ 31 = next.most in
-    elim (cases_lt k (2 ^ 31)) [
-      | inl below ↦ ap (λ o. unwrap_or o (2 ^ 31)) (next-is me n.seat (bare_core n) n.had k refl refl next below)
-      | inr end ↦
-          let e : 2 ^ 31 ≡ k = omega arith in
-          ap (λ o. unwrap_or o (2 ^ 31)) (next-none me n.seat (bare_core n) n.had k refl refl next end) ∙ e
-    ]
+passing-is me n k next = found-end (busy_at me n.seat) _ me n.seat n.had k (busy-search me n.seat) next
 
 -- What is wanted.
 

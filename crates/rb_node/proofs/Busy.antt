@@ -1,12 +1,12 @@
 -- Which tick is the next one that is not quiet.
-use Rattle.std.proofs.{Common.{◌≡◌, ℕ, ◌+◌, ◌<◌, ◌≤◌, ◌^◌, ◌⊎◌, ◌==◌, ◌||◌, Bool, true, false, refl, ap, sym, ◌∙◌, subst, arith, inl, inr, Option, Some, None, is_some}, lemmas.Bool.{cases_lt, eqb-true}, lemmas.Bool.Decides.nat_tests}
+use Rattle.std.proofs.{Common.{◌≡◌, ℕ, ◌+◌, ◌<◌, ◌≤◌, ◌^◌, ◌==◌, ◌||◌, Bool, true, false, refl, ap, sym, ◌∙◌, subst, arith, inl, inr, Option, Some, None, is_some}, lemmas.Bool.{cases_lt, eqb-true, or_from, or_left, or_parts, or_right}, lemmas.Bool.Decides.nat_tests}
 use Rattle.std.specs.Option.{option_or}
 use Rattle.rb_base.specs.Nodes.{Side}
-use Rattle.rb_base.proofs.Plain.{eq-turned, eq_self, more-differs, or_middle}
+use Rattle.rb_base.proofs.Plain.{eq-turned, eq_self, more-differs}
 use Rattle.rb_rules.specs.{declared.message.Message.Message, declared.plan.Window.Window, Conviction.turn, Core.{if_at, is_busy, is_last, is_tick, said_at, state_at}, Hearing.sending, NodeState.NodeState, NodeSteps.message_said, SyncStage.{new_epoch_of, send_tick_of}}
-use Rattle.rb_rules.proofs.RoundStates.{HasTicks}
+use Rattle.rb_rules.proofs.{QuietTicks.state-same, RoundStates.HasTicks}
 use Rattle.rb_slot.specs.Engines.{Seated}
-use Rattle.rb_node.specs.{Aheads.{IsChosen, IsNextBusy, IsSooner, SaysIn, busy_at, tick_said, window_of_tick}, Aheads.SaysIn.{Silent, First, Second, Third}, declared.ahead.Busy.Busy}
+use Rattle.rb_node.specs.{Aheads.{IsChosen, IsNextBusy, IsNextWake, IsSooner, SaysIn, busy_at, tick_said, wakes, wakes_at, window_of_tick}, Aheads.SaysIn.{Silent, First, Second, Third}, declared.ahead.Busy.Busy}
 use Rattle.rb_node.proofs.{Saying.{sent_at, sending-is, goes-out, stays-in, nothing-out}, Windows.goes-on}
 
 -- The state at a tick.
@@ -28,41 +28,41 @@ turned-epoch v me k h = rw (h, state_at) (turns-at v me k (new_epoch_of v.plan m
 
 -- What makes a tick busy.
 
-or-first : (a b c : Bool) → a ≡ true → (a || b || c) ≡ true
-or-first true b c h = refl
-or-first false b c h = cc
+-- if no frame begins with a tick, and no window ends, the node did not turn at it
+pub wakes-same : (me : Side) (v : Seated) (k : ℕ) → wakes_at me v k ≡ false → state_at v.sizes v.plan me v.state k ≡ v.state
+unfolding wakes
+wakes-same me v k h =
+    let now : NodeState = state_at v.sizes v.plan me v.state k in
+    state-same v.sizes v.plan me v.state k (or_parts (now.epoch == k) (is_last v.sizes v.plan me now k) h).0
 
-or-third : (a b c : Bool) → c ≡ true → (a || b || c) ≡ true
-or-third true b c h = refl
-or-third false true c h = refl
-or-third false false true h = refl
-or-third false false false h = cc
-
-or-none : (a b c : Bool) → a ≡ false → b ≡ false → c ≡ false → (a || b || c) ≡ false
-or-none a b c h i j = rw (h, i, j) refl
-
--- a tick with which a frame begins is busy
-pub busy-turn : (me : Side) (v : Seated) (k : ℕ) → is_tick (new_epoch_of v.plan me v.state) k ≡ true → busy_at me v k ≡ true
-unfolding is_busy
-busy-turn me v k h =
-    or-first ((state_at v.sizes v.plan me v.state k).epoch == k) _ _ (ap (λ e. e == k) (turned-epoch v me k h) ∙ eq_self k)
+wakes-turn : (me : Side) (v : Seated) (k : ℕ) → is_tick (new_epoch_of v.plan me v.state) k ≡ true → wakes_at me v k ≡ true
+unfolding wakes
+wakes-turn me v k h = or_left ((state_at v.sizes v.plan me v.state k).epoch == k) _ (ap (λ e. e == k) (turned-epoch v me k h) ∙ eq_self k)
 
 abbrev as-it-is : Side → Seated → ℕ → Bool
-as-it-is me v k = (v.state.epoch == k) || is_last v.sizes v.plan me v.state k || is_some (said_at v.sizes v.plan me v.index v.state 0 k)
+as-it-is me v k = (v.state.epoch == k) || is_last v.sizes v.plan me v.state k
 
--- if the node does not turn, its present state says whether it is busy
-pub by-state : (me : Side) (v : Seated) (k : ℕ) → is_tick (new_epoch_of v.plan me v.state) k ≡ false → busy_at me v k ≡ as-it-is me v k
-unfolding is_busy
-by-state me v k h =
-    ap (λ (st : NodeState). (st.epoch == k) || is_last v.sizes v.plan me st k || is_some (said_at v.sizes v.plan me v.index st 0 k)) (no-turn v me k h)
+-- if the node does not turn, its present state says whether a frame begins or a window ends
+by-state : (me : Side) (v : Seated) (k : ℕ) → is_tick (new_epoch_of v.plan me v.state) k ≡ false → wakes_at me v k ≡ as-it-is me v k
+unfolding wakes
+by-state me v k h = ap (λ (st : NodeState). (st.epoch == k) || is_last v.sizes v.plan me st k) (no-turn v me k h)
 
--- a tick that is busy by the node's present state is busy, whether the node turns or not
-pub busy-if : (me : Side) (v : Seated) (k : ℕ) → as-it-is me v k ≡ true → busy_at me v k ≡ true
-busy-if me v k h = by (is_tick (new_epoch_of v.plan me v.state) k) refl
+-- what is so by the node's present state is so, whether the node turns or not
+wakes-if : (me : Side) (v : Seated) (k : ℕ) → as-it-is me v k ≡ true → wakes_at me v k ≡ true
+wakes-if me v k h = by (is_tick (new_epoch_of v.plan me v.state) k) refl
   where
-    by : (b : Bool) → is_tick (new_epoch_of v.plan me v.state) k ≡ b → busy_at me v k ≡ true
-    by true e = busy-turn me v k e
+    by : (b : Bool) → is_tick (new_epoch_of v.plan me v.state) k ≡ b → wakes_at me v k ≡ true
+    by true e = wakes-turn me v k e
     by false e = by-state me v k e ∙ h
+
+-- a tick is busy if a frame begins with it, a window ends with it, or something is said
+busy-is : (me : Side) (v : Seated) (k : ℕ)
+    → busy_at me v k ≡ (wakes_at me v k || is_some (said_at v.sizes v.plan me v.index (state_at v.sizes v.plan me v.state k) 0 k))
+unfolding is_busy wakes
+busy-is me v k = refl
+
+wake-busy : (me : Side) (v : Seated) (k : ℕ) → wakes_at me v k ≡ true → busy_at me v k ≡ true
+wake-busy me v k h = busy-is me v k ∙ or_left (wakes_at me v k) _ h
 
 -- What is said at a tick, stage by stage.
 
@@ -121,60 +121,41 @@ said me v slot stage k h =
 
 -- The ticks that may be busy in a window.
 
--- tick `k` is neither the epoch nor the last tick of the window nor the next epoch
-pub record NoneIs (me : Side) (v : Seated) (w : Window) (k : ℕ) : Type 0 where
-  pub begun : is_tick (Some v.state.epoch) k ≡ false
-  pub closed : is_tick (Some (v.state.epoch + w.last)) k ≡ false
-  pub turned : is_tick (new_epoch_of v.plan me v.state) k ≡ false
-  pub first : is_tick (tick_said me v w.slot 1) k ≡ false
-  pub second : is_tick (tick_said me v w.slot 2) k ≡ false
-  pub third : is_tick (tick_said me v w.slot 3) k ≡ false
-
--- tick `k` is the epoch, the last tick of the window or the next epoch
-pub data OneIs (me : Side) (v : Seated) (w : Window) (k : ℕ) : Type 0 where
-  Begun : is_tick (Some v.state.epoch) k ≡ true → OneIs me v w k
-  Closed : is_tick (Some (v.state.epoch + w.last)) k ≡ true → OneIs me v w k
-  Turned : is_tick (new_epoch_of v.plan me v.state) k ≡ true → OneIs me v w k
-  Said1 : is_tick (tick_said me v w.slot 1) k ≡ true → OneIs me v w k
-  Said2 : is_tick (tick_said me v w.slot 2) k ≡ true → OneIs me v w k
-  Said3 : is_tick (tick_said me v w.slot 3) k ≡ true → OneIs me v w k
-
 last-by : (me : Side) (v : Seated) (w : Window) (k : ℕ) (b : Bool) → window_of_tick me v k ≡ w → (v.state.epoch + w.last == k) ≡ b
     → is_last v.sizes v.plan me v.state k ≡ b
 last-by me v w k b here h = ap (λ (x : Window). k == v.state.epoch + x.last) here ∙ eq-turned (v.state.epoch + w.last) k b h
 
-quiet-if : (me : Side) (v : Seated) (w : Window) (k : ℕ) → window_of_tick me v k ≡ w → NoneIs me v w k → busy_at me v k ≡ false
-quiet-if me v w k here n =
-    by-state me v k n.turned
-    ∙ or-none _ _ _ n.begun (last-by me v w k false here n.closed)
-    (ap is_some (said-form me v 0 k
+wakes-last : (me : Side) (v : Seated) (w : Window) (k : ℕ) → window_of_tick me v k ≡ w → (v.state.epoch + w.last == k) ≡ true → wakes_at me v k ≡ true
+wakes-last me v w k here h = wakes-if me v k (or_right (v.state.epoch == k) (is_last v.sizes v.plan me v.state k) (last-by me v w k true here h))
+
+-- what is said in a window at a tick at which the node does not turn
+said-in : (me : Side) (v : Seated) (w : Window) (k : ℕ) → window_of_tick me v k ≡ w → state_at v.sizes v.plan me v.state k ≡ v.state
+    → said_at v.sizes v.plan me v.index (state_at v.sizes v.plan me v.state k) 0 k
+    ≡ said-of (stage_at me v w.slot 1 0 k) (stage_at me v w.slot 2 0 k) (stage_at me v w.slot 3 0 k)
+said-in me v w k here same =
+    ap (λ st. said_at v.sizes v.plan me v.index st 0 k) same ∙ said-form me v 0 k
     ∙ ap (λ (x : Window). said-of (stage_at me v x.slot 1 0 k) (stage_at me v x.slot 2 0 k) (stage_at me v x.slot 3 0 k)) here
-    ∙ none-of _ _ _ (unsaid me v w.slot 1 k n.first) (unsaid me v w.slot 2 k n.second) (unsaid me v w.slot 3 k n.third)))
+
+quiet-if : (me : Side) (v : Seated) (w : Window) (k : ℕ) → window_of_tick me v k ≡ w → wakes_at me v k ≡ false
+    → is_tick (tick_said me v w.slot 1) k ≡ false → is_tick (tick_said me v w.slot 2) k ≡ false → is_tick (tick_said me v w.slot 3) k ≡ false
+    → busy_at me v k ≡ false
+quiet-if me v w k here quiet first second third =
+    busy-is me v k
+    ∙ or_from (wakes_at me v k) _ quiet (ap is_some (said-in me v w k here (wakes-same me v k quiet)
+    ∙ none-of _ _ _ (unsaid me v w.slot 1 k first) (unsaid me v w.slot 2 k second) (unsaid me v w.slot 3 k third)))
 
 said-here : (me : Side) (v : Seated) (w : Window) (k : ℕ) → window_of_tick me v k ≡ w
     → is_some (said-of (stage_at me v w.slot 1 0 k) (stage_at me v w.slot 2 0 k) (stage_at me v w.slot 3 0 k)) ≡ true → busy_at me v k ≡ true
-said-here me v w k here h =
-    busy-if me v k (or-third (v.state.epoch == k) (is_last v.sizes v.plan me v.state k) (is_some (said_at v.sizes v.plan me v.index v.state 0 k)) (ap is_some (said-form me v 0 k
-    ∙ ap (λ (x : Window). said-of (stage_at me v x.slot 1 0 k) (stage_at me v x.slot 2 0 k) (stage_at me v x.slot 3 0 k)) here) ∙ h))
-
-busy-one : (me : Side) (v : Seated) (w : Window) (k : ℕ) → window_of_tick me v k ≡ w → OneIs me v w k → busy_at me v k ≡ true
-busy-one me v w k here (Begun h) =
-    busy-if me v k (or-first (v.state.epoch == k) (is_last v.sizes v.plan me v.state k) (is_some (said_at v.sizes v.plan me v.index v.state 0 k)) h)
-busy-one me v w k here (Closed h) =
-    busy-if me v k (or_middle (v.state.epoch == k) (is_last v.sizes v.plan me v.state k) (is_some (said_at v.sizes v.plan me v.index v.state 0 k))
-    (last-by me v w k true here h))
-busy-one me v w k here (Turned h) = busy-turn me v k h
-busy-one me v w k here (Said1 h) =
-    said-here me v w k here (some-first (stage_at me v w.slot 1 0 k) (stage_at me v w.slot 2 0 k) (stage_at me v w.slot 3 0 k) (said me v w.slot 1 k h))
-busy-one me v w k here (Said2 h) =
-    said-here me v w k here (some-second (stage_at me v w.slot 1 0 k) (stage_at me v w.slot 2 0 k) (stage_at me v w.slot 3 0 k) (said me v w.slot 2 k h))
-busy-one me v w k here (Said3 h) =
-    said-here me v w k here (some-third (stage_at me v w.slot 1 0 k) (stage_at me v w.slot 2 0 k) (stage_at me v w.slot 3 0 k) (said me v w.slot 3 k h))
+said-here me v w k here h = by (wakes_at me v k) refl
+  where
+    by : (b : Bool) → wakes_at me v k ≡ b → busy_at me v k ≡ true
+    by true e = wake-busy me v k e
+    by false e = busy-is me v k ∙ or_right (wakes_at me v k) _ (ap is_some (said-in me v w k here (wakes-same me v k e)) ∙ h)
 
 -- The soonest of them.
 
 -- the window's last tick is not passed over
-pub not-over : (had last before after k : ℕ) → IsSooner had (Some last) before after → k ≤ after → had ≤ last → k ≤ last
+not-over : (had last before after k : ℕ) → IsSooner had (Some last) before after → k ≤ after → had ≤ last → k ≤ last
 not-over had last before after k s le from =
     elim (cases_lt last k) [
       | inl lt ↦ absurd (true-false (sym (eq_self last) ∙ s.not_before last from (omega arith)))
@@ -184,60 +165,81 @@ not-over had last before after k s le from =
     true-false : true ≡ false → ⊥
     true-false e = cc
 
--- seven steps lead from 2^31 to the tick; the last that changed something chose it
-pub record Soonest (me : Side) (v : Seated) (w : Window) (had b1 b2 b3 b4 b5 b6 : ℕ) : Type 0 where
-  pub s1 : IsSooner had (Some v.state.epoch) (2 ^ 31) b1
-  pub s2 : IsSooner had (Some (v.state.epoch + w.last)) b1 b2
-  pub s3 : IsSooner had (new_epoch_of v.plan me v.state) b2 b3
-  pub s4 : IsSooner had (tick_said me v w.slot 3) b3 b4
-  pub s5 : IsSooner had (tick_said me v w.slot 2) b4 b5
-  pub s6 : IsSooner had (tick_said me v w.slot 1) b5 b6
+-- one step to a sooner tick
+comes-at : (comes : ℕ → Bool) (had : ℕ) (candidate : Option ℕ) (a b : ℕ) → IsSooner had candidate a b → (is_tick candidate b ≡ true → comes b ≡ true)
+    → (a < 2 ^ 31 → comes a ≡ true) → b < 2 ^ 31 → comes b ≡ true
+comes-at comes had candidate a b s chosen before below =
+    elim s.either [
+      | inl same ↦ let less : a < 2 ^ 31 = omega arith in subst (λ k. comes k ≡ true) (sym same) (before less)
+      | inr is ↦ chosen is
+    ]
 
-chosen-1 : (me : Side) (v : Seated) (w : Window) (had b1 : ℕ) → IsSooner had (Some v.state.epoch) (2 ^ 31) b1 → (b1 ≡ 2 ^ 31) ⊎ OneIs me v w b1
-chosen-1 me v w had b1 s = elim s.either [ inl same ↦ inl same | inr is ↦ inr (Begun is) ]
-
-carry : (me : Side) (v : Seated) (w : Window) (a b : ℕ) → (b ≡ a) → (a ≡ 2 ^ 31) ⊎ OneIs me v w a → (b ≡ 2 ^ 31) ⊎ OneIs me v w b
-carry me v w a b e h = subst (λ x. (x ≡ 2 ^ 31) ⊎ OneIs me v w x) (sym e) h
-
-chosen : (me : Side) (v : Seated) (w : Window) (had b1 b2 b3 b4 b5 b6 : ℕ) → Soonest me v w had b1 b2 b3 b4 b5 b6 → (b6 ≡ 2 ^ 31) ⊎ OneIs me v w b6
-chosen me v w had b1 b2 b3 b4 b5 b6 s =
-    let c1 = chosen-1 me v w had b1 s.s1 in
-    let c2 : (b2 ≡ 2 ^ 31) ⊎ OneIs me v w b2 = elim s.s2.either [ inl same ↦ carry me v w b1 b2 same c1 | inr is ↦ inr (Closed is) ] in
-    let c3 : (b3 ≡ 2 ^ 31) ⊎ OneIs me v w b3 = elim s.s3.either [ inl same ↦ carry me v w b2 b3 same c2 | inr is ↦ inr (Turned is) ] in
-    let c4 : (b4 ≡ 2 ^ 31) ⊎ OneIs me v w b4 = elim s.s4.either [ inl same ↦ carry me v w b3 b4 same c3 | inr is ↦ inr (Said3 is) ] in
-    let c5 : (b5 ≡ 2 ^ 31) ⊎ OneIs me v w b5 = elim s.s5.either [ inl same ↦ carry me v w b4 b5 same c4 | inr is ↦ inr (Said2 is) ] in
-    elim s.s6.either [ inl same ↦ carry me v w b5 b6 same c5 | inr is ↦ inr (Said1 is) ]
-
-pub soonest-is : (me : Side) (v : Seated) (w : Window) (had b1 b2 b3 b4 b5 b6 : ℕ) → HasTicks v.plan → v.state.epoch ≤ had
-    → w ≡ window_of_tick me v had → Soonest me v w had b1 b2 b3 b4 b5 b6 → IsNextBusy me v had b6
-soonest-is me v w had b1 b2 b3 b4 b5 b6 ticks epoch is s =
-    let m1 : b1 ≤ 2 ^ 31 = s.s1.most in
-    let m2 : b2 ≤ b1 = s.s2.most in
-    let m3 : b3 ≤ b2 = s.s3.most in
-    let m4 : b4 ≤ b3 = s.s4.most in
-    let m5 : b5 ≤ b4 = s.s5.most in
-    let m6 : b6 ≤ b5 = s.s6.most in
-    let here : (k : ℕ) → had ≤ k → k ≤ b6 → window_of_tick me v k ≡ w = λ k lo hi.
+-- three steps lead from 2^31 to the tick
+pub soonest-wake : (me : Side) (v : Seated) (w : Window) (had b1 b2 b3 : ℕ) → HasTicks v.plan → v.state.epoch ≤ had → w ≡ window_of_tick me v had
+    → IsSooner had (Some v.state.epoch) (2 ^ 31) b1 → IsSooner had (Some (v.state.epoch + w.last)) b1 b2
+    → IsSooner had (new_epoch_of v.plan me v.state) b2 b3 → IsNextWake me v had b3
+soonest-wake me v w had b1 b2 b3 ticks epoch is s1 s2 s3 =
+    let m1 : b1 ≤ 2 ^ 31 = s1.most in
+    let m2 : b2 ≤ b1 = s2.most in
+    let m3 : b3 ≤ b2 = s3.most in
+    let here : (k : ℕ) → had ≤ k → k ≤ b2 → window_of_tick me v k ≡ w = λ k lo hi.
     goes-on v.sizes v.plan me v.state had k ticks epoch lo
     (λ from. subst (λ (x : Window). had ≤ v.state.epoch + x.last → k ≤ v.state.epoch + x.last) is
-    (not-over had (v.state.epoch + w.last) b1 b2 k s.s2 (omega arith)) from)
+    (not-over had (v.state.epoch + w.last) b1 b2 k s2 hi) from)
     ∙ sym is in
     record {
-      later = s.s6.later;
+      later = s3.later;
       most = omega arith;
-      quiet = λ k lo hi. quiet-if me v w k (here k lo (omega arith)) (record {
-        begun = s.s1.not_before k lo (omega arith);
-        closed = s.s2.not_before k lo (omega arith);
-        turned = s.s3.not_before k lo (omega arith);
-        first = s.s6.not_before k lo (omega arith);
-        second = s.s5.not_before k lo (omega arith);
-        third = s.s4.not_before k lo (omega arith);
-      });
-      busy = λ below. elim (chosen me v w had b1 b2 b3 b4 b5 b6 s) [
-        | inl end ↦ absurd (omega arith)
-        | inr one ↦ busy-one me v w b6 (here b6 s.s6.later (omega arith)) one
-      ];
-      here = λ k lo hi. here k lo hi ∙ is;
+      quiet = λ k lo hi.
+          by-state me v k (s3.not_before k lo hi)
+          ∙ or_from (v.state.epoch == k) (is_last v.sizes v.plan me v.state k) (s1.not_before k lo (omega arith))
+          (last-by me v w k false (here k lo (omega arith)) (s2.not_before k lo (omega arith)));
+      busy = comes-at (wakes_at me v) had (new_epoch_of v.plan me v.state) b2 b3 s3 (wakes-turn me v b3)
+          (comes-at (wakes_at me v) had (Some (v.state.epoch + w.last)) b1 b2 s2 (wakes-last me v w b2 (here b2 s2.later (omega arith)))
+          (comes-at (wakes_at me v) had (Some v.state.epoch) (2 ^ 31) b1 s1
+          (λ h. wakes-if me v b1 (or_left (v.state.epoch == b1) (is_last v.sizes v.plan me v.state b1) h)) (λ less. absurd (omega arith))));
+      here = λ k lo hi. here k lo (omega arith) ∙ is;
+    }
+
+-- that tick is no later than the last one of a window that is not over
+pub wake-within : (me : Side) (v : Seated) (w : Window) (had tick : ℕ) → w ≡ window_of_tick me v had → IsNextWake me v had tick
+    → had ≤ v.state.epoch + w.last → tick ≤ v.state.epoch + w.last
+wake-within me v w had tick is next from =
+    elim (cases_lt (v.state.epoch + w.last) tick) [
+      | inl lt ↦
+          let here : window_of_tick me v (v.state.epoch + w.last) ≡ w = next.here (v.state.epoch + w.last) from (omega arith) ∙ sym is in
+          absurd (true-false (sym (wakes-last me v w (v.state.epoch + w.last) here (eq_self (v.state.epoch + w.last)))
+          ∙ next.quiet (v.state.epoch + w.last) from lt))
+      | inr ge ↦ ge
+    ]
+  where
+    true-false : true ≡ false → ⊥
+    true-false e = cc
+
+-- three more lead from it to the tick of what is said before
+pub soonest-is : (me : Side) (v : Seated) (w : Window) (had b3 b4 b5 b6 : ℕ) → w ≡ window_of_tick me v had → IsNextWake me v had b3
+    → IsSooner had (tick_said me v w.slot 3) b3 b4 → IsSooner had (tick_said me v w.slot 2) b4 b5 → IsSooner had (tick_said me v w.slot 1) b5 b6
+    → IsNextBusy me v had b6
+soonest-is me v w had b3 b4 b5 b6 is wake s4 s5 s6 =
+    let m3 : b3 ≤ 2 ^ 31 = wake.most in
+    let m4 : b4 ≤ b3 = s4.most in
+    let m5 : b5 ≤ b4 = s5.most in
+    let m6 : b6 ≤ b5 = s6.most in
+    let here : (k : ℕ) → had ≤ k → k ≤ b3 → window_of_tick me v k ≡ w = λ k lo hi. wake.here k lo hi ∙ sym is in
+    let says : (k : ℕ) → ℕ → Option Message = λ k stage. stage_at me v w.slot stage 0 k in
+    record {
+      later = s6.later;
+      most = omega arith;
+      quiet = λ k lo hi. quiet-if me v w k (here k lo (omega arith)) (wake.quiet k lo (omega arith))
+          (s6.not_before k lo hi) (s5.not_before k lo (omega arith)) (s4.not_before k lo (omega arith));
+      busy = comes-at (busy_at me v) had (tick_said me v w.slot 1) b5 b6 s6
+          (λ h. said-here me v w b6 (here b6 s6.later (omega arith)) (some-first (says b6 1) (says b6 2) (says b6 3) (said me v w.slot 1 b6 h)))
+          (comes-at (busy_at me v) had (tick_said me v w.slot 2) b4 b5 s5
+          (λ h. said-here me v w b5 (here b5 s5.later (omega arith)) (some-second (says b5 1) (says b5 2) (says b5 3) (said me v w.slot 2 b5 h)))
+          (comes-at (busy_at me v) had (tick_said me v w.slot 3) b3 b4 s4
+          (λ h. said-here me v w b4 (here b4 s4.later (omega arith)) (some-third (says b4 1) (says b4 2) (says b4 3) (said me v w.slot 3 b4 h)))
+          (λ below. wake-busy me v b3 (wake.busy below))));
+      here = λ k lo hi. wake.here k lo (omega arith);
     }
 
 -- If the frame has begun, and no other is to begin, it is the window's last tick, or that of a
@@ -255,29 +257,25 @@ pub soonest-on : (me : Side) (v : Seated) (w : Window) (had last b4 b5 b6 : ℕ)
     → IsSooner had (tick_said me v w.slot 3) last b4 → IsSooner had (tick_said me v w.slot 2) b4 b5 → IsSooner had (tick_said me v w.slot 1) b5 b6
     → IsNextBusy me v had b6
 soonest-on me v w had last b4 b5 b6 ticks begun from below ends is stays s4 s5 s6 =
-    soonest-is me v w had (2 ^ 31) last last b4 b5 b6 ticks (omega arith) is (record {
-      s1 = record {
-        later = omega arith;
-        most = omega arith;
-        not_before = λ k lo hi. over v.state.epoch had k begun lo;
-        either = inl refl;
-      };
-      s2 = subst (λ e. IsSooner had (Some e) (2 ^ 31) last) ends (record {
-        later = from;
-        most = omega arith;
-        not_before = λ k lo hi. more-differs last k hi;
-        either = inr (eq_self last);
-      });
-      s3 = record {
-        later = from;
-        most = omega arith;
-        not_before = λ k lo hi. never (new_epoch_of v.plan me v.state) k stays;
-        either = inl refl;
-      };
-      s4 = s4;
-      s5 = s5;
-      s6 = s6;
-    })
+    let s1 : IsSooner had (Some v.state.epoch) (2 ^ 31) (2 ^ 31) = record {
+      later = omega arith;
+      most = omega arith;
+      not_before = λ k lo hi. over v.state.epoch had k begun lo;
+      either = inl refl;
+    } in
+    let s2 : IsSooner had (Some (v.state.epoch + w.last)) (2 ^ 31) last = subst (λ e. IsSooner had (Some e) (2 ^ 31) last) ends (record {
+      later = from;
+      most = omega arith;
+      not_before = λ k lo hi. more-differs last k hi;
+      either = inr (eq_self last);
+    }) in
+    let s3 : IsSooner had (new_epoch_of v.plan me v.state) last last = record {
+      later = from;
+      most = omega arith;
+      not_before = λ k lo hi. never (new_epoch_of v.plan me v.state) k stays;
+      either = inl refl;
+    } in
+    soonest-is me v w had last b4 b5 b6 is (soonest-wake me v w had (2 ^ 31) last last ticks (omega arith) is s1 s2 s3) s4 s5 s6
 
 -- Which message is said at the tick that is chosen.
 

@@ -1,5 +1,5 @@
 -- What the core does that a node stands for: its next tick, its quiet ticks, and what it wants.
-use Rattle.std.proofs.{Common.{◌≡◌, ℕ, zero, suc, ◌+◌, ◌-◌, ◌<◌, ◌≤◌, ◌^◌, ◌==◌, ◌||◌, Bool, true, false, refl, ap, sym, ◌∙◌, subst, arith, inl, inr, Option, Some, None, is_some, List, [], ◌∷◌, ◌++◌, map, filter, cond}, lemmas.Bool.cases_lt, lemmas.Bool.Decides.nat_tests}
+use Rattle.std.proofs.{Common.{◌≡◌, ℕ, zero, suc, ◌+◌, ◌-◌, ◌<◌, ◌≤◌, ◌^◌, ◌==◌, ◌||◌, Bool, true, false, refl, ap, sym, ◌∙◌, subst, arith, inl, inr, Option, Some, None, is_some, unwrap_or, List, [], ◌∷◌, ◌++◌, map, filter, cond}, lemmas.Bool.cases_lt, lemmas.Bool.Decides.nat_tests}
 use Rattle.std.specs.Option.{option_or}
 use Rattle.rb_base.specs.{Nodes.Side, Sizes.Sizes}
 use Rattle.rb_base.proofs.Plain.{none-from}
@@ -7,52 +7,88 @@ use Rattle.rb_rules.specs.{declared.message.Message.Message, declared.plan.Plan.
 use Rattle.rb_rules.proofs.QuietTicks.{IsQuiet, not-spent, nothing, quiet-from, quiet-tick, quiet-ticks}
 use Rattle.rb_eligible.specs.Inboxes.{Received, HoldsArrivals, arrivals_of}
 use Rattle.rb_slot.specs.Engines.{Seated}
-use Rattle.rb_node.specs.{Aheads.{IsNextBusy, busy_at, want_at}, Cores.{IsCore, Running, received_of}, Wants.want_for}
+use Rattle.rb_node.specs.{Aheads.{IsNextBusy, IsNextTick, busy_at, want_at}, Cores.{IsCore, Running, received_of}, Wants.want_for}
 use Rattle.rb_node.proofs.{Busy.{said-form, stage_at}, Saying.{message-some, sending-is, sent_at}}
 use Rattle.rb_node.specs.declared.act.Want.TheVariants as want
 
--- The next busy tick is found.
+-- The next tick is found with which something comes.
 
-finds : (me : Side) (v : Seated) (others had k : ℕ) → had ≤ k → k < had + others → ((m : ℕ) → had ≤ m → m < k → busy_at me v m ≡ false)
-    → busy_at me v k ≡ true → busy_among v.sizes v.plan me v.index v.state others had ≡ Some k
-finds me v zero had k lo hi quiet busy = absurd (omega arith)
-finds me v (suc others) had k lo hi quiet busy =
-    elim (cases_lt had k) [
+-- `among n k` is the first of n ticks from k on with which it comes
+pub record IsSearch (comes : ℕ → Bool) (among : ℕ → ℕ → Option ℕ) : Type 0 where
+  pub none : (k : ℕ) → among zero k ≡ None
+  pub step : (n k : ℕ) → among (suc n) k ≡ (elim (comes k) as (λ _. Option ℕ) [ true ↦ Some k | false ↦ among n (suc k) ])
+
+abbrev if-comes : (ℕ → ℕ → Option ℕ) → ℕ → ℕ → Bool → Option ℕ
+if-comes among others had b = elim b as (λ _. Option ℕ) [ true ↦ Some had | false ↦ among others (suc had) ]
+
+finds : (comes : ℕ → Bool) (among : ℕ → ℕ → Option ℕ) (others had k : ℕ) → IsSearch comes among → had ≤ k → k < had + others
+    → ((m : ℕ) → had ≤ m → m < k → comes m ≡ false) → comes k ≡ true → among others had ≡ Some k
+finds comes among zero had k s lo hi quiet busy = absurd (omega arith)
+finds comes among (suc others) had k s lo hi quiet busy =
+    s.step others had
+    ∙ elim (cases_lt had k) [
       | inl lt ↦
-          ap (λ b. elim b as (λ _. Option ℕ) [ true ↦ Some had | false ↦ busy_among v.sizes v.plan me v.index v.state others (suc had) ]) (quiet had (omega arith) lt)
-          ∙ finds me v others (suc had) k (omega arith) (omega arith) (λ m a b. quiet m (omega arith) b) busy
+          ap (if-comes among others had) (quiet had (omega arith) lt)
+          ∙ finds comes among others (suc had) k s (omega arith) (omega arith) (λ m a b. quiet m (omega arith) b) busy
       | inr ge ↦
           let same : k ≡ had = omega arith in
-          ap (λ b. elim b as (λ _. Option ℕ) [ true ↦ Some had | false ↦ busy_among v.sizes v.plan me v.index v.state others (suc had) ]) (ap (busy_at me v) (sym same) ∙ busy)
-          ∙ ap (λ m. Some m) (sym same)
+          ap (if-comes among others had) (ap comes (sym same) ∙ busy) ∙ ap (λ m. Some m) (sym same)
     ]
 
-finds-none : (me : Side) (v : Seated) (others had : ℕ) → ((m : ℕ) → had ≤ m → m < had + others → busy_at me v m ≡ false)
-    → busy_among v.sizes v.plan me v.index v.state others had ≡ None
-finds-none me v zero had quiet = refl
-finds-none me v (suc others) had quiet =
-    ap (λ b. elim b as (λ _. Option ℕ) [ true ↦ Some had | false ↦ busy_among v.sizes v.plan me v.index v.state others (suc had) ]) (quiet had (omega arith) (omega arith))
-    ∙ finds-none me v others (suc had) (λ m a b. quiet m (omega arith) (omega arith))
+finds-none : (comes : ℕ → Bool) (among : ℕ → ℕ → Option ℕ) (others had : ℕ) → IsSearch comes among
+    → ((m : ℕ) → had ≤ m → m < had + others → comes m ≡ false) → among others had ≡ None
+finds-none comes among zero had s quiet = s.none had
+finds-none comes among (suc others) had s quiet =
+    s.step others had ∙ ap (if-comes among others had) (quiet had (omega arith) (omega arith))
+    ∙ finds-none comes among others (suc had) s (λ m a b. quiet m (omega arith) (omega arith))
+
+pub found : (comes : ℕ → Bool) (among : ℕ → ℕ → Option ℕ) (me : Side) (v : Seated) (had k : ℕ) → IsSearch comes among → IsNextTick comes me v had k
+    → k < 2 ^ 31 → among (2 ^ 31 - had) had ≡ Some k
+found comes among me v had k s next below =
+    let later : had ≤ k = next.later in
+    finds comes among (2 ^ 31 - had) had k s later (omega arith) next.quiet (next.busy below)
+
+pub found-none : (comes : ℕ → Bool) (among : ℕ → ℕ → Option ℕ) (me : Side) (v : Seated) (had k : ℕ) → IsSearch comes among → IsNextTick comes me v had k
+    → 2 ^ 31 ≤ k → among (2 ^ 31 - had) had ≡ None
+found-none comes among me v had k s next end =
+    let most : k ≤ 2 ^ 31 = next.most in
+    let later : had ≤ k = next.later in
+    finds-none comes among (2 ^ 31 - had) had s (λ m lo hi. next.quiet m lo (omega arith))
+
+-- the end of all ticks stands for a tick that is not found
+pub found-end : (comes : ℕ → Bool) (among : ℕ → ℕ → Option ℕ) (me : Side) (v : Seated) (had k : ℕ) → IsSearch comes among → IsNextTick comes me v had k
+    → unwrap_or (among (2 ^ 31 - had) had) (2 ^ 31) ≡ k
+found-end comes among me v had k s next =
+    let most : k ≤ 2 ^ 31 = next.most in
+    elim (cases_lt k (2 ^ 31)) [
+      | inl below ↦ ap (λ o. unwrap_or o (2 ^ 31)) (found comes among me v had k s next below)
+      | inr end ↦
+          let e : 2 ^ 31 ≡ k = omega arith in
+          ap (λ o. unwrap_or o (2 ^ 31)) (found-none comes among me v had k s next end) ∙ e
+    ]
+
+abbrev busy_from : Side → Seated → ℕ → ℕ → Option ℕ
+busy_from me v = busy_among v.sizes v.plan me v.index v.state
+
+pub busy-search : (me : Side) (v : Seated) → IsSearch (busy_at me v) (busy_from me v)
+busy-search me v = record { none = λ k. refl; step = λ n k. refl }
 
 -- the next busy tick of a core in the node's state is found by that state
 next-at : (me : Side) (v : Seated) (c : Core) (had : ℕ) → c.state ≡ v.state → c.had ≡ had
-    → next_tick v.sizes v.plan me v.index c ≡ busy_among v.sizes v.plan me v.index v.state (2 ^ 31 - had) had
+    → next_tick v.sizes v.plan me v.index c ≡ busy_from me v (2 ^ 31 - had) had
 next-at me v c had s h =
     ap (λ st. busy_among v.sizes v.plan me v.index st (2 ^ 31 - c.had) c.had) s
-    ∙ ap (λ n. busy_among v.sizes v.plan me v.index v.state (2 ^ 31 - n) n) h
+    ∙ ap (λ n. busy_from me v (2 ^ 31 - n) n) h
 
 pub next-is : (me : Side) (v : Seated) (c : Core) (had k : ℕ) → c.state ≡ v.state → c.had ≡ had → IsNextBusy me v had k → k < 2 ^ 31
     → next_tick v.sizes v.plan me v.index c ≡ Some k
 next-is me v c had k s h next below =
-    next-at me v c had s h
-    ∙ finds me v (2 ^ 31 - had) had k next.later (let later : had ≤ k = next.later in omega arith) next.quiet (next.busy below)
+    next-at me v c had s h ∙ found (busy_at me v) (busy_from me v) me v had k (busy-search me v) next below
 
 pub next-none : (me : Side) (v : Seated) (c : Core) (had k : ℕ) → c.state ≡ v.state → c.had ≡ had → IsNextBusy me v had k → 2 ^ 31 ≤ k
     → next_tick v.sizes v.plan me v.index c ≡ None
 next-none me v c had k s h next end =
-    let most : k ≤ 2 ^ 31 = next.most in
-    let later : had ≤ k = next.later in
-    next-at me v c had s h ∙ finds-none me v (2 ^ 31 - had) had (λ m lo hi. next.quiet m lo (omega arith))
+    next-at me v c had s h ∙ found-none (busy_at me v) (busy_from me v) me v had k (busy-search me v) next end
 
 -- A tick, by whether the core is spent.
 

@@ -12,20 +12,22 @@ pub kept-stays : (sizes : Sizes) (me : Side) (index : ℕ) (st : NodeState) (wor
 kept-stays sizes me index st word None = stays-refl st
 kept-stays sizes me index st word (Some m) = keeping-stays sizes me index st m.slot m.stage word
 
--- the parts of a tick, one after another: the node turns, tells of its frame, says its message, and
--- closes the window
-pub record Parts (me : Side) (v v1 v2 v3 : Seated) (now word : ℕ) (w : Window) (epoch : Option Epoch) (message : Option Message) (closed : Bool)
-    (before after : Closed) (inbox rest : KeptArrivals) : Type 0 where
+-- the parts of a tick, one after another: the node turns, tells of its frame, and closes the window.
+-- Before the close it may say something
+pub record Parts (me : Side) (v v1 v2 v3 : Seated) (now : ℕ) (w : Window) (epoch : Option Epoch) (closed : Bool) (before after : Closed) (inbox rest : KeptArrivals) : Type 0 where
   pub turned : v1 ≡ record v { state = state_at v.sizes v.plan me v.state now }
   pub begun : epoch ≡ epoch_at v1.sizes me v1.state now
   pub window : w ≡ window_of_tick me v1 now
-  pub said : message ≡ said_in me v1 w.slot now word
-  pub kept : v2 ≡ record v1 { state = state_kept v1.sizes me v1.index v1.state word message }
   pub closes : closed ≡ (now == v2.state.epoch + w.last)
   pub state : (received : List Received) → HoldsArrivals inbox received
       → v3 ≡ record v2 { state = if closed then (outcome_on me v2 w received).state else v2.state }
   pub shown : (received : List Received) → HoldsArrivals inbox received → after ≡ (if closed then (outcome_on me v2 w received).closed else before)
   pub holds : (received : List Received) → HoldsArrivals inbox received → HoldsArrivals rest (if closed then [] else received)
+
+-- the node says its message between the two
+pub record Says (me : Side) (v1 v2 : Seated) (now word : ℕ) (w : Window) (message : Option Message) : Type 0 where
+  pub said : message ≡ said_in me v1 w.slot now word
+  pub kept : v2 ≡ record v1 { state = state_kept v1.sizes me v1.index v1.state word message }
 
 -- the act, by whether the window is closed
 abbrev act-by : Sizes → Side → Core → NodeState → NodeState → Option Message → Outcome → Bool → Act
@@ -48,16 +50,12 @@ act-by sizes me c st kept message o b = elim b [
 abbrev closing-of : Side → Seated → NodeState → Window → List (ℕ × Arrival) → Outcome
 closing-of me v kept w inbox = close_window v.sizes v.plan me v.index kept w (of_source inbox)
 
-act-is : (me : Side) (v : Seated) (now word : ℕ) (inbox : List (ℕ × Arrival))
-    → act_at v.sizes v.plan me v.index (record { state = v.state; had = now; inbox = inbox }) word
-    ≡ act-by v.sizes me (record { state = v.state; had = now; inbox = inbox }) (state_at v.sizes v.plan me v.state now)
-    (state_kept v.sizes me v.index (state_at v.sizes v.plan me v.state now) word (said_at v.sizes v.plan me v.index (state_at v.sizes v.plan me v.state now) word now))
-    (said_at v.sizes v.plan me v.index (state_at v.sizes v.plan me v.state now) word now)
-    (closing-of me v (state_kept v.sizes me v.index (state_at v.sizes v.plan me v.state now) word (said_at v.sizes v.plan me v.index (state_at v.sizes v.plan me v.state now) word now))
-    (window_here v.sizes v.plan me (state_at v.sizes v.plan me v.state now) now) inbox)
-    (is_last v.sizes v.plan me (state_at v.sizes v.plan me v.state now) now)
-unfolding act_at act_on
-act-is me v now word inbox = refl
+act-is : (me : Side) (v : Seated) (now : ℕ) (inbox : List (ℕ × Arrival)) (st kept : NodeState) (message : Option Message)
+    → act_on v.sizes v.plan me v.index (record { state = v.state; had = now; inbox = inbox }) st message kept
+    ≡ act-by v.sizes me (record { state = v.state; had = now; inbox = inbox }) st kept message
+    (closing-of me v kept (window_here v.sizes v.plan me st now) inbox) (is_last v.sizes v.plan me st now)
+unfolding act_on
+act-is me v now inbox st kept message = refl
 
 -- the core, and what is given, by whether the window is closed
 pub record Gives (me : Side) (n : Running) (s : Step) (x : Act) : Type 0 where
@@ -80,17 +78,16 @@ by-closed me v v3 now st kept message o inbox before after rest false is shown h
   act = record { epoch = refl; message = refl; closed = refl };
 }
 
-pub gives : (me : Side) (v v1 v2 v3 : Seated) (now word : ℕ) (w : Window) (epoch : Option Epoch) (message : Option Message) (closed : Bool)
-    (before after : Closed) (inbox rest : KeptArrivals) → Parts me v v1 v2 v3 now word w epoch message closed before after inbox rest
-    → now < 2 ^ 31 → (c : Core) → c.state ≡ v.state → c.had ≡ now → HoldsArrivals inbox (received_of c.inbox)
+-- the parts make the act of a core that says this message, which leaves this state
+pub gives-on : (me : Side) (v v1 v2 v3 : Seated) (now : ℕ) (w : Window) (epoch : Option Epoch) (message : Option Message) (kept : NodeState) (closed : Bool)
+    (before after : Closed) (inbox rest : KeptArrivals) → Parts me v v1 v2 v3 now w epoch closed before after inbox rest
+    → v2 ≡ record v { state = kept } → kept.epoch ≡ (state_at v.sizes v.plan me v.state now).epoch
+    → (c : Core) → c.state ≡ v.state → c.had ≡ now → HoldsArrivals inbox (received_of c.inbox)
     → Gives me (record { seat = v3; had = now + 1; inbox = rest; shown = after }) (record { epoch = epoch; message = message; closed = closed })
-    (tick v.sizes v.plan me v.index c word)
-gives me v v1 v2 v3 now word w epoch message closed before after inbox rest p below c state had holds =
+    (act_on v.sizes v.plan me v.index c (state_at v.sizes v.plan me v.state now) message kept)
+gives-on me v v1 v2 v3 now w epoch message kept closed before after inbox rest p kept_is stays c state had holds =
     let st : NodeState = state_at v.sizes v.plan me v.state now in
-    let turned : Seated = record v { state = st } in
     let here : Window = window_here v.sizes v.plan me st now in
-    let m : Option Message = said_at v.sizes v.plan me v.index st word now in
-    let kept : NodeState = state_kept v.sizes me v.index st word m in
     let says : Seated = record v { state = kept } in
     let o : Outcome = closing-of me v kept here c.inbox in
     let last : Bool = is_last v.sizes v.plan me st now in
@@ -99,16 +96,9 @@ gives me v v1 v2 v3 now word w epoch message closed before after inbox rest p be
     ap (λ s. let x : Core = record { state = s; had = c.had; inbox = c.inbox } in x) state
     ∙ ap (λ n. let x : Core = record { state = v.state; had = n; inbox = c.inbox } in x) had in
     let window_is : w ≡ here = p.window ∙ ap (λ x. window_of_tick me x now) p.turned in
-    let message_is : message ≡ m =
-    p.said ∙ ap (λ x. said_in me x w.slot now word) p.turned ∙ ap (λ (y : Window). said_in me turned y.slot now word) window_is
-    ∙ sym (said-form me turned word now) in
-    let kept_is : v2 ≡ says =
-    p.kept ∙ ap (λ (x : Seated). record x { state = state_kept x.sizes me x.index x.state word message }) p.turned
-    ∙ ap (λ y. record turned { state = state_kept v.sizes me v.index st word y }) message_is in
-    let stays : Stays st kept = kept-stays v.sizes me v.index st word m in
     let closed_is : closed ≡ last =
     p.closes ∙ ap (λ (x : Seated). now == x.state.epoch + w.last) kept_is ∙ ap (λ (y : Window). now == kept.epoch + y.last) window_is
-    ∙ ap (λ e. now == e + here.last) stays.epoch in
+    ∙ ap (λ e. now == e + here.last) stays in
     let epoch_is : epoch ≡ epoch_at v.sizes me st now = p.begun ∙ ap (λ (x : Seated). epoch_at x.sizes me x.state now) p.turned in
     let outcome_is : outcome_on me v2 w (received_of c.inbox) ≡ o =
     ap (λ x. outcome_on me x w (received_of c.inbox)) kept_is ∙ ap (λ y. outcome_on me says y (received_of c.inbox)) window_is
@@ -119,14 +109,51 @@ gives me v v1 v2 v3 now word w epoch message closed before after inbox rest p be
     ∙ ap (λ (x : Seated). record x { state = if closed then o.state else x.state }) kept_is in
     let shown_is : after ≡ (if closed then o.closed else before) =
     p.shown (received_of c.inbox) holds ∙ ap (λ (x : Outcome). if closed then x.closed else before) outcome_is in
-    let act : tick v.sizes v.plan me v.index c word ≡ act-by v.sizes me core st kept m o closed =
-    ap (λ x. tick v.sizes v.plan me v.index x word) core_is ∙ tick-now v.sizes v.plan me v.index core word below
-    ∙ act-is me v now word c.inbox ∙ ap (act-by v.sizes me core st kept m o) (sym closed_is) in
-    let all = by-closed me v v3 now st kept m o c.inbox before after rest closed state_is shown_is (p.holds (received_of c.inbox) holds) in
+    let act : act_on v.sizes v.plan me v.index c st message kept ≡ act-by v.sizes me core st kept message o closed =
+    ap (λ x. act_on v.sizes v.plan me v.index x st message kept) core_is
+    ∙ act-is me v now c.inbox st kept message ∙ ap (act-by v.sizes me core st kept message o) (sym closed_is) in
+    let all = by-closed me v v3 now st kept message o c.inbox before after rest closed state_is shown_is (p.holds (received_of c.inbox) holds) in
     let n : Running = record { seat = v3; had = now + 1; inbox = rest; shown = after } in
     subst (λ x. Gives me n (record { epoch = epoch; message = message; closed = closed }) x) (sym act)
-    (subst (λ e. Gives me n (record { epoch = e; message = message; closed = closed }) (act-by v.sizes me core st kept m o closed)) (sym epoch_is)
-    (subst (λ y. Gives me n (record { epoch = epoch_at v.sizes me st now; message = y; closed = closed }) (act-by v.sizes me core st kept m o closed)) (sym message_is) all))
+    (subst (λ e. Gives me n (record { epoch = e; message = message; closed = closed }) (act-by v.sizes me core st kept message o closed)) (sym epoch_is) all)
+
+-- the act of a core at tick `now` in the state `s`
+abbrev act-in : Side → Seated → ℕ → Core → NodeState → ℕ → Act
+act-in me v word c s now =
+    let st : NodeState = state_at v.sizes v.plan me s now in
+    let message : Option Message = said_at v.sizes v.plan me v.index st word now in
+    act_on v.sizes v.plan me v.index c st message (state_kept v.sizes me v.index st word message)
+
+at-is : (me : Side) (v : Seated) (word : ℕ) (c : Core) → act_at v.sizes v.plan me v.index c word ≡ act-in me v word c c.state c.had
+unfolding act_at
+at-is me v word c = refl
+
+pub gives : (me : Side) (v v1 v2 v3 : Seated) (now word : ℕ) (w : Window) (epoch : Option Epoch) (message : Option Message) (closed : Bool)
+    (before after : Closed) (inbox rest : KeptArrivals) → Parts me v v1 v2 v3 now w epoch closed before after inbox rest
+    → Says me v1 v2 now word w message
+    → now < 2 ^ 31 → (c : Core) → c.state ≡ v.state → c.had ≡ now → HoldsArrivals inbox (received_of c.inbox)
+    → Gives me (record { seat = v3; had = now + 1; inbox = rest; shown = after }) (record { epoch = epoch; message = message; closed = closed })
+    (tick v.sizes v.plan me v.index c word)
+gives me v v1 v2 v3 now word w epoch message closed before after inbox rest p says below c state had holds =
+    let st : NodeState = state_at v.sizes v.plan me v.state now in
+    let turned : Seated = record v { state = st } in
+    let m : Option Message = said_at v.sizes v.plan me v.index st word now in
+    let kept : NodeState = state_kept v.sizes me v.index st word m in
+    let window_is : w ≡ window_here v.sizes v.plan me st now = p.window ∙ ap (λ x. window_of_tick me x now) p.turned in
+    let message_is : message ≡ m =
+    says.said ∙ ap (λ x. said_in me x w.slot now word) p.turned ∙ ap (λ (y : Window). said_in me turned y.slot now word) window_is
+    ∙ sym (said-form me turned word now) in
+    let kept_is : v2 ≡ record v { state = kept } =
+    says.kept ∙ ap (λ (x : Seated). record x { state = state_kept x.sizes me x.index x.state word message }) p.turned
+    ∙ ap (λ y. record turned { state = state_kept v.sizes me v.index st word y }) message_is in
+    let stays : Stays st kept = kept-stays v.sizes me v.index st word m in
+    let act : tick v.sizes v.plan me v.index c word ≡ act_on v.sizes v.plan me v.index c st m kept =
+    tick-now v.sizes v.plan me v.index c word (omega arith) ∙ at-is me v word c
+    ∙ ap (λ s. act-in me v word c s c.had) state ∙ ap (act-in me v word c v.state) had in
+    let n : Running = record { seat = v3; had = now + 1; inbox = rest; shown = after } in
+    subst (λ x. Gives me n (record { epoch = epoch; message = message; closed = closed }) x) (sym act)
+    (subst (λ y. Gives me n (record { epoch = epoch; message = y; closed = closed }) (act_on v.sizes v.plan me v.index c st m kept)) (sym message_is)
+    (gives-on me v v1 v2 v3 now w epoch m kept closed before after inbox rest p kept_is stays.epoch c state had holds))
 
 -- What does not run ahead.
 
@@ -161,14 +188,27 @@ turns me v v1 k is le = subst (λ x. Turned v x k) (sym is) (by (is_tick (new_ep
 abbrev pub Nothing : Step → Type 0
 Nothing s = s ≡ (let x : Step = record { epoch = None; message = None; closed = false } in x)
 
+pub nothing-spent : (me : Side) (n : Running) (s : Step) (c : Core) (x : Act) → Nothing s → IsCore n c
+    → x ≡ record { core = c; epoch = None; message = None; closed = None } → Gives me n s x
+nothing-spent me n s c x is core act =
+    subst (λ x. Gives me n s x) (sym act) (subst (λ y. Gives me n y (record { core = c; epoch = None; message = None; closed = None })) (sym is)
+    (record { core = core; act = record { epoch = refl; message = refl; closed = refl } }))
+
+pub nothing-quiet : (me : Side) (n : Running) (s : Step) (c : Core) (x : Act) → Nothing s → IsCore n c → x ≡ nothing c
+    → Gives me (record n { had = n.had + 1 }) s x
+nothing-quiet me n s c x is core act =
+    let m : Running = record n { had = n.had + 1 } in
+    subst (λ x. Gives me m s x) (sym act) (subst (λ y. Gives me m y (nothing c)) (sym is)
+    (record {
+      core = record { state = core.state; had = ap (λ k. k + 1) core.had; inbox = core.inbox };
+      act = record { epoch = refl; message = refl; closed = refl };
+    }))
+
 pub spent-gives : (me : Side) (n : Running) (s : Step) (word : ℕ) (c : Core) → Nothing s → IsCore n c → 2 ^ 31 ≤ n.had
     → Gives me n s (tick_of me n c word)
 spent-gives me n s word c is core spent =
     let had : c.had ≡ n.had = core.had in
-    let act : tick_of me n c word ≡ record { core = c; epoch = None; message = None; closed = None } =
-    tick-spent n.seat.sizes n.seat.plan me n.seat.index c word (omega arith) in
-    subst (λ x. Gives me n s x) (sym act) (subst (λ y. Gives me n y (record { core = c; epoch = None; message = None; closed = None })) (sym is)
-    (record { core = core; act = record { epoch = refl; message = refl; closed = refl } }))
+    nothing-spent me n s c _ is core (tick-spent n.seat.sizes n.seat.plan me n.seat.index c word (omega arith))
 
 pub quiet-gives : (me : Side) (n : Running) (s : Step) (word : ℕ) (c : Core) → Nothing s → IsCore n c → busy_at me n.seat n.had ≡ false
     → n.had < 2 ^ 31 → Gives me (record n { had = n.had + 1 }) s (tick_of me n c word)
@@ -176,13 +216,7 @@ quiet-gives me n s word c is core quiet below =
     let had : c.had ≡ n.had = core.had in
     let here : is_busy n.seat.sizes n.seat.plan me n.seat.index c.state c.had ≡ false =
     ap (λ st. is_busy n.seat.sizes n.seat.plan me n.seat.index st c.had) core.state ∙ ap (busy_at me n.seat) had ∙ quiet in
-    let act : tick_of me n c word ≡ nothing c = quiet-any n.seat.sizes n.seat.plan me n.seat.index c word here (omega arith) in
-    let m : Running = record n { had = n.had + 1 } in
-    subst (λ x. Gives me m s x) (sym act) (subst (λ y. Gives me m y (nothing c)) (sym is)
-    (record {
-      core = record { state = core.state; had = ap (λ k. k + 1) had; inbox = core.inbox };
-      act = record { epoch = refl; message = refl; closed = refl };
-    }))
+    nothing-quiet me n s c _ is core (quiet-any n.seat.sizes n.seat.plan me n.seat.index c word here (omega arith))
 
 -- What holds between two calls holds after a busy tick.
 

@@ -1,7 +1,7 @@
 -- What a node keeps at hand of what is ahead of it.
-use Rattle.std.specs.Prelude.{ℕ, ◌≡◌, ◌≤◌, ◌<◌, ◌^◌, ◌+◌, ◌⊎◌, ◌==◌, ◌&&◌, not, nat_lt, if◌then◌else◌, Bool, true, false, is_some, Option, None}
-use Rattle.rb_base.specs.{Nodes.Side, Sizes.sync_slot_of}
-use Rattle.rb_rules.specs.{declared.plan.Plan.Plan, declared.plan.Window.Window, Core.{is_busy, is_tick, said_at, slot_wanted, state_at, window_here}, NodeSteps.message_said, SyncStage.{new_epoch_of, send_tick_of}}
+use Rattle.std.specs.Prelude.{ℕ, ◌≡◌, ◌≤◌, ◌<◌, ◌^◌, ◌+◌, ◌⊎◌, ◌==◌, ◌&&◌, ◌||◌, not, nat_lt, if◌then◌else◌, Bool, true, false, is_some, Option, None}
+use Rattle.rb_base.specs.{Nodes.Side, Sizes.{Sizes, sync_slot_of}}
+use Rattle.rb_rules.specs.{declared.plan.Plan.Plan, declared.plan.Window.Window, Core.{is_busy, is_last, is_tick, said_at, slot_wanted, state_at, window_here}, NodeState.NodeState, NodeSteps.message_said, SyncStage.{new_epoch_of, send_tick_of}}
 use Rattle.rb_eligible.specs.Inboxes.{KeptArrivals, StampsUpTo}
 use Rattle.rb_slot.specs.{Closable.IsOfFrame, Engines.Seated}
 use Rattle.rb_node.specs.{declared.ahead.Ahead.Ahead, declared.ahead.Busy.Busy, declared.act.Want.Want, Wants.want_for}
@@ -65,6 +65,15 @@ pub data SaysIn (me : Side) (v : Seated) (slot k stage : ℕ) : Type 0 where
 abbrev pub busy_at : Side → Seated → ℕ → Bool
 busy_at me v k = is_busy v.sizes v.plan me v.index v.state k
 
+-- a frame begins with tick k, or a window ends with it
+unfoldable pub wakes : Sizes → Plan → Side → NodeState → ℕ → Bool
+wakes sizes plan me st k =
+    let now : NodeState = state_at sizes plan me st k in
+    (now.epoch == k) || is_last sizes plan me now k
+
+abbrev pub wakes_at : Side → Seated → ℕ → Bool
+wakes_at me v k = wakes v.sizes v.plan me v.state k
+
 abbrev pub window_of_tick : Side → Seated → ℕ → Window
 window_of_tick me v k = window_here v.sizes v.plan me v.state k
 
@@ -76,14 +85,22 @@ want_at me v k = want_for v.sizes (slot_wanted v.sizes (said_at v.sizes v.plan m
 abbrev pub want_ahead : Side → Seated → ℕ → Want
 want_ahead me v k = if nat_lt k (2 ^ 31) then want_at me v k else want.Nothing
 
--- from tick `had` on all ticks before this one are quiet, and lie in one window with it. It is
--- busy, unless it is 2^31
-pub record IsNextBusy (me : Side) (v : Seated) (had tick : ℕ) : Type 0 where
+-- from tick `had` on nothing `comes` before this tick, and all ticks up to it lie in one window. It
+-- comes with this one, unless that is 2^31
+pub record IsNextTick (comes : ℕ → Bool) (me : Side) (v : Seated) (had tick : ℕ) : Type 0 where
   pub later : had ≤ tick
   pub most : tick ≤ 2 ^ 31
-  pub quiet : (k : ℕ) → had ≤ k → k < tick → busy_at me v k ≡ false
-  pub busy : tick < 2 ^ 31 → busy_at me v tick ≡ true
+  pub quiet : (k : ℕ) → had ≤ k → k < tick → comes k ≡ false
+  pub busy : tick < 2 ^ 31 → comes tick ≡ true
   pub here : (k : ℕ) → had ≤ k → k ≤ tick → window_of_tick me v k ≡ window_of_tick me v had
+
+-- the next tick that is not quiet
+abbrev pub IsNextBusy : Side → Seated → ℕ → ℕ → Type 0
+IsNextBusy me v = IsNextTick (busy_at me v) me v
+
+-- the next tick with which a frame begins or a window ends
+abbrev pub IsNextWake : Side → Seated → ℕ → ℕ → Type 0
+IsNextWake me v = IsNextTick (wakes_at me v) me v
 
 -- the window of tick k
 pub record IsWindowOf (me : Side) (v : Seated) (k : ℕ) (w : Window) : Type 0 where

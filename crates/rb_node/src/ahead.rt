@@ -6,7 +6,7 @@ ghost use Rattle.rb_rules.specs.Core.{is_tick};
 ghost use Rattle.rb_rules.specs.Hearing.{tail_at};
 ghost use Rattle.rb_rules.specs.Plan.{IsFeasible, IsPlan, tail_start_of};
 ghost use Rattle.rb_rules.specs.SyncStage.{send_tick_of};
-ghost use Rattle.rb_node.specs.Aheads.{IsChosen, IsEnded, IsExactUntil, IsNextBusy, IsSaidNext, IsSooner, IsWindowOf, LooksAhead, SaysIn, following, is_alone, tick_said, want_ahead, want_at, window_of_tick};
+ghost use Rattle.rb_node.specs.Aheads.{IsChosen, IsEnded, IsExactUntil, IsNextBusy, IsNextWake, IsSaidNext, IsSooner, IsWindowOf, LooksAhead, SaysIn, following, is_alone, tick_said, want_ahead, want_at, window_of_tick};
 ghost use Rattle.rb_node.specs.Wants.{slot_of_words, want_for};
 
 use crate::act::Want;
@@ -35,9 +35,9 @@ pub struct Ahead {
     pub(crate) alone: bool,
 }
 
-// The sizes and the plan are within their bounds. It does nothing: a proof that needs a bound reads
-// it at its call.
-pub(crate) fn bounds<K: Kind>(engine: &Engine<K>)
+/// The sizes and the plan are within their bounds. It does nothing: a proof that needs a bound reads
+/// it at its call.
+pub fn bounds<K: Kind>(engine: &Engine<K>)
     ensures shape { IsShape engine.now.sizes }
     ensures plan { IsPlan engine.now.plan }
     ensures feasible { IsFeasible engine.now.sizes engine.now.plan }
@@ -55,7 +55,7 @@ fn tail_start(plan: &Feasible) -> u64
     plan.f0() + u64::from(numbers.l) + u64::from(numbers.v) + u64::from(numbers.z)
 }
 
-// The tail of the node's frame.
+// The tail of the frame.
 fn tail<K: Kind>(engine: &Engine<K>) -> Window
     requires { engine.now.state.epoch ≤ 2 ^ 31 }
     ensures value { result ≡ tail_at engine.now.sizes engine.now.plan (side_of K.CODE)
@@ -75,9 +75,9 @@ fn tail<K: Kind>(engine: &Engine<K>) -> Window
     }
 }
 
-// The window of a tick of the node's frame.
+/// The window of a tick of the frame.
 #[inline(always)]
-pub(crate) fn window_of<K: Kind>(engine: &Engine<K>, tick: u64) -> Window
+pub fn window_of<K: Kind>(engine: &Engine<K>, tick: u64) -> Window
     requires epoch { engine.now.state.epoch ≤ tick }
     requires tick { tick ≤ 2 ^ 31 }
     ensures { IsWindowOf (side_of K.CODE) engine.now tick result }
@@ -245,6 +245,21 @@ fn sooner_said<K: Kind>(before: Busy, had: u64, engine: &Engine<K>, window: &Win
     }
 }
 
+/// The next tick with which a frame begins or a window ends, `window` being that of tick `had`; 2^31
+/// if there is none.
+#[inline(always)]
+pub fn next_wake<K: Kind>(engine: &Engine<K>, window: &Window, had: u64) -> u64
+    requires epoch { engine.now.state.epoch ≤ had }
+    requires had { had ≤ 2 ^ 31 }
+    requires window { IsWindowOf (side_of K.CODE) engine.now had window.now }
+    ensures { IsNextWake (side_of K.CODE) engine.now had result }
+{
+    bounds(engine);
+    let begun = sooner(MOST_TICKS, had, Some(engine.epoch()));
+    let closed = sooner(begun, had, Some(engine.epoch() + window.last));
+    sooner(closed, had, engine.new_epoch())
+}
+
 // The next tick that is not quiet, `window` being that of tick `had`; 2^31 if there is none.
 #[inline(always)]
 fn busy_tick<K: Kind>(engine: &Engine<K>, window: &Window, had: u64) -> Busy
@@ -255,15 +270,12 @@ fn busy_tick<K: Kind>(engine: &Engine<K>, window: &Window, had: u64) -> Busy
     ensures next { IsNextBusy (side_of K.CODE) engine.now had result.tick }
     ensures stage { SaysIn (side_of K.CODE) engine.now window.now.slot result.tick result.stage }
 {
-    bounds(engine);
-    let begun = sooner(MOST_TICKS, had, Some(engine.epoch()));
-    let closed = sooner(begun, had, Some(engine.epoch() + window.last));
-    let tick = sooner(closed, had, engine.new_epoch());
+    let tick = next_wake(engine, window, had);
     sooner_said(Busy { tick, stage: 0 }, had, engine, window)
 }
 
-// Whether this is the tick.
-pub(crate) fn is_tick(tick: Option<u64>, now: u64) -> bool
+/// Whether this is the tick.
+pub fn is_tick(tick: Option<u64>, now: u64) -> bool
     ensures { result ≡ is_tick tick now }
 {
     match tick {

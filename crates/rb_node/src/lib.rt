@@ -10,4 +10,4 @@ pub use rb_slot::Shown;
 pub mod act;
 pub mod ahead;
 pub mod node;
-mod parts;
+pub mod parts;

@@ -43,8 +43,8 @@ pub(crate) fn turn_at<K: Kind>(engine: &mut Engine<K>, ahead: &mut Ahead, now: u
     }
 }
 
-// The frame, if it begins with this tick.
-pub(crate) fn epoch_at<K: Kind>(engine: &Engine<K>, now: u64) -> Option<Epoch>
+/// The frame, if it begins with this tick.
+pub fn epoch_at<K: Kind>(engine: &Engine<K>, now: u64) -> Option<Epoch>
     ensures { result ≡ epoch_at engine.now.sizes (side_of K.CODE) engine.now.state now }
 {
     if engine.epoch() != now {
@@ -90,9 +90,9 @@ pub(crate) fn say_at<K: Kind>(
     }
 }
 
-// The node closes the window, if this is its last tick.
+/// The node closes the window, if this is its last tick.
 #[inline(always)]
-pub(crate) fn close_at<K: Kind>(
+pub fn close_at<K: Kind>(
     engine: &mut Engine<K>,
     inbox: &mut Inbox<K::Other>,
     shown: &mut Shown,
@@ -115,8 +115,8 @@ pub(crate) fn close_at<K: Kind>(
     true
 }
 
-// A step in which nothing happens.
-pub(crate) fn nothing() -> Step
+/// A step in which nothing happens.
+pub fn nothing() -> Step
     ensures { result ≡ record { epoch = None; message = None; closed = false } }
 {
     Step {

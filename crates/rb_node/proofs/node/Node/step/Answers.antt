@@ -1,7 +1,7 @@
 use Rattle.std.proofs.Common.{◌≡◌, ◌+◌, ◌<◌, ◌≤◌, sym, subst, arith}
 use Rattle.rb_base.specs.Nodes.{side_of}
 use Rattle.rb_node.specs.{Aheads.SaysIn, Cores.Running}
-use Rattle.rb_node.proofs.{Going.{Ends, ending, going}, Steps.{Kept, Parts, gives, keeps, quiet-gives, spent-gives}}
+use Rattle.rb_node.proofs.{Going.{Ends, ending, going}, Steps.{Kept, Parts, Says, gives, keeps, quiet-gives, spent-gives}}
 use Rattle.rb_node.proofs.node.Node.step.Goals as goal
 
 pub returns-then-now-ge-MOST_TICKS-clause-core : goal.returns-then-now-ge-MOST_TICKS-clause-core
@@ -94,26 +94,28 @@ invariant_of-self-2 g c =
 
 parts : (g : _) (c : goal.After-look_on g)
     → Parts (side_of g.K.Kind.CODE) c.self.inside.engine c.turn_at.new.engine c.say_at-message.new.engine c.close_at-closed.new.engine
-    c.self.inside.had c.args.word c.turn_at.new.ahead.window c.epoch_at-epoch.result c.say_at-message.result c.close_at-closed.result
-    c.self.inside.shown c.close_at-closed.new.shown c.self.inside.inbox c.close_at-closed.new.inbox
+    c.self.inside.had c.turn_at.new.ahead.window c.epoch_at-epoch.result c.close_at-closed.result c.self.inside.shown c.close_at-closed.new.shown
+    c.self.inside.inbox c.close_at-closed.new.inbox
 parts g c = record {
   turned = c.turn_at.ensures.state;
   begun = c.epoch_at-epoch.ensures;
   window = c.turn_at.ensures.ahead.window.is;
-  said = c.say_at-message.ensures.message;
-  kept = c.say_at-message.ensures.keeps;
   closes = c.close_at-closed.ensures.closes;
   state = c.close_at-closed.ensures.state;
   shown = c.close_at-closed.ensures.shown;
   holds = c.close_at-closed.ensures.inbox;
 }
 
+says : (g : _) (c : goal.After-look_on g)
+    → Says (side_of g.K.Kind.CODE) c.turn_at.new.engine c.say_at-message.new.engine c.self.inside.had c.args.word c.turn_at.new.ahead.window c.say_at-message.result
+says g c = record { said = c.say_at-message.ensures.message; kept = c.say_at-message.ensures.keeps }
+
 pub returns-clause-core : goal.returns-clause-core
 returns-clause-core g c =
     rw (← c.self.view_is) (λ d is.
-    (gives _ _ _ _ _ _ _ _ _ _ _ _ _ _ _ (parts g c) c.if-now-ge-MOST_TICKS.false d is.state is.had is.inbox).core)
+    (gives _ _ _ _ _ _ _ _ _ _ _ _ _ _ _ (parts g c) (says g c) c.if-now-ge-MOST_TICKS.false d is.state is.had is.inbox).core)
 
 pub returns-clause-act : goal.returns-clause-act
 returns-clause-act g c =
     rw (← c.self.view_is) (λ d is.
-    (gives _ _ _ _ _ _ _ _ _ _ _ _ _ _ _ (parts g c) c.if-now-ge-MOST_TICKS.false d is.state is.had is.inbox).act)
+    (gives _ _ _ _ _ _ _ _ _ _ _ _ _ _ _ (parts g c) (says g c) c.if-now-ge-MOST_TICKS.false d is.state is.had is.inbox).act)
