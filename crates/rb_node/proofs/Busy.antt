@@ -201,7 +201,7 @@ soonest-wake me v w had b1 b2 b3 ticks epoch is s1 s2 s3 =
       here = λ k lo hi. here k lo (omega arith) ∙ is;
     }
 
--- that tick is no later than the last one of a window that is not over
+-- the next wake is no later than the last tick of a window that is not over
 pub wake-within : (me : Side) (v : Seated) (w : Window) (had tick : ℕ) → w ≡ window_of_tick me v had → IsNextWake me v had tick
     → had ≤ v.state.epoch + w.last → tick ≤ v.state.epoch + w.last
 wake-within me v w had tick is next from =

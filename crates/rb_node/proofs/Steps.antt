@@ -12,8 +12,8 @@ pub kept-stays : (sizes : Sizes) (me : Side) (index : ℕ) (st : NodeState) (wor
 kept-stays sizes me index st word None = stays-refl st
 kept-stays sizes me index st word (Some m) = keeping-stays sizes me index st m.slot m.stage word
 
--- the parts of a tick, one after another: the node turns, tells of its frame, and closes the window.
--- Before the close it may say something
+-- the parts of a tick, one after another: the node turns, tells of its frame, and closes the
+-- window. Before the close it may say something
 pub record Parts (me : Side) (v v1 v2 v3 : Seated) (now : ℕ) (w : Window) (epoch : Option Epoch) (closed : Bool) (before after : Closed) (inbox rest : KeptArrivals) : Type 0 where
   pub turned : v1 ≡ record v { state = state_at v.sizes v.plan me v.state now }
   pub begun : epoch ≡ epoch_at v1.sizes me v1.state now

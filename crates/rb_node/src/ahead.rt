@@ -35,8 +35,8 @@ pub struct Ahead {
     pub(crate) alone: bool,
 }
 
-/// The sizes and the plan are within their bounds. It does nothing: a proof that needs a bound reads
-/// it at its call.
+/// The sizes and the plan are within their bounds. It does nothing: a proof that needs a bound
+/// reads it at its call.
 pub fn bounds<K: Kind>(engine: &Engine<K>)
     ensures shape { IsShape engine.now.sizes }
     ensures plan { IsPlan engine.now.plan }
@@ -245,8 +245,8 @@ fn sooner_said<K: Kind>(before: Busy, had: u64, engine: &Engine<K>, window: &Win
     }
 }
 
-/// The next tick with which a frame begins or a window ends, `window` being that of tick `had`; 2^31
-/// if there is none.
+/// The next tick with which a frame begins or a window ends, `window` being that of tick `had`;
+/// 2^31 if there is none.
 #[inline(always)]
 pub fn next_wake<K: Kind>(engine: &Engine<K>, window: &Window, had: u64) -> u64
     requires epoch { engine.now.state.epoch ≤ had }
