@@ -4,9 +4,9 @@ use Rattle.rb_base.specs.{Nodes.{Side, other}, Sizes.Sizes}
 use Rattle.rb_base.proofs.Plain.{and-not_true}
 use Rattle.rb_rules.specs.{declared.plan.Window.Window, Core.{Core, arrive, is_spent, pass_to, wants}, Slots.count_of, Sense.Arrival}
 use Rattle.rb_rules.proofs.QuietTicks.{not-spent}
-use Rattle.rb_eligible.specs.Inboxes.{HoldsArrivals, KeptArrivals}
+use Rattle.rb_eligible.specs.Inboxes.{HoldsArrivals, KeptArrivals, Received}
 use Rattle.rb_slot.specs.Engines.{Seated}
-use Rattle.rb_node.specs.{Aheads.{IsNextBusy, IsNextTick, IsRunning, IsWindowOf, LooksAhead, busy_at, want_ahead, want_at}, Cores.{Running, next_of, passing_end, received_of}, Wants.{want_for, want_then}, declared.ahead.Ahead.Ahead}
+use Rattle.rb_node.specs.{Aheads.{IsNextBusy, IsNextTick, IsRunning, IsWindowOf, LooksAhead, busy_at, want_ahead, want_at}, Cores.{IsCore, Running, next_of, passing_end, received_of}, Wants.{want_for, want_then}, declared.ahead.Ahead.Ahead}
 use Rattle.rb_node.proofs.Cores.{busy-search, found-end, next-is, next-none, received-append, spent-is, want-is, want-quiet, want-spent}
 use Rattle.rb_node.specs.declared.act.Want.TheVariants as want
 
@@ -112,7 +112,7 @@ arrive-takes sizes me c from bytes h below =
     ∙ ap (λ b. arrived c from bytes (not b)) (not-spent c below)
 
 -- what holds all arrivals so far holds them with one more, once that is noted
-pub holds-more : (kept : KeptArrivals) (inbox : List (ℕ × Arrival)) (from at : ℕ) (bytes : List ℕ) (source stamp : ℕ)
+holds-more : (kept : KeptArrivals) (inbox : List (ℕ × Arrival)) (from at : ℕ) (bytes : List ℕ) (source stamp : ℕ)
     → HoldsArrivals kept (received_of inbox ++ record { source = source; arrival = record { stamp = stamp; bytes = bytes } } ∷ [])
     → source ≡ from → at ≡ stamp → HoldsArrivals kept (received_of (inbox ++ (from, record { stamp = at; bytes = bytes }) ∷ []))
 holds-more kept inbox from at bytes source stamp holds s t =
@@ -120,3 +120,14 @@ holds-more kept inbox from at bytes source stamp holds s t =
     (ap (λ x. received_of inbox ++ record { source = x; arrival = record { stamp = stamp; bytes = bytes } } ∷ []) s
     ∙ ap (λ y. received_of inbox ++ record { source = from; arrival = record { stamp = y; bytes = bytes } } ∷ []) (sym t)
     ∙ sym (received-append inbox ((from, record { stamp = at; bytes = bytes }) ∷ []))) holds
+
+-- a core that takes the bytes is stood for with what holds them too
+pub takes-more : (me : Side) (n : Running) (kept : KeptArrivals) (c : Core) (from source : ℕ) (bytes : List ℕ) → IsCore n c → n.had < 2 ^ 31
+    → from < count_of (other me) n.seat.sizes → source ≡ from
+    → ((received : List Received) → HoldsArrivals n.inbox received
+    → HoldsArrivals kept (received ++ record { source = source; arrival = record { stamp = n.had; bytes = bytes } } ∷ []))
+    → IsCore (record n { inbox = kept }) (arrive n.seat.sizes me c from bytes)
+takes-more me n kept c from source bytes is below there same holds =
+    let had : c.had ≡ n.had = is.had in
+    subst (IsCore (record n { inbox = kept })) (sym (arrive-takes n.seat.sizes me c from bytes there (omega arith)))
+    (record { state = is.state; had = had; inbox = holds-more kept c.inbox from c.had bytes source n.had (holds (received_of c.inbox) is.inbox) same had })

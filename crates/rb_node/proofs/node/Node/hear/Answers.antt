@@ -1,8 +1,8 @@
-use Rattle.std.proofs.Common.{◌≡◌, ◌<◌, ◌≤◌, ◌^◌, sym, subst, arith}
+use Rattle.std.proofs.Common.{◌<◌, ◌≤◌, sym, subst, arith}
 use Rattle.rb_base.specs.Nodes.{other, side_of}
 use Rattle.rb_rules.specs.Slots.{count_of}
-use Rattle.rb_node.specs.Cores.{IsCore, Running, received_of}
-use Rattle.rb_node.proofs.Between.{arrive-nobody, arrive-spent, arrive-takes, holds-more}
+use Rattle.rb_node.specs.Cores.{IsCore, Running}
+use Rattle.rb_node.proofs.Between.{arrive-nobody, arrive-spent, takes-more}
 use Rattle.rb_node.proofs.node.Node.hear.Goals as goal
 
 pub returns-then-self-ge-MOST_TICKS-clause-core : goal.returns-then-self-ge-MOST_TICKS-clause-core
@@ -21,14 +21,6 @@ returns-in-Some-clause-core g c =
     let v = c.self.inside.engine in
     let there : c.args.from < count_of (other (side_of g.K.Kind.CODE)) v.sizes =
     subst (λ k. c.args.from < k) (rw (c.CODE.ensures, c.shape.ensures, c.plan.ensures) at c.others.ensures.value) c.if-from-others.false in
-    let n : Running = record { seat = v; had = c.self.inside.had; inbox = c.take_spelled.new.self; shown = c.self.inside.shown } in
+    let n : Running = record { seat = v; had = c.self.inside.had; inbox = c.self.inside.inbox; shown = c.self.inside.shown } in
     rw (← c.self.view_is) (λ d is.
-    let had : d.had ≡ c.self.inside.had = is.had in
-    let below : d.had < 2 ^ 31 = omega arith in
-    subst (IsCore n) (sym (arrive-takes v.sizes (side_of g.K.Kind.CODE) d c.args.from c.args.bytes.now there below))
-    (record {
-      state = is.state;
-      had = is.had;
-      inbox = holds-more c.take_spelled.new.self d.inbox c.args.from d.had c.args.bytes.now c.in-Some.source c.self.inside.had
-          (c.take_spelled.ensures.shows (received_of d.inbox) is.inbox) c.in-Some.ensures.value had;
-    }))
+    takes-more (side_of g.K.Kind.CODE) n c.take_spelled.new.self d c.args.from c.in-Some.source c.args.bytes.now is c.if-self-ge-MOST_TICKS.false there c.in-Some.ensures.value c.take_spelled.ensures.shows)
