@@ -4,12 +4,12 @@ ghost use Rattle.std.specs.Int.{from_le_bytes, w32, w64};
 ghost use Rattle.rb_rules.specs.Sense.{is_one, sense_of_one, suits, tag_suits, value_in, value_of};
 ghost use Rattle.rb_rules.specs.Spelling.{message_in};
 ghost use Rattle.rb_base.specs.declared.values.Heard.{Heard};
-ghost use Rattle.rb_frame.specs.Spellings.{high_of, len_of, spelled};
+ghost use Rattle.rb_frame.specs.Spellings.{high_of as high_in, len_of, spelled};
 ghost use Rattle.rb_eligible.specs.Readings.{Says, StartsAsWord, bytes_of};
 
 use crate::words::{has_form, message_in, value_in as value_at};
-use byteorder::{ByteOrder, LittleEndian};
 use rb_base::Heard;
+use rb_frame::spelling::{high_of, low_of, tail_of};
 use rb_frame::{Message, Tag};
 use rb_rules::{Expect, Sense};
 
@@ -78,7 +78,7 @@ fn starts_as_word(low: u64, expect: &Expect) -> bool
 #[inline(always)]
 pub(crate) fn word_of(low: u64, tail: u64, expect: &Expect) -> Option<u32>
     requires { len_of tail ≤ 12 }
-    ensures { IfSome result (λ word. Says expect.now (spelled low (high_of tail) (len_of tail)) true (Some (Heard.Word word))) }
+    ensures { IfSome result (λ word. Says expect.now (spelled low (high_in tail) (len_of tail)) true (Some (Heard.Word word))) }
 {
     let len = tail >> 32;
     let high = (tail % 0x1_0000_0000) as u32;
@@ -200,29 +200,6 @@ fn room_with(bytes: &[u8]) -> [u8; 12]
     let mut room = [0; 12];
     room[..bytes.len()].copy_from_slice(bytes);
     room
-}
-
-// The first eight bytes as a number.
-fn low_of(room: &[u8; 12]) -> u64
-    ensures { result ≡ from_le_bytes w64 (take 8 room.now) }
-{
-    LittleEndian::read_u64(&room[..8])
-}
-
-// The other four.
-fn high_of(room: &[u8; 12]) -> u32
-    ensures { result ≡ from_le_bytes w32 (drop 8 room.now) }
-{
-    LittleEndian::read_u32(&room[8..])
-}
-
-// Four bytes as a number, and above them how many bytes there are.
-fn tail_of(high: u32, len: usize) -> u64
-    requires { len ≤ 12 }
-    ensures high { high_of result ≡ high }
-    ensures len { len_of result ≡ len }
-{
-    u64::from(high) + len as u64 * 0x1_0000_0000
 }
 
 /// What is kept of an arrival that is no longer than any message.

@@ -4,24 +4,8 @@ ghost use Rattle.std.specs.Int.{to_le_bytes, w32, w64};
 ghost use Rattle.rb_rules.specs.Spelling.{check_of, has_form, message_in};
 ghost use Rattle.rb_frame.specs.Spellings.{spelled};
 
+use rb_frame::spelling::check;
 use rb_frame::{Message, Version, message_with, tag_in};
-
-// The exclusive or of the four bytes of a number.
-fn check_of_four(word: u32) -> u8
-    ensures { result ≡ check_of (to_le_bytes w32 word) }
-{
-    let half = word ^ (word >> 16);
-    ((half ^ (half >> 8)) % 256) as u8
-}
-
-// The exclusive or of twelve bytes.
-fn check(low: u64, high: u32) -> u8
-    ensures { result ≡ check_of (to_le_bytes w64 low ++ to_le_bytes w32 high) }
-{
-    let first = (low % 0x1_0000_0000) as u32;
-    let second = (low >> 32) as u32;
-    check_of_four(first ^ second ^ high)
-}
 
 // Whether the bus's number and the check are at the end.
 fn has_end(bus: u8, low: u64, high: u32) -> bool

@@ -57,22 +57,27 @@ fn filled(bytes: &[u8]) -> [u8; 32]
     all
 }
 
-// The first eight bytes as a number.
-fn low_of(all: &[u8; 32]) -> u64
+/// The first eight bytes as a number.
+#[inline(always)]
+pub fn low_of(all: &[u8]) -> u64
+    requires { 8 ≤ length all.now }
     ensures { result ≡ from_le_bytes w64 (take 8 all.now) }
 {
     LittleEndian::read_u64(&all[..8])
 }
 
-// The next four.
-fn high_of(all: &[u8; 32]) -> u32
+/// The next four.
+#[inline(always)]
+pub fn high_of(all: &[u8]) -> u32
+    requires { 12 ≤ length all.now }
     ensures { result ≡ from_le_bytes w32 (take 4 (drop 8 all.now)) }
 {
     LittleEndian::read_u32(&all[8..12])
 }
 
-// Four bytes as a number, and above them how many bytes there are.
-fn tail_of(high: u32, len: usize) -> u64
+/// Four bytes as a number, and above them how many bytes there are.
+#[inline(always)]
+pub fn tail_of(high: u32, len: usize) -> u64
     requires { len ≤ 32 }
     ensures { result ≡ high + len * 4294967296 }
 {
@@ -134,9 +139,9 @@ fn check_of_four(word: u32) -> u8
     ((half ^ (half >> 8)) % 256) as u8
 }
 
-// The exclusive or of twelve bytes.
+/// The exclusive or of twelve bytes.
 #[inline(always)]
-fn check(low: u64, high: u32) -> u8
+pub fn check(low: u64, high: u32) -> u8
     ensures { result ≡ check_of (to_le_bytes w64 low ++ to_le_bytes w32 high) }
 {
     let first = (low % 0x1_0000_0000) as u32;
