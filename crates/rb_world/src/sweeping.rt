@@ -1,19 +1,15 @@
 //! How arrivals that were left behind are taken.
-ghost use Rattle.std.specs.Prelude.{◌≡◌, [], ◌∷◌, ◌<◌, IfSome, length};
-ghost use Rattle.rb_base.specs.Nodes.{other, side_of};
+ghost use Rattle.std.specs.Prelude.{◌≡◌, [], ◌∷◌, ◌<◌, length};
+ghost use Rattle.rb_base.specs.Nodes.{side_of};
 ghost use Rattle.rb_rules.specs.Lawful.{kind_of};
 ghost use Rattle.rb_rules.specs.Links.{name_of};
-ghost use Rattle.rb_rules.specs.Slots.{count_of};
-ghost use Rattle.rb_rules.specs.WorldStep.{World as RunWorld};
 ghost use Rattle.rb_queue.specs.Waiting.{HasLane, lane_of};
-ghost use Rattle.rb_world.specs.Sites.{number_of};
+ghost use Rattle.rb_world.specs.Sites.{IsSource, number_of};
 ghost use Rattle.rb_laws_sweeps.specs.AheadOf.{until_tick};
 ghost use Rattle.rb_world_traffic.specs.Arriving.{number_of as number_in};
-ghost use Rattle.rb_world.specs.Runs.{nodes_of};
-ghost use Rattle.rb_world.specs.Trailing.{CanCatchUpAll, CanCatchUpAt, CanSweep, CatchesUp, CatchesUpAll, CatchesUpAt, HasSwept, KeepsLanes, Trails, until_from};
+ghost use Rattle.rb_world.specs.Trailing.{CanCatchUpAll, CanCatchUpAt, CanCatchUp, CanSweep, CatchesUp, CatchesUpAll, CatchesUpAt, HasSwept, HasTimeAfter, KeepsLanes};
 ghost use Rattle.rb_world.specs.Unstamped.{AreOfSources, TakesInDue, with_nothing_before};
 ghost use Rattle.rb_world.specs.Observing.{TellsCatchUp, TellsCatchUpAll, TellsCatchUpAt, TellsSweep, TellsSweepFor};
-ghost use Rattle.rb_world.specs.Buses.{scenario_of};
 
 use crate::Site;
 use crate::bus::Bus;
@@ -35,8 +31,8 @@ pub(crate) fn sweep<K: Kind>(
     agenda: &mut Agenda,
 )
     requires name { node ≡ name_of (side_of K.CODE) (number_of site.old) }
-    requires may { CanSweep (scenario_of bus.now) (side_of K.CODE) until site.old agenda.old }
-    ensures swept { HasSwept (scenario_of bus.now) (side_of K.CODE) until site.old site.new
+    requires may { CanSweep bus.now (side_of K.CODE) until site.old agenda.old }
+    ensures swept { HasSwept bus.now (side_of K.CODE) until site.old site.new
         agenda.old agenda.new }
     ensures number { number_of site.new ≡ number_of site.old }
     ensures lanes { KeepsLanes agenda.old agenda.new }
@@ -66,8 +62,7 @@ pub(crate) fn sweep<K: Kind>(
 // An arrival is taken in unstamped, if it comes before this time.
 #[inline(always)]
 fn take_in_before<K: Kind>(until: u64, arrival: &Arrival, site: &mut Site<K>)
-    requires sender { arrival.now.from
-        < count_of (other (side_of K.CODE)) site.old.node.seat.sizes }
+    requires sender { IsSource (side_of K.CODE) site.old arrival.now.from }
     ensures stands { TakesInDue (side_of K.CODE) until (arrival.now ∷ []) site.old site.new }
     ensures seat { site.new.node.seat ≡ site.old.node.seat }
 {
@@ -111,13 +106,12 @@ fn sweep_told<K: Kind, T: Observer>(
     observer: &mut T,
 )
     requires name { node ≡ name_of (side_of K.CODE) (number_of site.old) }
-    requires may { CanSweep (scenario_of bus.now) (side_of K.CODE) until site.old agenda.old }
-    ensures swept { HasSwept (scenario_of bus.now) (side_of K.CODE) until site.old site.new
+    requires may { CanSweep bus.now (side_of K.CODE) until site.old agenda.old }
+    ensures swept { HasSwept bus.now (side_of K.CODE) until site.old site.new
         agenda.old agenda.new }
     ensures number { number_of site.new ≡ number_of site.old }
     ensures lanes { KeepsLanes agenda.old agenda.new }
-    ensures told { TellsSweep T T.observes (scenario_of bus.now)
-        (side_of K.CODE) until site.old agenda.old
+    ensures told { TellsSweep T T.observes bus.now (side_of K.CODE) until site.old agenda.old
         observer.old observer.new }
 {
     'events: loop {
@@ -145,15 +139,14 @@ pub(crate) fn sweep_for<K: Kind, T: Observer>(
     observer: &mut T,
 )
     requires name { node ≡ name_of (side_of K.CODE) (number_of site.old) }
-    requires may { CanSweep (scenario_of setup.now.bus.now) (side_of K.CODE) until site.old
+    requires may { CanSweep setup.now.bus.now (side_of K.CODE) until site.old
         agenda.old }
-    ensures swept { HasSwept (scenario_of setup.now.bus.now) (side_of K.CODE) until site.old
+    ensures swept { HasSwept setup.now.bus.now (side_of K.CODE) until site.old
         site.new
         agenda.old agenda.new }
     ensures number { number_of site.new ≡ number_of site.old }
     ensures lanes { KeepsLanes agenda.old agenda.new }
-    ensures told { TellsSweepFor T T.observes (scenario_of setup.now.bus.now) setup.now.observed
-        (side_of K.CODE)
+    ensures told { TellsSweepFor T T.observes setup.now.bus.now setup.now.observed (side_of K.CODE)
         node until site.old agenda.old observer.old observer.new }
 {
     if is_observed(setup.observed, node) {
@@ -188,13 +181,12 @@ fn catch_up_at<K: Kind, T: Observer>(
 )
     requires within { i < length sites.old.items }
     requires small { tick.1 < 18446744073709551615 }
-    requires may { CanCatchUpAt (scenario_of setup.now.bus.now) tick (side_of K.CODE) i
+    requires may { CanCatchUpAt setup.now.bus.now tick (side_of K.CODE) i
         sites.old.items agenda.old }
-    ensures caught { CatchesUpAt (scenario_of setup.now.bus.now) tick (side_of K.CODE) i
+    ensures caught { CatchesUpAt setup.now.bus.now tick (side_of K.CODE) i
         sites.old.items sites.new.items agenda.old agenda.new }
     ensures many { length sites.new.items ≡ length sites.old.items }
-    ensures told { TellsCatchUpAt T T.observes (scenario_of setup.now.bus.now) setup.now.observed
-        tick
+    ensures told { TellsCatchUpAt T T.observes setup.now.bus.now setup.now.observed tick
         (side_of K.CODE) i sites.old.items agenda.old observer.old observer.new }
 {
     let site = &mut sites[i];
@@ -212,12 +204,11 @@ fn catch_up_all<K: Kind, T: Observer>(
     observer: &mut T,
 )
     requires small { tick.1 < 18446744073709551615 }
-    requires may { CanCatchUpAll (scenario_of setup.now.bus.now) tick (side_of K.CODE)
+    requires may { CanCatchUpAll setup.now.bus.now tick (side_of K.CODE)
         sites.old.items agenda.old }
-    ensures caught { CatchesUpAll (scenario_of setup.now.bus.now) tick (side_of K.CODE)
+    ensures caught { CatchesUpAll setup.now.bus.now tick (side_of K.CODE)
         sites.old.items sites.new.items agenda.old agenda.new }
-    ensures told { TellsCatchUpAll T T.observes (scenario_of setup.now.bus.now) setup.now.observed
-        tick
+    ensures told { TellsCatchUpAll T T.observes setup.now.bus.now setup.now.observed tick
         (side_of K.CODE) sites.old.items agenda.old observer.old observer.new }
 {
     for i in 0..sites.len() {
@@ -232,13 +223,10 @@ pub(crate) fn catch_up<T: Observer>(
     run: &mut Run,
     observer: &mut T,
 )
-    requires small { IfSome tick (λ t. t.1 < 18446744073709551615) }
-    requires trails { (w : RunWorld) × (v : RunWorld)
-        × Trails (scenario_of setup.now.bus.now) (nodes_of run.old) run.old.scene
-        (until_from tick) w v }
-    ensures caught { CatchesUp (scenario_of setup.now.bus.now) tick run.old run.new }
-    ensures told { TellsCatchUp T T.observes (scenario_of setup.now.bus.now) setup.now.observed
-        tick run.old
+    requires small { HasTimeAfter tick }
+    requires trails { CanCatchUp setup.now.bus.now tick run.old }
+    ensures caught { CatchesUp setup.now.bus.now tick run.old run.new }
+    ensures told { TellsCatchUp T T.observes setup.now.bus.now setup.now.observed tick run.old
         observer.old observer.new }
 {
     if let Some(tick) = tick {

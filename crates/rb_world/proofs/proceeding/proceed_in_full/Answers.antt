@@ -26,15 +26,10 @@ say-requires-clause-lane g c =
     has-lane sc c.args.scene.now w c.args.node at.surrounds
     (subst (IsNodeOf sc.sizes) (sym c.requires.name) (node-named sc (side_of g.K.Kind.CODE) (number_of c.args.site.now) at.within))
 
-pub say-requires-clause-stage : goal.say-requires-clause-stage
-say-requires-clause-stage g c =
+pub say-requires-clause-span : goal.say-requires-clause-span
+say-requires-clause-span g c =
     let may = c.requires.may.2 in
-    (may.spans (span_in c.in-Some.span) (sym (c.entering.ensures (scenario_of c.args.bus.now) c.requires.may.1 may.at.stands) ∙ ap (option_map span_in) c.in-Some.is)).stage
-
-pub say-requires-clause-first : goal.say-requires-clause-first
-say-requires-clause-first g c =
-    let may = c.requires.may.2 in
-    (may.spans (span_in c.in-Some.span) (sym (c.entering.ensures (scenario_of c.args.bus.now) c.requires.may.1 may.at.stands) ∙ ap (option_map span_in) c.in-Some.is)).first
+    may.spans (span_in c.in-Some.span) (sym (c.entering.ensures (scenario_of c.args.bus.now) c.requires.may.1 may.at.stands) ∙ ap (option_map span_in) c.in-Some.is)
 
 pub await_tick-requires-clause-around : goal.await_tick-requires-clause-around
 await_tick-requires-clause-around g c =
