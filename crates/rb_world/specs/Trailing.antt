@@ -232,9 +232,10 @@ pub record ComesToRecord (sc : Scenario) (kept : Each KeptSite) (scene : Scene) 
 
 -- What calls ask, for some world of the definitions, and what they give, for each.
 
--- the node of which this is kept may be swept up to this time
-abbrev pub CanSweep : KeptBus → Side → ℕ → KeptSite → Each Held → Type 0
-CanSweep bus me until site lanes = (sites : Each Site) × (s : Site) × MaySweepAt (scenario_of bus) me until site lanes sites s
+-- the node of this name, of which this is kept, may be swept up to this time
+abbrev pub CanSweep : KeptBus → Side → NodeName → ℕ → KeptSite → Each Held → Type 0
+CanSweep bus me node until site lanes =
+    (node ≡ name_of me (number_of site)) × (sites : Each Site) × (s : Site) × MaySweepAt (scenario_of bus) me until site lanes sites s
 
 -- a node that may be swept is swept: `before` was kept of it and `held` of what is pending, and now
 -- `after` and `lanes` are
@@ -248,24 +249,13 @@ KeepsLanes held lanes = (node : NodeName) → HasLane held node → HasLane lane
 
 -- Catching up with the last tick, which was at this node at this time.
 
--- the first i nodes of the kind have been swept, and the next may be
-abbrev pub CanCatchUpAt : KeptBus → (NodeName × ℕ) → Side → ℕ → List KeptSite → Each Held → Type 0
-CanCatchUpAt bus tick me i kept lanes = (first : List KeptSite) × (begun : Each Held) × (nodes : Each Site)
-    × (MayCatchUp (scenario_of bus) (until_from (Some tick)) me first begun nodes × HaveCaughtUp (scenario_of bus) (until_from (Some tick)) me i kept lanes nodes)
-
 -- a time comes after the last tick, if there was one
-abbrev pub HasTimeAfter : Option (NodeName × ℕ) → Type 0
-HasTimeAfter tick = IfSome tick (λ t. t.1 < 18446744073709551615)
+abbrev pub HasLater : Option (NodeName × ℕ) → Type 0
+HasLater tick = IfSome tick (λ t. t.1 < 18446744073709551615)
 
--- a node that may be swept up to this tick is swept
-abbrev pub CatchesUpAt : KeptBus → (NodeName × ℕ) → Side → ℕ → List KeptSite → List KeptSite → Each Held → Each Held → Type 0
-CatchesUpAt bus tick me i before after held lanes = (first : List KeptSite) (begun : Each Held) (nodes : Each Site)
-    → MayCatchUp (scenario_of bus) (until_from (Some tick)) me first begun nodes → HaveCaughtUp (scenario_of bus) (until_from (Some tick)) me i before held nodes
-    → HaveCaughtUp (scenario_of bus) (until_from (Some tick)) me (i + 1) after lanes nodes
-
--- all nodes of the kind may be swept
+-- all nodes of the kind may be swept up to this tick, after which a time comes
 abbrev pub CanCatchUpAll : KeptBus → (NodeName × ℕ) → Side → List KeptSite → Each Held → Type 0
-CanCatchUpAll bus tick me kept lanes = (nodes : Each Site) × MayCatchUp (scenario_of bus) (until_from (Some tick)) me kept lanes nodes
+CanCatchUpAll bus tick me kept lanes = HasLater (Some tick) × (nodes : Each Site) × MayCatchUp (scenario_of bus) (until_from (Some tick)) me kept lanes nodes
 
 -- all nodes of a kind that may be swept up to this tick are swept
 abbrev pub CatchesUpAll : KeptBus → (NodeName × ℕ) → Side → List KeptSite → List KeptSite → Each Held → Each Held → Type 0

@@ -73,7 +73,7 @@ pub(crate) fn tell_arrival<K: Kind, T: Observer>(
     requires name { node ≡ name_of (side_of K.CODE) (number_of site.now) }
     requires stands { StandsForSome (scenario_of bus.now) (side_of K.CODE) site.now }
     requires may { CanHearAt bus.now (side_of K.CODE) node place site.now agenda.now }
-    ensures { TellsArrival T T.observes bus.now (side_of K.CODE) node place site.now agenda.now
+    ensures { TellsArrival T.observes bus.now (side_of K.CODE) node place site.now agenda.now
         observer.old observer.new }
 {
     let arrival = agenda.arrival(node, place);
@@ -116,7 +116,7 @@ pub(crate) fn tell_tick_for<K: Kind, T: Observer>(
     observer: &mut T,
 )
     requires may { CanShowTick setup.now.bus.now (side_of K.CODE) node site.now ports.now }
-    ensures { TellsTickFor T T.observes setup.now.bus.now setup.now.observed (side_of K.CODE) node
+    ensures { TellsTickFor T.observes setup.now.bus.now setup.now.observed (side_of K.CODE) node
         site.now ports.now observer.old observer.new }
 {
     if is_observed(setup.observed, node) {

@@ -68,8 +68,8 @@ fn open_sites<K: Kind>(alloc: Global, bus: &Bus, count: u8) -> Result<Vec<Site<K
 
 // What surrounds them before anything is pending.
 fn open_scene(alloc: Global, bus: &Bus) -> Result<Scene, OutOfMemory>
-    ensures { IfOk result (λ scene. Surrounds (scenario_of bus.now) scene (before_all
-        (scenario_of bus.now))) }
+    ensures { IfOk result (λ scene. Surrounds (scenario_of bus.now) scene
+        (before_all (scenario_of bus.now))) }
 {
     let agenda = Agenda::new(alloc, bus.shape(), bus.room())?;
     let ports = open_ports(alloc, bus)?;

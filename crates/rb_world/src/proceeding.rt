@@ -34,8 +34,7 @@ fn await_tick<K: Kind>(bus: &Bus, node: NodeName, site: &Site<K>, scene: &mut Sc
     requires around { (w : World) × Surrounds (scenario_of bus.now) scene.old w }
     requires spare { 1 ≤ spare_of (lane_of scene.old.agenda node) }
     ensures others { OthersStay (kind_of node) scene.old scene.new }
-    ensures around { AwaitsNext bus.now (side_of K.CODE) node site.now scene.old
-        scene.new }
+    ensures around { AwaitsNext bus.now (side_of K.CODE) node site.now scene.old scene.new }
 {
     if let Some(tick) = site.node().next_tick() {
         let time = bus.clock(node).at(tick);
@@ -64,8 +63,7 @@ fn stop_at(bus: &Bus, node: NodeName, scene: &mut Scene)
 fn proceed_in_full<K: Kind>(bus: &Bus, node: NodeName, site: &mut Site<K>, scene: &mut Scene)
     requires name { node ≡ name_of (side_of K.CODE) (number_of site.old) }
     requires may { CanProceed bus.now (side_of K.CODE) site.old scene.old }
-    ensures { HasProceeded bus.now (side_of K.CODE) site.old site.new scene.old
-        scene.new }
+    ensures { HasProceeded bus.now (side_of K.CODE) site.old site.new scene.old scene.new }
 {
     if let Some(span) = site.entering() {
         if !bus.is_good(node, &span) {
@@ -85,8 +83,7 @@ fn proceed_in_full<K: Kind>(bus: &Bus, node: NodeName, site: &mut Site<K>, scene
 pub(crate) fn proceed<K: Kind>(bus: &Bus, node: NodeName, site: &mut Site<K>, scene: &mut Scene)
     requires name { node ≡ name_of (side_of K.CODE) (number_of site.old) }
     requires may { CanProceed bus.now (side_of K.CODE) site.old scene.old }
-    ensures { HasProceeded bus.now (side_of K.CODE) site.old site.new scene.old
-        scene.new }
+    ensures { HasProceeded bus.now (side_of K.CODE) site.old site.new scene.old scene.new }
 {
     if bus.is_calm(node, site.node().engine().frame()) {
         await_tick(bus, node, site, scene);

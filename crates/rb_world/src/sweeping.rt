@@ -1,15 +1,14 @@
 //! How arrivals that were left behind are taken.
-ghost use Rattle.std.specs.Prelude.{◌≡◌, [], ◌∷◌, ◌<◌, length};
+ghost use Rattle.std.specs.Prelude.{◌≡◌, [], ◌∷◌, ◌<◌};
 ghost use Rattle.rb_base.specs.Nodes.{side_of};
 ghost use Rattle.rb_rules.specs.Lawful.{kind_of};
-ghost use Rattle.rb_rules.specs.Links.{name_of};
 ghost use Rattle.rb_queue.specs.Waiting.{HasLane, lane_of};
-ghost use Rattle.rb_world.specs.Sites.{IsSource, number_of};
+ghost use Rattle.rb_world.specs.Sites.{IsSource};
 ghost use Rattle.rb_laws_sweeps.specs.AheadOf.{until_tick};
 ghost use Rattle.rb_world_traffic.specs.Arriving.{number_of as number_in};
-ghost use Rattle.rb_world.specs.Trailing.{CanCatchUpAll, CanCatchUpAt, CanCatchUp, CanSweep, CatchesUp, CatchesUpAll, CatchesUpAt, HasSwept, HasTimeAfter, KeepsLanes};
+ghost use Rattle.rb_world.specs.Trailing.{CanCatchUpAll, CanCatchUp, CanSweep, CatchesUp, CatchesUpAll, HasSwept, HasLater, KeepsLanes};
 ghost use Rattle.rb_world.specs.Unstamped.{AreOfSources, TakesInDue, with_nothing_before};
-ghost use Rattle.rb_world.specs.Observing.{TellsCatchUp, TellsCatchUpAll, TellsCatchUpAt, TellsSweep, TellsSweepFor};
+ghost use Rattle.rb_world.specs.Observing.{TellsCatchUp, TellsCatchUpAll, TellsSweep, TellsSweepFor};
 
 use crate::Site;
 use crate::bus::Bus;
@@ -30,11 +29,9 @@ pub(crate) fn sweep<K: Kind>(
     site: &mut Site<K>,
     agenda: &mut Agenda,
 )
-    requires name { node ≡ name_of (side_of K.CODE) (number_of site.old) }
-    requires may { CanSweep bus.now (side_of K.CODE) until site.old agenda.old }
-    ensures swept { HasSwept bus.now (side_of K.CODE) until site.old site.new
-        agenda.old agenda.new }
-    ensures number { number_of site.new ≡ number_of site.old }
+    requires may { CanSweep bus.now (side_of K.CODE) node until site.old agenda.old }
+    ensures swept { HasSwept bus.now (side_of K.CODE) until site.old site.new agenda.old
+        agenda.new }
     ensures lanes { KeepsLanes agenda.old agenda.new }
 {
     let clock = bus.clock(node);
@@ -83,8 +80,8 @@ pub(crate) fn take_in_all<K: Kind>(
 )
     requires lane { HasLane agenda.old node }
     requires senders { AreOfSources (side_of K.CODE) site.old (lane_of agenda.old node).arrivals }
-    ensures stands { TakesInDue (side_of K.CODE) until (lane_of agenda.old node).arrivals
-        site.old site.new }
+    ensures stands { TakesInDue (side_of K.CODE) until (lane_of agenda.old node).arrivals site.old
+        site.new }
     ensures seat { site.new.node.seat ≡ site.old.node.seat }
     ensures lanes { agenda.new ≡ with_nothing_before until node agenda.old }
 {
@@ -105,13 +102,11 @@ fn sweep_told<K: Kind, T: Observer>(
     agenda: &mut Agenda,
     observer: &mut T,
 )
-    requires name { node ≡ name_of (side_of K.CODE) (number_of site.old) }
-    requires may { CanSweep bus.now (side_of K.CODE) until site.old agenda.old }
-    ensures swept { HasSwept bus.now (side_of K.CODE) until site.old site.new
-        agenda.old agenda.new }
-    ensures number { number_of site.new ≡ number_of site.old }
+    requires may { CanSweep bus.now (side_of K.CODE) node until site.old agenda.old }
+    ensures swept { HasSwept bus.now (side_of K.CODE) until site.old site.new agenda.old
+        agenda.new }
     ensures lanes { KeepsLanes agenda.old agenda.new }
-    ensures told { TellsSweep T T.observes bus.now (side_of K.CODE) until site.old agenda.old
+    ensures told { TellsSweep T.observes bus.now (side_of K.CODE) until site.old agenda.old
         observer.old observer.new }
 {
     'events: loop {
@@ -138,15 +133,11 @@ pub(crate) fn sweep_for<K: Kind, T: Observer>(
     agenda: &mut Agenda,
     observer: &mut T,
 )
-    requires name { node ≡ name_of (side_of K.CODE) (number_of site.old) }
-    requires may { CanSweep setup.now.bus.now (side_of K.CODE) until site.old
-        agenda.old }
-    ensures swept { HasSwept setup.now.bus.now (side_of K.CODE) until site.old
-        site.new
-        agenda.old agenda.new }
-    ensures number { number_of site.new ≡ number_of site.old }
+    requires may { CanSweep setup.now.bus.now (side_of K.CODE) node until site.old agenda.old }
+    ensures swept { HasSwept setup.now.bus.now (side_of K.CODE) until site.old site.new agenda.old
+        agenda.new }
     ensures lanes { KeepsLanes agenda.old agenda.new }
-    ensures told { TellsSweepFor T T.observes setup.now.bus.now setup.now.observed (side_of K.CODE)
+    ensures told { TellsSweepFor T.observes setup.now.bus.now setup.now.observed (side_of K.CODE)
         node until site.old agenda.old observer.old observer.new }
 {
     if is_observed(setup.observed, node) {
@@ -170,31 +161,6 @@ fn until_before(from: NodeName, time: u64, node: NodeName) -> u64
     }
 }
 
-// One node more is swept up to the tick of a node at a time.
-fn catch_up_at<K: Kind, T: Observer>(
-    setup: &Setup<'_>,
-    tick: (NodeName, u64),
-    i: usize,
-    sites: &mut Vec<Site<K>>,
-    agenda: &mut Agenda,
-    observer: &mut T,
-)
-    requires within { i < length sites.old.items }
-    requires small { tick.1 < 18446744073709551615 }
-    requires may { CanCatchUpAt setup.now.bus.now tick (side_of K.CODE) i
-        sites.old.items agenda.old }
-    ensures caught { CatchesUpAt setup.now.bus.now tick (side_of K.CODE) i
-        sites.old.items sites.new.items agenda.old agenda.new }
-    ensures many { length sites.new.items ≡ length sites.old.items }
-    ensures told { TellsCatchUpAt T T.observes setup.now.bus.now setup.now.observed tick
-        (side_of K.CODE) i sites.old.items agenda.old observer.old observer.new }
-{
-    let site = &mut sites[i];
-    let node = site.name();
-    let until = until_before(tick.0, tick.1, node);
-    sweep_for(setup, node, until, site, agenda, observer);
-}
-
 // Sweeps every node of one kind up to the tick of a node at a time.
 fn catch_up_all<K: Kind, T: Observer>(
     setup: &Setup<'_>,
@@ -203,16 +169,17 @@ fn catch_up_all<K: Kind, T: Observer>(
     agenda: &mut Agenda,
     observer: &mut T,
 )
-    requires small { tick.1 < 18446744073709551615 }
-    requires may { CanCatchUpAll setup.now.bus.now tick (side_of K.CODE)
-        sites.old.items agenda.old }
-    ensures caught { CatchesUpAll setup.now.bus.now tick (side_of K.CODE)
-        sites.old.items sites.new.items agenda.old agenda.new }
-    ensures told { TellsCatchUpAll T T.observes setup.now.bus.now setup.now.observed tick
+    requires { CanCatchUpAll setup.now.bus.now tick (side_of K.CODE) sites.old.items agenda.old }
+    ensures caught { CatchesUpAll setup.now.bus.now tick (side_of K.CODE) sites.old.items
+        sites.new.items agenda.old agenda.new }
+    ensures told { TellsCatchUpAll T.observes setup.now.bus.now setup.now.observed tick
         (side_of K.CODE) sites.old.items agenda.old observer.old observer.new }
 {
     for i in 0..sites.len() {
-        catch_up_at(setup, tick, i, sites, agenda, observer);
+        let site = &mut sites[i];
+        let node = site.name();
+        let until = until_before(tick.0, tick.1, node);
+        sweep_for(setup, node, until, site, agenda, observer);
     }
 }
 
@@ -223,10 +190,10 @@ pub(crate) fn catch_up<T: Observer>(
     run: &mut Run,
     observer: &mut T,
 )
-    requires small { HasTimeAfter tick }
+    requires small { HasLater tick }
     requires trails { CanCatchUp setup.now.bus.now tick run.old }
     ensures caught { CatchesUp setup.now.bus.now tick run.old run.new }
-    ensures told { TellsCatchUp T T.observes setup.now.bus.now setup.now.observed tick run.old
+    ensures told { TellsCatchUp T.observes setup.now.bus.now setup.now.observed tick run.old
         observer.old observer.new }
 {
     if let Some(tick) = tick {

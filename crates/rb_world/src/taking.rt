@@ -88,8 +88,7 @@ pub(crate) fn hear_at<K: Kind>(
     requires name { node ≡ name_of (side_of K.CODE) (number_of site.old) }
     requires may { CanHearAt bus.now (side_of K.CODE) node place site.old agenda.old }
     ensures lane { agenda.new ≡ without_arrival node place agenda.old }
-    ensures stands { HasHeard bus.now (side_of K.CODE) node place site.old site.new
-        agenda.old }
+    ensures stands { HasHeard bus.now (side_of K.CODE) node place site.old site.new agenda.old }
     ensures number { number_of site.new ≡ number_of site.old }
 {
     let arrival = agenda.arrival(node, place);

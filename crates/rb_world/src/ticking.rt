@@ -62,8 +62,8 @@ fn begin(bus: &Bus, node: NodeName, epoch: Option<Epoch>, scene: &mut Scene)
     requires node { IsNodeOf bus.now.sizes node }
     requires tick { IfSome epoch (λ e. e.tick ≤ 2 ^ 31) }
     requires around { (w : World) × Surrounds (scenario_of bus.now) scene.old w }
-    ensures around { Changes bus.now scene.old scene.new (begun_at
-        (scenario_of bus.now) node epoch) }
+    ensures around { Changes bus.now scene.old scene.new
+        (begun_at (scenario_of bus.now) node epoch) }
     ensures rest { scene.new ≡ record scene.old { book = scene.new.book } }
 {
     if let Some(epoch) = epoch {
@@ -152,8 +152,8 @@ fn depart(
     requires message { IfSome message IsSendable }
     requires around { (w : World) × Surrounds (scenario_of bus.now) scene.old w }
     requires room { HasRoomFor (scenario_of bus.now) (other (kind_of node)) scene.old }
-    ensures { Changes bus.now scene.old scene.new (sent_by
-        (scenario_of bus.now) node frame k message) }
+    ensures { Changes bus.now scene.old scene.new
+        (sent_by (scenario_of bus.now) node frame k message) }
 {
     if let Some(message) = message {
         let departure = Departure {
@@ -179,8 +179,7 @@ fn tick_with_word<K: Kind>(
 )
     requires may { CanTick bus.now (side_of K.CODE) k site.old scene.old }
     requires word { IsWordAt bus.now (side_of K.CODE) k word site.old scene.old }
-    ensures { DoesTick bus.now (side_of K.CODE) k site.old site.new scene.old
-        scene.new }
+    ensures { DoesTick bus.now (side_of K.CODE) k site.old site.new scene.old scene.new }
 {
     let node = site.name();
     let step = site.tick(k, word);
@@ -203,8 +202,7 @@ fn tick_in_full<K: Kind>(
 )
     requires number { i ≡ number_of site.old }
     requires may { CanTick bus.now (side_of K.CODE) k site.old scene.old }
-    ensures { DoesTick bus.now (side_of K.CODE) k site.old site.new scene.old
-        scene.new }
+    ensures { DoesTick bus.now (side_of K.CODE) k site.old site.new scene.old scene.new }
 {
     let word = word_for(bus, apps, &scene.ports, i, site.node().wants_then());
     tick_with_word(bus, apps, k, word, site, scene);
@@ -223,8 +221,7 @@ pub(crate) fn tick<K: Kind>(
 )
     requires number { i ≡ number_of site.old }
     requires may { CanTick bus.now (side_of K.CODE) k site.old scene.old }
-    ensures { DoesTick bus.now (side_of K.CODE) k site.old site.new scene.old
-        scene.new }
+    ensures { DoesTick bus.now (side_of K.CODE) k site.old site.new scene.old scene.new }
 {
     if site.end_window() {
         let node = name_of::<K>(i);
