@@ -1,14 +1,15 @@
 -- What happens at one node, as it is done in parts.
-use Rattle.std.specs.Prelude.{⊤, [], ℕ, ◌≡◌, ◌+◌, ◌<◌, ◌≤◌, ◌^◌, true, Option, Some, None, IfSome, All, get_or, length, slice_get, Bool, if◌then◌else◌}
-use Rattle.rb_base.specs.{Nodes.{Side, other}, Nodes.Side.Biu, Sizes.Sizes, declared.values.See.TheVariants.Nothing, declared.event.Event.Event, declared.node.NodeName.NodeName}
-use Rattle.rb_rules.specs.{declared.closing.Closed.Closed, declared.message.Message.Message, declared.record.Epoch.Epoch, Book.{Each, Row, of_kind}, Clock.ComesBy, Core.{Act, Core, next_tick, pass_to}, Entries.IsListed, Goodness.{Scenario, clock_of}, Hearing.{Coming, Span}, Lawful.{IsLawful, kind_of}, Links.name_of, Slots.{count_of, first_diagnosis_of}, WorldStep.{Due, Site, World, after_act, after_arrival, at_node, await, due_of, happens, pass_and_tick, proceed, span_from, wants_in, with_act, with_delivery, with_epoch, with_message, word_of}}
+use Rattle.std.specs.Prelude.{⊤, ℕ, ◌≡◌, ◌+◌, ◌<◌, ◌≤◌, ◌^◌, true, Option, Some, None, IfSome, All, get_or, length, slice_get, Bool, if◌then◌else◌, ◌==◌, ◌&&◌, not}
+use Rattle.rb_base.specs.{Nodes.{Side, has, other, set_of}, Nodes.Side.Biu, Sizes.Sizes, declared.values.See.TheVariants.Nothing, declared.event.Event.Event, declared.node.NodeName.NodeName}
+use Rattle.rb_rules.specs.{declared.closing.Closed.Closed, declared.message.Message.Message, declared.record.Epoch.Epoch, Book.{Each, Row, of_kind}, Clock.{ComesBy, time_of}, Core.{Act, Core, next_tick, pass_to}, Entries.IsListed, Goodness.{Scenario, clock_of}, Hearing.{Coming, Span}, Lawful.{IsLawful, kind_of}, Links.name_of, Slots.{count_of, first_diagnosis_of}, WorldStep.{Due, Site, World, after_act, after_arrival, at_node, due_of, happens, pass_and_tick, proceed, span_from, wants_in, with_act, with_delivery, with_epoch, with_message, word_of}}
 use Rattle.rb_world_agenda.specs.{Agenda.IsAtTime, Holding.{Shows, without_waiting}}
-use Rattle.rb_node.specs.{Cores.{IsCore, passing_end}, declared.act.Want.Want}
+use Rattle.rb_node.specs.{Cores.{IsCore, next_of, passing_end}, declared.act.Want.Want}
 use Rattle.rb_world_book.specs.Changing.{with_row}
-use Rattle.rb_queue.specs.Waiting.{HasLane, Held, lane_of, spare_of, with_lane, without_place}
+use Rattle.rb_queue.specs.Waiting.{HasLane, Held, lane_of, spare_of, with_lane, with_tick, without_events, without_place}
 use Rattle.rb_world.specs.{Sites.{KeptSite, Stands as StandsFor, number_of}, Tells.row_at, declared.scene.Scene.Scene, Buses.{KeptBus, scenario_of}, Worlds.{AreNodes, IsNode, IsReached, Surrounds}}
 use Rattle.rb_world_traffic.specs.Arriving.{number_of as number_in}
 use Rattle.rb_node.specs.declared.act.Want.TheVariants as want
+use Rattle.rb_base.specs.declared.node.NodeName.TheVariants as node
 
 -- the world in which the site of node i of kind me has changed
 abbrev pub moved : Side → ℕ → (Site → Site) → World → World
@@ -54,10 +55,27 @@ pub record IsCoreAt (sc : Scenario) (me : Side) (node : NodeName) (site : KeptSi
   pub there : (s : Site) → slice_get (of_kind me w.sites) (number_in node) ≡ Some s → s.core ≡ c
   pub none_ahead : (s : Site) → slice_get (of_kind me w.sites) (number_in node) ≡ Some s → s.ahead ≡ None
 
--- in each world that has such a core there, its next tick is pending now
+-- the node's next tick that is not quiet is pending, if there is one
+abbrev pub awaited : Scenario → NodeName → Option ℕ → Scene → Scene
+awaited sc node None scene = scene
+awaited sc node (Some k) scene =
+    record scene { agenda = with_lane node (with_tick (time_of (clock_of sc (kind_of node) (number_in node)) k) (lane_of scene.agenda node)) scene.agenda }
+
+-- the node's next tick is pending now, which is that of each core for which the node stands
 abbrev pub AwaitsNext : KeptBus → Side → NodeName → KeptSite → Scene → Scene → Type 0
-AwaitsNext bus me node site before after = (w : World) (c : Core) → IsCoreAt (scenario_of bus) me node site c w → Surrounds (scenario_of bus) before w
-    → Surrounds (scenario_of bus) after (moved (kind_of node) (number_in node) (await (scenario_of bus) me (number_in node) []) w)
+AwaitsNext bus me node site before after =
+    (c : Core) → IsCore site.node c → after ≡ awaited (scenario_of bus) node (next_of me site.node c) before
+
+-- the running nodes without node `i`
+abbrev pub without : ℕ → ℕ → ℕ
+without running i = set_of (λ k. not (k == i) && has running k)
+
+-- nothing is pending at the node, and it is none of those that run
+abbrev pub stopped : NodeName → Scene → Scene
+stopped (node.Biu i) scene =
+    record scene { agenda = with_lane (node.Biu i) (without_events (lane_of scene.agenda (node.Biu i))) scene.agenda; running_biu = without scene.running_biu i }
+stopped (node.Rmu i) scene =
+    record scene { agenda = with_lane (node.Rmu i) (without_events (lane_of scene.agenda (node.Rmu i))) scene.agenda; running_rmu = without scene.running_rmu i }
 
 -- nothing has changed in the lanes of the other kind's nodes
 abbrev pub OthersStay : Side → Scene → Scene → Type 0
