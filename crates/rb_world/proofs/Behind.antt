@@ -394,5 +394,15 @@ behind-tick sc kept scene until w v me i a h side j y there =
         let stays : q ≡ _ = sym (ap (λ b. elim b as (λ _. Site) [ true ↦ after_act sc v.ports me i x (swept sc me i (a.time + 1) q) | false ↦ q ]) e) ∙ is in
         other-node q here e (ahead ∙ ap (λ (s : Site). s.ahead) (sym stays)) (runs ∙ ap (λ (s : Site). s.runs) (sym stays))
 
+-- a node that may take the first tick is there
+pub own-within : {sc : Scenario} {kept : Each KeptSite} {scene : Scene} {until : Side → ℕ → ℕ} {w v : World} {me : Side} {i : ℕ} {a : Timed} {time : ℕ} {own : List KeptSite}
+    → MayTakeFirst sc kept scene until w v me i a time own → i < length own
+own-within {sc} {kept} {scene} {until} {w} {v} {me} {i} m = subst (λ ks. i < length ks) m.own_is (node-of sc kept scene until w v m.at.trails me i m.at.first.node m.at.first.there).inside
+
+-- a time comes after its tick
+pub own-small : {sc : Scenario} {kept : Each KeptSite} {scene : Scene} {until : Side → ℕ → ℕ} {w v : World} {me : Side} {i : ℕ} {a : Timed} {time : ℕ} {own : List KeptSite}
+    → MayTakeFirst sc kept scene until w v me i a time own → time < 18446744073709551615
+own-small {sc} {kept} {scene} {until} {w} {v} {me} {i} {a} m = subst (λ t. t < 18446744073709551615) (sym m.time_is) (first-ahead sc kept scene until w v me i a m.at).small
+
 pub indexed : (ks : List KeptSite) (i : ℕ) (k : KeptSite) → i < length ks → k ≡ get_or ks i k → slice_get ks i ≡ Some k
 indexed ks i k within is = slice_get-get_or ks i k within ∙ ap Some (sym is)

@@ -1,7 +1,7 @@
 -- A node goes on to its next tick, or stops.
-use Rattle.std.proofs.{Common.{◌≡◌, ℕ, zero, suc, ◌<◌, ◌≤◌, ◌==◌, ◌&&◌, not, Bool, true, false, Some, None, List, [], ◌∷◌, ◌++◌, length, slice_get, refl, sym, ap, ◌∙◌, subst, arith, inl, inr}, lemmas.Bool.cases_lt, lemmas.Bool.Decides.nat_tests, lemmas.List.append-nil, lemmas.Option.slice_get_within}
+use Rattle.std.proofs.{Common.{◌≡◌, ℕ, zero, suc, ◌<◌, ◌≤◌, ◌==◌, ◌&&◌, not, Bool, true, false, Option, Some, None, List, [], ◌∷◌, ◌++◌, length, slice_get, refl, sym, ap, ◌∙◌, subst, arith, inl, inr}, lemmas.Bool.cases_lt, lemmas.Bool.Decides.nat_tests, lemmas.List.append-nil, lemmas.Option.slice_get_within}
 use Rattle.std.specs.Prelude.{option_map, slice_set, unwrap_or}
-use Rattle.rb_base.specs.{Nodes.{Side, has, other, set_of}, Nodes.Side.{Biu, Rmu}, Sizes.IsShape, declared.node.NodeName.NodeName}
+use Rattle.rb_base.specs.{Nodes.{Side, has, other}, Nodes.Side.{Biu, Rmu}, Sizes.IsShape, declared.node.NodeName.NodeName}
 use Rattle.rb_base.proofs.Sets.{has-set_of, has_above, set_of-lt}
 use Rattle.rb_rules.specs.{Book.{Each, of_kind}, Clock.time_of, Core.{Core, next_tick}, Goodness.{Scenario, clock_of}, Hearing.{Coming, Span}, Lawful.kind_of, Links.name_of, Slots.count_of, WorldStep.{Site, Timed, World, at_node, await, says_in, stop}}
 use Rattle.rb_queue.specs.Waiting.{HasLane, Held, empty_lane, lane_of, with_lane, with_tick, without_events}
@@ -10,17 +10,13 @@ use Rattle.rb_world_agenda.proofs.Changes.{holds-at, holds-nothing, holds-tick}
 use Rattle.rb_world_book.specs.Holding.{Holds}
 use Rattle.rb_port.specs.Keeping.{KeptPort}
 use Rattle.rb_node.specs.Cores.{next_of}
-use Rattle.rb_world.specs.{Sites.KeptSite, declared.scene.Scene.Scene, Buses.HaveRooms, Steps.{IsCoreAt, moved}, Worlds.{HoldsPorts, Surrounds, running_of}}
+use Rattle.rb_world.specs.{Sites.KeptSite, declared.scene.Scene.Scene, Buses.HaveRooms, Steps.{IsCoreAt, awaited, moved, stopped, without}, Worlds.{HoldsPorts, Surrounds, running_of}}
 use Rattle.rb_laws_events.proofs.WorldStands.{is_node, node-is, not-other}
 use Rattle.rb_world_traffic.specs.Arriving.{AreRunning, number_of}
 use Rattle.rb_world.proofs.{Around.{Pends, book-kept}, Lanes.rooms-with, Sites.{at-same, at-twice, at_one, counts-one, holds-site, running-one, was-there}}
 use Rattle.rb_base.specs.declared.node.NodeName.TheVariants as node
 
 -- A node stops.
-
--- the running nodes without node `i`
-abbrev pub without : ℕ → ℕ → ℕ
-without running i = set_of (λ k. not (k == i) && has running k)
 
 pub few-nodes : (sc : Scenario) (me : Side) → IsShape sc.sizes → count_of me sc.sizes ≤ 16
 few-nodes sc Biu shape = shape.most_bius
@@ -205,61 +201,49 @@ pub name-is : (node : NodeName) → name_of (kind_of node) (number_of node) ≡ 
 name-is (node.Biu i) = refl
 name-is (node.Rmu i) = refl
 
--- after the tick is pushed the node awaits it
-pub await-push : (sc : Scenario) (before : Scene) (lanes : Each Held) (w : World) (name : NodeName) (me : Side) (k time : ℕ) (c : Core) (site : KeptSite)
-    → kind_of name ≡ me → HasLane before.agenda name → lanes ≡ with_lane name (with_tick time (lane_of before.agenda name)) before.agenda
-    → time ≡ time_of (clock_of sc (kind_of name) (number_of name)) k
-    → IsCoreAt sc me name site c w → Some k ≡ next_of me site.node c → Surrounds sc before w
-    → Surrounds sc (record before { agenda = lanes }) (moved (kind_of name) (number_of name) (await sc me (number_of name) []) w)
-await-push sc before lanes w name me k time c site kind there after time_is at next is =
-    subst (λ k. Surrounds sc (record before { agenda = lanes }) (moved (kind_of name) (number_of name) (await sc k (number_of name) []) w)) kind
-    (await-some sc before (record before { agenda = lanes }) w (kind_of name) (number_of name) k time (subst (HasLane before.agenda) (sym (name-is name)) there)
-    (record {
-      lanes = subst (λ n. lanes ≡ with_lane n (with_tick time (lane_of before.agenda n)) before.agenda) (sym (name-is name)) after;
-      room = refl;
-      book = refl;
-      ports = refl;
-      biu = refl;
-      rmu = refl;
-    }) time_is
-    (λ s e. subst (λ d. next_tick sc.sizes sc.plan (kind_of name) (number_of name) d ≡ Some k) (sym (at.there s (subst (λ k. slice_get (of_kind k w.sites) (number_of name) ≡ Some s) kind e))) here)
-    (λ s e. at.none_ahead s (subst (λ k. slice_get (of_kind k w.sites) (number_of name) ≡ Some s) kind e)) is)
+-- the node awaits its next tick once it is pending, if there is one
+pub awaits-next : (sc : Scenario) (scene : Scene) (w : World) (name : NodeName) (me : Side) (c : Core) (site : KeptSite) → kind_of name ≡ me → HasLane scene.agenda name
+    → IsCoreAt sc me name site c w → Surrounds sc scene w
+    → Surrounds sc (awaited sc name (next_of me site.node c) scene) (moved (kind_of name) (number_of name) (await sc me (number_of name) []) w)
+awaits-next sc scene w name me c site kind there at is =
+    subst (λ k. Surrounds sc (awaited sc name (next_of me site.node c) scene) (moved (kind_of name) (number_of name) (await sc k (number_of name) []) w)) kind
+    (by (next_of me site.node c) next)
   where
-    here : next_tick sc.sizes sc.plan (kind_of name) (number_of name) c ≡ Some k
-    here =
-        subst (λ m. next_tick sc.sizes sc.plan m (number_of name) c ≡ Some k) (sym kind)
-        (sym (next ∙ ap (λ z. next_tick z site.node.seat.plan me site.node.seat.index c) at.sizes ∙ ap (λ z. next_tick sc.sizes z me site.node.seat.index c) at.plan
+    lane : HasLane scene.agenda (name_of (kind_of name) (number_of name))
+    lane = subst (HasLane scene.agenda) (sym (name-is name)) there
+
+    next : next_tick sc.sizes sc.plan (kind_of name) (number_of name) c ≡ next_of me site.node c
+    next =
+        subst (λ m. next_tick sc.sizes sc.plan m (number_of name) c ≡ next_of me site.node c) (sym kind)
+        (sym (ap (λ z. next_tick z site.node.seat.plan me site.node.seat.index c) at.sizes ∙ ap (λ z. next_tick sc.sizes z me site.node.seat.index c) at.plan
         ∙ ap (λ n. next_tick sc.sizes sc.plan me n c) at.number))
 
-pub await-still : (sc : Scenario) (scene : Scene) (w : World) (name : NodeName) (me : Side) (c : Core) (site : KeptSite) → kind_of name ≡ me → HasLane scene.agenda name
-    → IsCoreAt sc me name site c w → None ≡ next_of me site.node c → Surrounds sc scene w
-    → Surrounds sc scene (moved (kind_of name) (number_of name) (await sc me (number_of name) []) w)
-await-still sc scene w name me c site kind there at next is =
-    subst (λ k. Surrounds sc scene (moved (kind_of name) (number_of name) (await sc k (number_of name) []) w)) kind
-    (await-none sc scene w (kind_of name) (number_of name) (subst (HasLane scene.agenda) (sym (name-is name)) there)
-    (λ s e. subst (λ d. next_tick sc.sizes sc.plan (kind_of name) (number_of name) d ≡ None) (sym (at.there s (subst (λ k. slice_get (of_kind k w.sites) (number_of name) ≡ Some s) kind e))) here)
-    (λ s e. at.none_ahead s (subst (λ k. slice_get (of_kind k w.sites) (number_of name) ≡ Some s) kind e)) is)
-  where
-    here : next_tick sc.sizes sc.plan (kind_of name) (number_of name) c ≡ None
-    here =
-        subst (λ m. next_tick sc.sizes sc.plan m (number_of name) c ≡ None) (sym kind)
-        (sym (next ∙ ap (λ z. next_tick z site.node.seat.plan me site.node.seat.index c) at.sizes ∙ ap (λ z. next_tick sc.sizes z me site.node.seat.index c) at.plan
-        ∙ ap (λ n. next_tick sc.sizes sc.plan me n c) at.number))
+    core : (s : Site) → slice_get (of_kind (kind_of name) w.sites) (number_of name) ≡ Some s → c ≡ s.core
+    core s e = sym (at.there s (subst (λ k. slice_get (of_kind k w.sites) (number_of name) ≡ Some s) kind e))
 
--- The node stops.
+    none : (s : Site) → slice_get (of_kind (kind_of name) w.sites) (number_of name) ≡ Some s → s.ahead ≡ None
+    none s e = at.none_ahead s (subst (λ k. slice_get (of_kind k w.sites) (number_of name) ≡ Some s) kind e)
 
-pub stop-biu : (sc : Scenario) (before : Scene) (lanes : Each Held) (r : ℕ) (w : World) (name : NodeName) (i : ℕ) → name ≡ node.Biu i → HasLane before.agenda name
-    → lanes ≡ with_lane name (without_events (lane_of before.agenda name)) before.agenda → r ≡ without before.running_biu i → Surrounds sc before w
-    → Surrounds sc (record before { agenda = lanes; running_biu = r }) (moved (kind_of name) (number_of name) stop w)
-stop-biu sc before lanes r w name i named there after runs is =
-    subst (λ n. Surrounds sc (record before { agenda = lanes; running_biu = r }) (moved (kind_of n) (number_of n) stop w)) (sym named)
-    (stop-around sc before (record before { agenda = lanes; running_biu = r }) w Biu i (subst (HasLane before.agenda) named there)
-    (record { lanes = subst (λ n. lanes ≡ with_lane n (without_events (lane_of before.agenda n)) before.agenda) named after; book = refl; ports = refl; own = runs; others = refl }) is)
+    by : (o : Option ℕ) → next_tick sc.sizes sc.plan (kind_of name) (number_of name) c ≡ o
+        → Surrounds sc (awaited sc name o scene) (moved (kind_of name) (number_of name) (await sc (kind_of name) (number_of name) []) w)
+    by None e =
+        await-none sc scene w (kind_of name) (number_of name) lane (λ s h. subst (λ d. next_tick sc.sizes sc.plan (kind_of name) (number_of name) d ≡ None) (core s h) e) none is
+    by (Some k) e =
+        await-some sc scene (awaited sc name (Some k) scene) w (kind_of name) (number_of name) k (time_of (clock_of sc (kind_of name) (number_of name)) k) lane
+        (record {
+          lanes = subst (λ n. (awaited sc name (Some k) scene).agenda ≡ with_lane n (with_tick (time_of (clock_of sc (kind_of name) (number_of name)) k) (lane_of scene.agenda n)) scene.agenda)
+              (sym (name-is name)) refl;
+          room = refl;
+          book = refl;
+          ports = refl;
+          biu = refl;
+          rmu = refl;
+        }) refl (λ s h. subst (λ d. next_tick sc.sizes sc.plan (kind_of name) (number_of name) d ≡ Some k) (core s h) e) none is
 
-pub stop-rmu : (sc : Scenario) (before : Scene) (lanes : Each Held) (r : ℕ) (w : World) (name : NodeName) (i : ℕ) → name ≡ node.Rmu i → HasLane before.agenda name
-    → lanes ≡ with_lane name (without_events (lane_of before.agenda name)) before.agenda → r ≡ without before.running_rmu i → Surrounds sc before w
-    → Surrounds sc (record before { agenda = lanes; running_rmu = r }) (moved (kind_of name) (number_of name) stop w)
-stop-rmu sc before lanes r w name i named there after runs is =
-    subst (λ n. Surrounds sc (record before { agenda = lanes; running_rmu = r }) (moved (kind_of n) (number_of n) stop w)) (sym named)
-    (stop-around sc before (record before { agenda = lanes; running_rmu = r }) w Rmu i (subst (HasLane before.agenda) named there)
-    (record { lanes = subst (λ n. lanes ≡ with_lane n (without_events (lane_of before.agenda n)) before.agenda) named after; book = refl; ports = refl; own = runs; others = refl }) is)
+-- the node stops
+pub stops : (sc : Scenario) (scene : Scene) (w : World) (name : NodeName) → HasLane scene.agenda name → Surrounds sc scene w
+    → Surrounds sc (stopped name scene) (moved (kind_of name) (number_of name) stop w)
+stops sc scene w (node.Biu i) there is =
+    stop-around sc scene (stopped (node.Biu i) scene) w Biu i there (record { lanes = refl; book = refl; ports = refl; own = refl; others = refl }) is
+stops sc scene w (node.Rmu i) there is =
+    stop-around sc scene (stopped (node.Rmu i) scene) w Rmu i there (record { lanes = refl; book = refl; ports = refl; own = refl; others = refl }) is

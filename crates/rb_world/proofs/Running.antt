@@ -1,5 +1,5 @@
 -- A run from tick to tick, as it is done in parts.
-use Rattle.std.proofs.Common.{◌≡◌, ℕ, ◌^◌, ◌<◌, ◌||◌, true, false, Some, None, Option, List, is_some, length, refl, sym, ap, ◌∙◌, subst, arith}
+use Rattle.std.proofs.Common.{◌≡◌, ℕ, ◌^◌, ◌<◌, ◌||◌, true, false, Some, None, Option, List, is_some, refl, sym, ap, ◌∙◌, subst, arith}
 use Rattle.rb_base.specs.{Nodes.Side, Nodes.Side.{Biu, Rmu}, Sizes.Sizes, declared.node.NodeName.NodeName}
 use Rattle.rb_rules.specs.{Book.{Each, Record, of_kind}, Entries.IsListed, Goodness.Scenario, Lawful.{IsLawful, kind_of}, Links.name_of, WorldStep.{Site, Timed, World, happens, needs_no_event}, WorldStep.Pending.Tick, WorldStep.Way.ByAnEvent}
 use Rattle.rb_world_agenda.specs.{Agenda.IsFirstAhead, Holding.HoldsSites}
@@ -8,7 +8,7 @@ use Rattle.rb_world.specs.{Sites.KeptSite, declared.scene.Scene.Scene, declared.
 use Rattle.rb_laws_sweeps.specs.AheadOf.{until_tick}
 use Rattle.rb_world_traffic.specs.Arriving.{number_of as number_in}
 use Rattle.rb_queue.specs.Waiting.{Held}
-use Rattle.rb_world.proofs.{Along.{along-begins, comes-by-tick, comes-next, going}, Behind.{first-ahead, node-of, some-first}, GoneOn.{goes-to-tick, trails-first}, GoingOn.ended-stays, LastTurn.reached-ends, Steps.few-steps}
+use Rattle.rb_world.proofs.{Along.{along-begins, comes-by-tick, comes-next, going}, Behind.{first-ahead, some-first}, GoneOn.{goes-to-tick, trails-first}, GoingOn.ended-stays, LastTurn.reached-ends, Steps.few-steps}
 use Rattle.rb_base.specs.declared.node.NodeName.TheVariants as node
 
 -- Names.
@@ -52,20 +52,20 @@ first-here sc kept scene until w v me i a name time h tells =
     record { named = is.0; at = is.1; small = omega (arith, small, at) }
 
 pub biu-may : (sc : Scenario) (kept : Each KeptSite) (scene : Scene) (until : Side → ℕ → ℕ) (w v : World) (me : Side) (i : ℕ) (a : Timed) (name : NodeName) (time j : ℕ)
-    → BehindTick sc kept scene until w v me i a → FirstHere sc me i a name time → name ≡ node.Biu j → (j < length kept.bius) × MayTakeFirst sc kept scene until w v Biu j a time kept.bius
+    → BehindTick sc kept scene until w v me i a → FirstHere sc me i a name time → name ≡ node.Biu j → MayTakeFirst sc kept scene until w v Biu j a time kept.bius
 biu-may sc kept scene until w v me i a name time j h here e =
     let its = biu-named me i j (sym here.named ∙ e) in
     let behind : BehindTick sc kept scene until w v Biu j a =
     subst (λ k. BehindTick sc kept scene until w v k j a) its.0 (subst (λ n. BehindTick sc kept scene until w v me n a) its.1 h) in
-    ((node-of sc kept scene until w v behind.trails Biu j behind.first.node behind.first.there).inside, record { at = behind; own_is = refl; time_is = here.at })
+    record { at = behind; own_is = refl; time_is = here.at }
 
 pub rmu-may : (sc : Scenario) (kept : Each KeptSite) (scene : Scene) (until : Side → ℕ → ℕ) (w v : World) (me : Side) (i : ℕ) (a : Timed) (name : NodeName) (time j : ℕ)
-    → BehindTick sc kept scene until w v me i a → FirstHere sc me i a name time → name ≡ node.Rmu j → (j < length kept.rmus) × MayTakeFirst sc kept scene until w v Rmu j a time kept.rmus
+    → BehindTick sc kept scene until w v me i a → FirstHere sc me i a name time → name ≡ node.Rmu j → MayTakeFirst sc kept scene until w v Rmu j a time kept.rmus
 rmu-may sc kept scene until w v me i a name time j h here e =
     let its = rmu-named me i j (sym here.named ∙ e) in
     let behind : BehindTick sc kept scene until w v Rmu j a =
     subst (λ k. BehindTick sc kept scene until w v k j a) its.0 (subst (λ n. BehindTick sc kept scene until w v me n a) its.1 h) in
-    ((node-of sc kept scene until w v behind.trails Rmu j behind.first.node behind.first.there).inside, record { at = behind; own_is = refl; time_is = here.at })
+    record { at = behind; own_is = refl; time_is = here.at }
 
 -- `MayTakeFirst` holds for lanes that are the same, too
 pub may-same : {sc : Scenario} {kept : Each KeptSite} {until : Side → ℕ → ℕ} {w v : World} {me : Side} {i time : ℕ} {a : Timed} {own : List KeptSite}

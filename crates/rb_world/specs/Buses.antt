@@ -1,12 +1,12 @@
 -- Nodes of a bus by their names, and how much may be pending at them.
 use Rattle.std.specs.Prelude.{ℕ, ◌≡◌, ◌+◌, ◌≤◌, All, List, Option, length}
-use Rattle.rb_base.specs.{Nodes.Side, Nodes.Side.{Biu, Rmu}, Sizes.Sizes, declared.node.NodeName.NodeName}
+use Rattle.rb_base.specs.{Nodes.{Side, other}, Nodes.Side.{Biu, Rmu}, Sizes.Sizes, declared.node.NodeName.NodeName}
 use Rattle.rb_rules.specs.{declared.plan.Plan.Plan, declared.say.Say.Say, Behavior.Behavior, Book.Each, Entries.{IsListed, listed}, Goodness.{Scenario, clock_among}, Clock.Timeline, Lawful.{IsLawful, kind_of}, Links.DelayRules, WorldStep.{Site, at_node, says_in}}
 use Rattle.rb_world_onset.specs.Faults.{Faults, faults_of}
 use Rattle.rb_node.specs.{Acts.span_in, declared.act.Span.Span}
 use Rattle.rb_plan.specs.Timetable.{Timetable}
 use Rattle.rb_world_agenda.specs.Holding.{HoldsSites}
-use Rattle.rb_world_traffic.specs.{Arriving.number_of, Saying.{KeptSayings, hears, kept_of, with_arrivals}}
+use Rattle.rb_world_traffic.specs.{Arriving.{AreRunning, number_of}, Departing.with_sent, declared.sending.Departure.Departure, Saying.{KeptSayings, hears, kept_of, with_arrivals}}
 use Rattle.rb_laws_events.specs.PendingEvents.{most_pending}
 use Rattle.rb_queue.specs.Waiting.{Held, lane_of, with_lane}
 use Rattle.rb_world.specs.{Calm.AreRestless, declared.calm.Restless.Restless}
@@ -95,3 +95,8 @@ with_said sc node span lanes =
 abbrev pub HasSaid : Scenario → NodeName → Span → Each Held → Each Held → Type 0
 HasSaid sc node span before after = (sites : Each Site) → HoldsSites sc.sizes before sites
     → HoldsSites sc.sizes after (at_node (kind_of node) (number_of node) (hears sc node (span_in span)) sites)
+
+-- the lanes hold what was pending at sites, with the message that is sent to those of them that run
+abbrev pub HasSent : Scenario → Departure → ℕ → Each Held → Each Held → Type 0
+HasSent sc d running before after = (sites : Each Site) → AreRunning (other (kind_of d.from)) running sites
+    → HoldsSites sc.sizes before sites → HoldsSites sc.sizes after (with_sent sc d sites)

@@ -1,7 +1,7 @@
 -- Which record of the rounds a call gives: record number n, counted from 0, n being how many were
 -- given before.
-use Rattle.std.specs.Prelude.{◌≡◌, true, false, Option, Some, None, List, [], ◌∷◌, ◌++◌, length, slice_get}
-use Rattle.rb_rules.specs.{Book.Record, Goodness.Scenario, Rounds.records_of, WorldStep.World}
+use Rattle.std.specs.Prelude.{ℕ, ◌≡◌, true, false, Option, Some, None, List, [], ◌∷◌, ◌++◌, length, slice_get}
+use Rattle.rb_rules.specs.{Book.Record, Goodness.Scenario, Rounds.records_of, WorldStep.{World, take}}
 use Rattle.rb_world_book.specs.{Records.record_of, declared.turn.Turn.Turn}
 use Rattle.rb_world.specs.{Nexts.is_last, Worlds.{KeptWorld, Stands}}
 
@@ -20,6 +20,10 @@ pub record TakesInRounds (sc : Scenario) (before after : World) (given : Option 
   pub ended : after.book.ended ≡ is_last given
   pub all : after.book.ended ≡ true → after.book.given ≡ records_of sc before.hands
   pub hands : after.hands ≡ before.hands
+
+-- event number i of those that are due is taken so, in each world for which this is kept
+abbrev pub TakesItInRounds : KeptWorld → ℕ → Turn → Type 0
+TakesItInRounds before i turn = (w : World) → Stands before w → TakesInRounds before.bus w (take before.bus w i) (record_of turn)
 
 -- the last record of the rounds is given again, and nothing changes
 pub record IsLastAgain (sc : Scenario) (before after : World) (r : Record) : Type 0 where

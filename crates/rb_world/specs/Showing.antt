@@ -1,10 +1,10 @@
 -- When what is due may be shown.
 use Rattle.std.specs.Prelude.{ℕ, ◌≡◌, ◌<◌, ◌^◌, Some, List}
 use Rattle.rb_base.specs.{Nodes.Side, declared.event.Event.Event, declared.node.NodeName.NodeName}
-use Rattle.rb_rules.specs.{Clock.ComesBy, Core.{Core, next_tick}, Goodness.{Scenario, clock_of}, Links.name_of, Ports.PortState, Slots.count_of, WorldStep.{Pending, Site}, WorldStep.Pending.{Tick, Arrival}}
+use Rattle.rb_rules.specs.{Clock.ComesBy, Core.{Core, next_tick}, Goodness.{Scenario, clock_of}, Links.name_of, Ports.PortState, Slots.count_of, WorldStep.{Pending, Site, event_of}, WorldStep.Pending.{Tick, Arrival}}
 use Rattle.rb_world_agenda.specs.{Agenda.IsAtTime, Holding.Shows}
 use Rattle.rb_port.specs.Keeping.{KeptPort}
-use Rattle.rb_world.specs.{Sites.{KeptSite, Stands as StandsFor, number_of}, Worlds.HoldsPorts}
+use Rattle.rb_world.specs.{Buses.{KeptBus, scenario_of}, Sites.{KeptSite, Stands as StandsFor, number_of}, Worlds.HoldsPorts}
 
 -- node i of kind me has this name, and what is kept of it stands for this site
 pub record IsShownAt (sc : Scenario) (me : Side) (i : ℕ) (site : KeptSite) (name : NodeName) (s : Site) : Type 0 where
@@ -20,13 +20,23 @@ pub record MayShowTick (sc : Scenario) (me : Side) (i k : ℕ) (site : KeptSite)
   pub holds : HoldsPorts sc kept ports
 
 -- the node's next tick may be shown in some world
-abbrev pub CanShowTick : Scenario → Side → NodeName → KeptSite → List KeptPort → Type 0
-CanShowTick sc me node site kept = (k : ℕ) × (ports : List PortState) × (s : Site) × MayShowTick sc me (number_of site) k site kept node ports s
+abbrev pub CanShowTick : KeptBus → Side → NodeName → KeptSite → List KeptPort → Type 0
+CanShowTick bus me node site kept = (k : ℕ) × (ports : List PortState) × (s : Site) × MayShowTick (scenario_of bus) me (number_of site) k site kept node ports s
 
 -- an arrival at this time may be shown
 pub record MayShowArrival (sc : Scenario) (me : Side) (i : ℕ) (site : KeptSite) (time : ℕ) (name : NodeName) (s : Site) : Type 0 where
   pub at : IsShownAt sc me i site name s
   pub in_time : ComesBy (2 ^ 31) (clock_of sc me i) time
+
+-- an arrival at this time may be shown for some site
+abbrev pub CanShowArrival : KeptBus → Side → KeptSite → ℕ → NodeName → Type 0
+CanShowArrival bus me site time node = (s : Site) × MayShowArrival (scenario_of bus) me (number_of site) site time node s
+
+-- an arrival from this source with these bytes is shown by this event, wherever it may be shown
+abbrev pub ShowsArrival : KeptBus → Side → KeptSite → ℕ → NodeName → ℕ → List ℕ → Event → Type 0
+ShowsArrival bus me site time node from bytes event = (ports : List PortState) (place : ℕ) (s : Site)
+    → MayShowArrival (scenario_of bus) me (number_of site) site time node s
+    → event ≡ event_of (scenario_of bus) ports me (number_of site) s.core (Arrival place (record { time = time; from = from; bytes = bytes }))
 
 -- what waits is the next tick, or comes by the last that there is
 abbrev pub IsInTime : Scenario → Side → ℕ → Core → Pending → Type 0
@@ -42,6 +52,6 @@ pub record MayShow (sc : Scenario) (me : Side) (i : ℕ) (waits : Pending) (site
   pub in_time : IsInTime sc me i s.core waits
 
 -- an event at a time may be shown in some world
-abbrev pub CanShow : Scenario → Side → KeptSite → List KeptPort → ℕ → Event → Type 0
-CanShow sc me site kept time event = (waits : Pending) × (ports : List PortState) × (s : Site)
-    × MayShow sc me (number_of site) waits site kept time event ports s
+abbrev pub CanShow : KeptBus → Side → KeptSite → List KeptPort → ℕ → Event → Type 0
+CanShow bus me site kept time event = (waits : Pending) × (ports : List PortState) × (s : Site)
+    × MayShow (scenario_of bus) me (number_of site) waits site kept time event ports s

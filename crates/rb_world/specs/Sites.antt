@@ -1,8 +1,8 @@
 -- Which site of a world is stood for.
 use Rattle.std.specs.Prelude.{ℕ, ◌≡◌, ◌<◌, ◌^◌, Bool, true, Option, Some, None, List, [], ◌∷◌, ◌++◌, length, map, slice_index}
-use Rattle.rb_base.specs.Nodes.{Side}
-use Rattle.rb_rules.specs.{Core.{Act, arrive, of_source}, Goodness.{Scenario, is_good}, Hearing.{Coming, Span}, Ports.PortState, Sense.Arrival, WorldStep.{Site, coming_from, with_close, with_epoch}}
-use Rattle.rb_node.specs.Cores.{IsCore, Running}
+use Rattle.rb_base.specs.Nodes.{Side, other}
+use Rattle.rb_rules.specs.{Core.{Act, arrive, of_source}, Goodness.{Scenario, is_good}, Hearing.{Coming, Span}, Ports.PortState, Sense.Arrival, Slots.count_of, WorldStep.{Site, coming_from, with_close, with_epoch}}
+use Rattle.rb_node.specs.Cores.{IsCore, IsSameNode, Running}
 
 -- what is kept of a site: the node, whether it runs, and for each source the time of what came of
 -- it last
@@ -14,6 +14,15 @@ pub record KeptSite : Type 0 where
 -- the node's number among those of its kind
 abbrev pub number_of : KeptSite → ℕ
 number_of k = k.node.seat.index
+
+-- a node of the other kind has this number
+abbrev pub IsSource : Side → KeptSite → ℕ → Type 0
+IsSource me k from = from < count_of (other me) k.node.seat.sizes
+
+-- the node is the same, and nothing but what it itself keeps has changed
+pub record IsSameSite (before after : KeptSite) : Type 0 where
+  pub node : IsSameNode before.node after.node
+  pub rest : after ≡ record before { node = after.node }
 
 -- what came into the inbox and what was got came of the same sources, one after another
 abbrev pub ComeTogether : List (ℕ × Arrival) → List Coming → Type 0
@@ -32,6 +41,10 @@ pub record Stands (sc : Scenario) (me : Side) (k : KeptSite) (s : Site) : Type 0
   pub runs : k.runs ≡ s.runs
   pub together : s.core.had < 2 ^ 31 → ComeTogether s.core.inbox s.got
   pub times : HoldsTimes k.times s.got
+
+-- what is kept stands for some site
+abbrev pub StandsForSome : Scenario → Side → KeptSite → Type 0
+StandsForSome sc me k = (s : Site) × Stands sc me k s
 
 -- the site after an arrival that is taken in before its stamp is known: it is stamped with the next
 -- tick, and is still pending

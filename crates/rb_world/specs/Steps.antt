@@ -1,14 +1,15 @@
 -- What happens at one node, as it is done in parts.
-use Rattle.std.specs.Prelude.{⊤, [], ℕ, ◌≡◌, ◌+◌, ◌<◌, ◌≤◌, ◌^◌, true, Option, Some, None, IfSome, All, get_or, length, slice_get, Bool, if◌then◌else◌}
-use Rattle.rb_base.specs.{Nodes.{Side, other}, Nodes.Side.Biu, Sizes.Sizes, declared.values.See.TheVariants.Nothing, declared.event.Event.Event, declared.node.NodeName.NodeName}
-use Rattle.rb_rules.specs.{declared.closing.Closed.Closed, declared.message.Message.Message, declared.record.Epoch.Epoch, Book.{Each, Row, of_kind}, Clock.ComesBy, Core.{Act, Core, next_tick, pass_to}, Entries.IsListed, Goodness.{Scenario, clock_of}, Hearing.{Coming, Span}, Lawful.{IsLawful, kind_of}, Links.name_of, Slots.{count_of, first_diagnosis_of}, WorldStep.{Due, Site, World, after_act, after_arrival, at_node, await, due_of, happens, pass_and_tick, proceed, span_from, wants_in, with_act, with_delivery, with_epoch, with_message, word_of}}
+use Rattle.std.specs.Prelude.{⊤, ℕ, ◌≡◌, ◌+◌, ◌<◌, ◌≤◌, ◌^◌, true, Option, Some, None, IfSome, All, get_or, length, slice_get, Bool, if◌then◌else◌, ◌==◌, ◌&&◌, not}
+use Rattle.rb_base.specs.{Nodes.{Side, has, other, set_of}, Nodes.Side.Biu, Sizes.Sizes, declared.values.See.TheVariants.Nothing, declared.event.Event.Event, declared.node.NodeName.NodeName}
+use Rattle.rb_rules.specs.{declared.closing.Closed.Closed, declared.message.Message.Message, declared.record.Epoch.Epoch, Book.{Each, Row, of_kind}, Clock.{ComesBy, time_of}, Core.{Act, Core, next_tick, pass_to}, Entries.IsListed, Goodness.{Scenario, clock_of}, Hearing.{Coming, Span}, Lawful.{IsLawful, kind_of}, Links.name_of, Slots.{count_of, first_diagnosis_of}, WorldStep.{Due, Site, World, after_act, after_arrival, at_node, due_of, happens, pass_and_tick, proceed, span_from, wants_in, with_act, with_delivery, with_epoch, with_message, word_of}}
 use Rattle.rb_world_agenda.specs.{Agenda.IsAtTime, Holding.{Shows, without_waiting}}
-use Rattle.rb_node.specs.{Cores.{IsCore, passing_end}, declared.act.Want.Want}
+use Rattle.rb_node.specs.{Cores.{IsCore, next_of, passing_end}, declared.act.Want.Want}
 use Rattle.rb_world_book.specs.Changing.{with_row}
-use Rattle.rb_queue.specs.Waiting.{HasLane, Held, lane_of, spare_of}
-use Rattle.rb_world.specs.{Sites.{KeptSite, Stands as StandsFor, number_of}, Tells.row_at, declared.scene.Scene.Scene, Worlds.{AreNodes, IsNode, IsReached, Surrounds}}
+use Rattle.rb_queue.specs.Waiting.{HasLane, Held, lane_of, spare_of, with_lane, with_tick, without_events, without_place}
+use Rattle.rb_world.specs.{Sites.{KeptSite, Stands as StandsFor, number_of}, Tells.row_at, declared.scene.Scene.Scene, Buses.{KeptBus, scenario_of}, Worlds.{AreNodes, IsNode, IsReached, Surrounds}}
 use Rattle.rb_world_traffic.specs.Arriving.{number_of as number_in}
 use Rattle.rb_node.specs.declared.act.Want.TheVariants as want
+use Rattle.rb_base.specs.declared.node.NodeName.TheVariants as node
 
 -- the world in which the site of node i of kind me has changed
 abbrev pub moved : Side → ℕ → (Site → Site) → World → World
@@ -54,10 +55,27 @@ pub record IsCoreAt (sc : Scenario) (me : Side) (node : NodeName) (site : KeptSi
   pub there : (s : Site) → slice_get (of_kind me w.sites) (number_in node) ≡ Some s → s.core ≡ c
   pub none_ahead : (s : Site) → slice_get (of_kind me w.sites) (number_in node) ≡ Some s → s.ahead ≡ None
 
--- in each world that has such a core there, its next tick is pending now
-abbrev pub AwaitsNext : Scenario → Side → NodeName → KeptSite → Scene → Scene → Type 0
-AwaitsNext sc me node site before after = (w : World) (c : Core) → IsCoreAt sc me node site c w → Surrounds sc before w
-    → Surrounds sc after (moved (kind_of node) (number_in node) (await sc me (number_in node) []) w)
+-- the node's next tick that is not quiet is pending, if there is one
+abbrev pub awaited : Scenario → NodeName → Option ℕ → Scene → Scene
+awaited sc node None scene = scene
+awaited sc node (Some k) scene =
+    record scene { agenda = with_lane node (with_tick (time_of (clock_of sc (kind_of node) (number_in node)) k) (lane_of scene.agenda node)) scene.agenda }
+
+-- the node's next tick is pending now, which is that of each core for which the node stands
+abbrev pub AwaitsNext : KeptBus → Side → NodeName → KeptSite → Scene → Scene → Type 0
+AwaitsNext bus me node site before after =
+    (c : Core) → IsCore site.node c → after ≡ awaited (scenario_of bus) node (next_of me site.node c) before
+
+-- the running nodes without node `i`
+abbrev pub without : ℕ → ℕ → ℕ
+without running i = set_of (λ k. not (k == i) && has running k)
+
+-- nothing is pending at the node, and it is none of those that run
+abbrev pub stopped : NodeName → Scene → Scene
+stopped (node.Biu i) scene =
+    record scene { agenda = with_lane (node.Biu i) (without_events (lane_of scene.agenda (node.Biu i))) scene.agenda; running_biu = without scene.running_biu i }
+stopped (node.Rmu i) scene =
+    record scene { agenda = with_lane (node.Rmu i) (without_events (lane_of scene.agenda (node.Rmu i))) scene.agenda; running_rmu = without scene.running_rmu i }
 
 -- nothing has changed in the lanes of the other kind's nodes
 abbrev pub OthersStay : Side → Scene → Scene → Type 0
@@ -70,19 +88,19 @@ pub record Proceeds (sc : Scenario) (me : Side) (i : ℕ) (site : KeptSite) (bef
   pub others : OthersStay me before after
 
 -- a node of which this is kept may go on
-abbrev pub CanProceed : Scenario → Side → KeptSite → Scene → Type 0
-CanProceed sc me site scene = (w : World) × (s : Site) × MayProceed sc me (number_of site) site scene w s
+abbrev pub CanProceed : KeptBus → Side → KeptSite → Scene → Type 0
+CanProceed bus me site scene = (w : World) × (s : Site) × MayProceed (scenario_of bus) me (number_of site) site scene w s
 
 -- a node that may go on does so: `before` was kept of it and `around` of what surrounds the nodes,
 -- and now `after` and `scene` are
-abbrev pub HasProceeded : Scenario → Side → KeptSite → KeptSite → Scene → Scene → Type 0
-HasProceeded sc me before after around scene =
-    (w : World) (s : Site) → MayProceed sc me (number_of before) before around w s → Proceeds sc me (number_of before) after around scene w s
+abbrev pub HasProceeded : KeptBus → Side → KeptSite → KeptSite → Scene → Scene → Type 0
+HasProceeded bus me before after around scene =
+    (w : World) (s : Site) → MayProceed (scenario_of bus) me (number_of before) before around w s → Proceeds (scenario_of bus) me (number_of before) after around scene w s
 
 -- in every world in which `before` is kept of what surrounds the nodes, `after` is kept of it once
 -- `change` has been made
-abbrev pub Changes : Scenario → Scene → Scene → (World → World) → Type 0
-Changes sc before after change = (w : World) → Surrounds sc before w → Surrounds sc after (change w)
+abbrev pub Changes : KeptBus → Scene → Scene → (World → World) → Type 0
+Changes bus before after change = (w : World) → Surrounds (scenario_of bus) before w → Surrounds (scenario_of bus) after (change w)
 
 -- Ticks.
 
@@ -113,6 +131,11 @@ closed_if sc node (Some c) row w = closed_at sc node c row w
 abbrev pub closed_by : Scenario → Side → NodeName → Bool → KeptSite → World → World
 closed_by sc me node closed k w = closed_if sc node (if closed then Some k.node.shown else None)
     (row_at me (number_in node) k.node.seat.state k.times k.node.shown) w
+
+-- the node has closed the window that it shows, or none. `before` was kept around the nodes, and
+-- now `after` is
+abbrev pub Closes : KeptBus → Side → NodeName → Bool → KeptSite → Scene → Scene → Type 0
+Closes bus me node closed site before after = Changes bus before after (closed_by (scenario_of bus) me node closed site)
 
 -- a node has begun a frame, if one begins
 abbrev pub begun_at : Scenario → NodeName → Option Epoch → World → World
@@ -149,18 +172,31 @@ abbrev pub HasTicked : Scenario → Side → ℕ → ℕ → KeptSite → Scene 
 HasTicked sc me i k site scene w s = Ticks sc me i k site scene w s (act_at sc w me i k s)
 
 -- a node of which this is kept may take tick k
-abbrev pub CanTick : Scenario → Side → ℕ → KeptSite → Scene → Type 0
-CanTick sc me k site scene = (w : World) × (s : Site) × MayTick sc me (number_of site) k site scene w s
+abbrev pub CanTick : KeptBus → Side → ℕ → KeptSite → Scene → Type 0
+CanTick bus me k site scene = (w : World) × (s : Site) × MayTick (scenario_of bus) me (number_of site) k site scene w s
 
 -- a node that may take tick k takes it: `before` was kept of it and `around` of what surrounds the
 -- nodes, and now `after` and `scene` are
-abbrev pub DoesTick : Scenario → Side → ℕ → KeptSite → KeptSite → Scene → Scene → Type 0
-DoesTick sc me k before after around scene =
-    (w : World) (s : Site) → MayTick sc me (number_of before) k before around w s → HasTicked sc me (number_of before) k after scene w s
+abbrev pub DoesTick : KeptBus → Side → ℕ → KeptSite → KeptSite → Scene → Scene → Type 0
+DoesTick bus me k before after around scene =
+    (w : World) (s : Site) → MayTick (scenario_of bus) me (number_of before) k before around w s → HasTicked (scenario_of bus) me (number_of before) k after scene w s
 
 -- the word that the node takes with its tick k
 abbrev pub word_at : Scenario → World → Side → ℕ → ℕ → Site → ℕ
 word_at sc w me i k s = word_of sc w.ports i (wants_in sc me i (pass_to k s.core))
+
+-- the node takes this word with its tick k, in each world in which it may have that tick
+abbrev pub IsWordAt : KeptBus → Side → ℕ → ℕ → KeptSite → Scene → Type 0
+IsWordAt bus me k word site scene =
+    (w : World) (s : Site) → MayTick (scenario_of bus) me (number_of site) k site scene w s → word ≡ word_at (scenario_of bus) w me (number_of site) k s
+
+-- a node of which this is kept may take its next tick
+abbrev pub CanTickNext : KeptBus → Side → KeptSite → Scene → Type 0
+CanTickNext bus me site scene = (k : ℕ) × (w : World) × (s : Site) × MayTick (scenario_of bus) me (number_of site) k site scene w s
+
+-- a node that may take its next tick takes it
+abbrev pub TicksNext : KeptBus → Side → KeptSite → KeptSite → Scene → Scene → Type 0
+TicksNext bus me before after around scene = (k : ℕ) → DoesTick bus me k before after around scene
 
 -- Events.
 
@@ -194,10 +230,14 @@ pub record CanHear (sc : Scenario) (me : Side) (i : ℕ) (name : NodeName) (plac
   pub sender : c.from < count_of (other me) site.node.seat.sizes
 
 -- some arrival at this place may come to the node
-abbrev pub CanHearAt : Scenario → Side → NodeName → ℕ → KeptSite → Each Held → Type 0
-CanHearAt sc me node place site lanes = (c : Coming) × CanHear sc me (number_of site) node place site lanes c
+abbrev pub CanHearAt : KeptBus → Side → NodeName → ℕ → KeptSite → Each Held → Type 0
+CanHearAt bus me node place site lanes = (c : Coming) × CanHear (scenario_of bus) me (number_of site) node place site lanes c
+
+-- the lanes without the arrival at this place of the node's
+abbrev pub without_arrival : NodeName → ℕ → Each Held → Each Held
+without_arrival node place lanes = with_lane node (without_place place (lane_of lanes node)) lanes
 
 -- the arrival at this place has come: `before` was kept of the node, and now `after` is
-abbrev pub HasHeard : Scenario → Side → NodeName → ℕ → KeptSite → KeptSite → Each Held → Type 0
-HasHeard sc me node place before after lanes = (c : Coming) (at : ℕ) (s : Site) → CanHear sc me (number_of before) node place before lanes c
-    → StandsFor sc me before s → StandsFor sc me after (after_arrival sc me (number_of before) at c s)
+abbrev pub HasHeard : KeptBus → Side → NodeName → ℕ → KeptSite → KeptSite → Each Held → Type 0
+HasHeard bus me node place before after lanes = (c : Coming) (at : ℕ) (s : Site) → CanHear (scenario_of bus) me (number_of before) node place before lanes c
+    → StandsFor (scenario_of bus) me before s → StandsFor (scenario_of bus) me after (after_arrival (scenario_of bus) me (number_of before) at c s)

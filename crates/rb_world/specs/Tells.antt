@@ -1,5 +1,5 @@
 -- What a node tells of itself, by what is kept.
-use Rattle.std.specs.Prelude.{ℕ, ◌≡◌, ◌==◌, ◌&&◌, not, false, Bool, Option, Some, None, List, option_map, get_or, slice_index, if◌then◌else◌}
+use Rattle.std.specs.Prelude.{ℕ, ◌≡◌, ◌==◌, ◌&&◌, not, true, false, Bool, Option, Some, None, List, option_map, get_or, slice_index, slice_set, if◌then◌else◌}
 use Rattle.rb_base.specs.{Nodes.Side, declared.values.See.See, declared.values.See.TheVariants.Nothing}
 use Rattle.rb_rules.specs.{declared.closing.Closed.Closed, declared.record.Epoch.Epoch, Book.{Begun, Row}, ExactStage.each_node, Clock.Timeline, Core.{is_tick, next_tick, pass_to, tick}, Goodness.{Scenario, clock_of}, Hearing.{Coming, begun_of, judged_see}, NodeState.{NodeState, trusted_of}, Ports.PortState, SyncStage.new_epoch_of, WorldStep.{Site, after_arrival, pass_and_tick, wants_in, word_of}}
 use Rattle.rb_node.specs.{Acts.IsAct, Cores.IsCore, Ends.EndsExactWindow, declared.act.Step.Step}
@@ -57,6 +57,10 @@ TakesTickWith me k word before after step = (sc : Scenario) (ports : List PortSt
     → word ≡ word_of sc ports (number_of before) (wants_in sc me (number_of before) (pass_to k s.core))
     → IsTicked sc ports me before after step k s
 
+-- the next tick that is not quiet has been taken, and all that it gave is that a window is closed
+abbrev pub ClosesNext : Side → KeptSite → KeptSite → Type 0
+ClosesNext me before after = TakesNext me before after (record { epoch = None; message = None; closed = true })
+
 -- the next tick that is not quiet ends a window of a slot before the sync slot
 abbrev pub EndsNext : Side → KeptSite → Type 0
 EndsNext me kept = (sc : Scenario) (s : Site) → Stands sc me kept s
@@ -70,6 +74,11 @@ IfEndsNext me kept P = (sc : Scenario) (k : ℕ) (s : Site) → Stands sc me kep
     → (tick sc.sizes sc.plan me (number_of kept) (pass_to k s.core) 0).message ≡ None → P
 
 -- Arrivals.
+
+-- nothing has changed but the inbox, the ticks that the node had, and the time kept for this source
+abbrev pub OnlyHears : ℕ → ℕ → KeptSite → KeptSite → Type 0
+OnlyHears from time before after =
+    after ≡ record before { node = record before.node { had = after.node.had; inbox = after.node.inbox }; times = slice_set before.times from time }
 
 -- message c has come to the node of which `before` was kept, with the stamp that `clock` gives c,
 -- and now `after` is kept of the node

@@ -1,12 +1,12 @@
 -- A run that goes from tick to tick: arrivals are left behind until a tick of their node comes, or
 -- a record.
-use Rattle.std.specs.Prelude.{ℕ, zero, suc, ◌≡◌, ◌+◌, ◌^◌, ◌<◌, ◌≤◌, nat_lt, All, true, false, Option, Some, None, List, length, slice_get}
+use Rattle.std.specs.Prelude.{ℕ, zero, suc, ◌≡◌, ◌+◌, ◌^◌, ◌<◌, ◌≤◌, nat_lt, All, true, false, Option, Some, None, IfSome, List, length, slice_get}
 use Rattle.rb_base.specs.{Nodes.{Side, other}, Sizes.Sizes, declared.node.NodeName.NodeName}
 use Rattle.rb_rules.specs.{Book.{Each, of_kind}, Clock.time_of, Entries.IsListed, Goodness.{Scenario, clock_of}, Hearing.Coming, Lawful.{IsLawful, kind_of}, Links.name_of, Slots.count_of, WorldStep.{Site, Timed, World, at_node, happens}, WorldStep.Pending.{Tick, Arrival}}
 use Rattle.rb_world_book.specs.{Records.record_of, declared.turn.Turn.Turn}
 use Rattle.rb_queue.specs.Waiting.{HasLane, Held}
 use Rattle.rb_world_agenda.specs.Holding.{HoldsSites, without_waiting}
-use Rattle.rb_world.specs.{Sites.{KeptSite, number_of}, declared.scene.Scene.Scene, declared.ties.Ties.TheVariants.First, Buses.HaveRooms, Nexts.{IsNext, after_steps}, Worlds.{AreNodes, IsNode, IsReached, Surrounds}, Runs.nodes_of, declared.run.Run.Run}
+use Rattle.rb_world.specs.{Sites.{KeptSite, number_of}, declared.scene.Scene.Scene, declared.ties.Ties.TheVariants.First, Buses.{HaveRooms, KeptBus, scenario_of}, Nexts.{IsNext, after_steps}, Worlds.{AreNodes, IsNode, IsReached, Surrounds}, Runs.nodes_of, declared.run.Run.Run}
 use Rattle.rb_laws_sweeps.specs.{AheadOf.{GoesOnAhead, IsFirstTick, ahead_of, tick_alone, until_tick}, Laws.NeedsEvent, Sweeping.{first_of, swept}}
 use Rattle.rb_world_traffic.specs.Arriving.{number_of as number_in}
 
@@ -232,15 +232,16 @@ pub record ComesToRecord (sc : Scenario) (kept : Each KeptSite) (scene : Scene) 
 
 -- What calls ask, for some world of the definitions, and what they give, for each.
 
--- the node of which this is kept may be swept up to this time
-abbrev pub CanSweep : Scenario → Side → ℕ → KeptSite → Each Held → Type 0
-CanSweep sc me until site lanes = (sites : Each Site) × (s : Site) × MaySweepAt sc me until site lanes sites s
+-- the node of this name, of which this is kept, may be swept up to this time
+abbrev pub CanSweep : KeptBus → Side → NodeName → ℕ → KeptSite → Each Held → Type 0
+CanSweep bus me node until site lanes =
+    (node ≡ name_of me (number_of site)) × (sites : Each Site) × (s : Site) × MaySweepAt (scenario_of bus) me until site lanes sites s
 
 -- a node that may be swept is swept: `before` was kept of it and `held` of what is pending, and now
 -- `after` and `lanes` are
-abbrev pub HasSwept : Scenario → Side → ℕ → KeptSite → KeptSite → Each Held → Each Held → Type 0
-HasSwept sc me until before after held lanes =
-    (sites : Each Site) (s : Site) → MaySweepAt sc me until before held sites s → Sweeps sc me (number_of before) until after lanes sites s
+abbrev pub HasSwept : KeptBus → Side → ℕ → KeptSite → KeptSite → Each Held → Each Held → Type 0
+HasSwept bus me until before after held lanes =
+    (sites : Each Site) (s : Site) → MaySweepAt (scenario_of bus) me until before held sites s → Sweeps (scenario_of bus) me (number_of before) until after lanes sites s
 
 -- each node that had a lane has one
 abbrev pub KeepsLanes : Each Held → Each Held → Type 0
@@ -248,69 +249,71 @@ KeepsLanes held lanes = (node : NodeName) → HasLane held node → HasLane lane
 
 -- Catching up with the last tick, which was at this node at this time.
 
--- the first i nodes of the kind have been swept, and the next may be
-abbrev pub CanCatchUpAt : Scenario → (NodeName × ℕ) → Side → ℕ → List KeptSite → Each Held → Type 0
-CanCatchUpAt sc tick me i kept lanes = (first : List KeptSite) × (begun : Each Held) × (nodes : Each Site)
-    × (MayCatchUp sc (until_from (Some tick)) me first begun nodes × HaveCaughtUp sc (until_from (Some tick)) me i kept lanes nodes)
+-- a time comes after the last tick, if there was one
+abbrev pub HasLater : Option (NodeName × ℕ) → Type 0
+HasLater tick = IfSome tick (λ t. t.1 < 18446744073709551615)
 
--- a node that may be swept up to this tick is swept
-abbrev pub CatchesUpAt : Scenario → (NodeName × ℕ) → Side → ℕ → List KeptSite → List KeptSite → Each Held → Each Held → Type 0
-CatchesUpAt sc tick me i before after held lanes = (first : List KeptSite) (begun : Each Held) (nodes : Each Site)
-    → MayCatchUp sc (until_from (Some tick)) me first begun nodes → HaveCaughtUp sc (until_from (Some tick)) me i before held nodes
-    → HaveCaughtUp sc (until_from (Some tick)) me (i + 1) after lanes nodes
-
--- all nodes of the kind may be swept
-abbrev pub CanCatchUpAll : Scenario → (NodeName × ℕ) → Side → List KeptSite → Each Held → Type 0
-CanCatchUpAll sc tick me kept lanes = (nodes : Each Site) × MayCatchUp sc (until_from (Some tick)) me kept lanes nodes
+-- all nodes of the kind may be swept up to this tick, after which a time comes
+abbrev pub CanCatchUpAll : KeptBus → (NodeName × ℕ) → Side → List KeptSite → Each Held → Type 0
+CanCatchUpAll bus tick me kept lanes = HasLater (Some tick) × (nodes : Each Site) × MayCatchUp (scenario_of bus) (until_from (Some tick)) me kept lanes nodes
 
 -- all nodes of a kind that may be swept up to this tick are swept
-abbrev pub CatchesUpAll : Scenario → (NodeName × ℕ) → Side → List KeptSite → List KeptSite → Each Held → Each Held → Type 0
-CatchesUpAll sc tick me before after held lanes = (nodes : Each Site) → MayCatchUp sc (until_from (Some tick)) me before held nodes
-    → HaveCaughtUp sc (until_from (Some tick)) me (count_of me sc.sizes) after lanes nodes
+abbrev pub CatchesUpAll : KeptBus → (NodeName × ℕ) → Side → List KeptSite → List KeptSite → Each Held → Each Held → Type 0
+CatchesUpAll bus tick me before after held lanes = (nodes : Each Site) → MayCatchUp (scenario_of bus) (until_from (Some tick)) me before held nodes
+    → HaveCaughtUp (scenario_of bus) (until_from (Some tick)) me (count_of me bus.sizes) after lanes nodes
+
+-- the run may be behind by what came up to the last tick, if there was one
+abbrev pub CanCatchUp : KeptBus → Option (NodeName × ℕ) → Run → Type 0
+CanCatchUp bus tick run = (w : World) × (v : World) × Trails (scenario_of bus) (nodes_of run) run.scene (until_from tick) w v
 
 -- the run was behind by what came up to the last tick, if there was one, and is not behind any more
-abbrev pub CatchesUp : Scenario → Option (NodeName × ℕ) → Run → Run → Type 0
-CatchesUp sc tick before after = (w v : World) → Trails sc (nodes_of before) before.scene (until_from tick) w v
-    → HasCaughtUp sc (nodes_of after) after.scene w
+abbrev pub CatchesUp : KeptBus → Option (NodeName × ℕ) → Run → Run → Type 0
+CatchesUp bus tick before after = (w v : World) → Trails (scenario_of bus) (nodes_of before) before.scene (until_from tick) w v
+    → HasCaughtUp (scenario_of bus) (nodes_of after) after.scene w
 
 -- Ticks.
 
 -- the tick at this time, which is the first of all, is this node's
-abbrev pub CanTakeOwn : Scenario → Side → ℕ → ℕ → List KeptSite → Scene → Type 0
-CanTakeOwn sc me i time own scene = (kept : Each KeptSite) × (until : Side → ℕ → ℕ) × (w : World) × (v : World) × (a : Timed)
-    × MayTakeFirst sc kept scene until w v me i a time own
+abbrev pub CanTakeOwn : KeptBus → Side → ℕ → ℕ → List KeptSite → Scene → Type 0
+CanTakeOwn bus me i time own scene = (kept : Each KeptSite) × (until : Side → ℕ → ℕ) × (w : World) × (v : World) × (a : Timed)
+    × MayTakeFirst (scenario_of bus) kept scene until w v me i a time own
 
 -- the tick of a node that may take it is taken
-abbrev pub TakesOwn : Scenario → Side → ℕ → ℕ → List KeptSite → List KeptSite → Scene → Scene → Type 0
-TakesOwn sc me i time before after around scene = (kept : Each KeptSite) (until : Side → ℕ → ℕ) (w v : World) (a : Timed)
-    → MayTakeFirst sc kept around until w v me i a time before → TakesFirst sc v me i a after (of_kind (other me) kept) scene
+abbrev pub TakesOwn : KeptBus → Side → ℕ → ℕ → List KeptSite → List KeptSite → Scene → Scene → Type 0
+TakesOwn bus me i time before after around scene = (kept : Each KeptSite) (until : Side → ℕ → ℕ) (w v : World) (a : Timed)
+    → MayTakeFirst (scenario_of bus) kept around until w v me i a time before → TakesFirst (scenario_of bus) v me i a after (of_kind (other me) kept) scene
+
+-- the next record needs an event, and the first tick of all may be taken
+abbrev pub CanTakeFirst : KeptBus → Run → Type 0
+CanTakeFirst bus run = (until : Side → ℕ → ℕ) × (w : World) × (v : World) × (me : Side) × (i : ℕ) × (a : Timed)
+    × BehindTick (scenario_of bus) (nodes_of run) run.scene until w v me i a
 
 -- a tick that is the first of all is taken, at this node and at this time
-abbrev pub TakesFirstOf : Scenario → Run → Run → (NodeName × ℕ) → Type 0
-TakesFirstOf sc before after at = (until : Side → ℕ → ℕ) (w v : World) (me : Side) (i : ℕ) (a : Timed)
-    → BehindTick sc (nodes_of before) before.scene until w v me i a → TakesFirstAt sc (nodes_of after) after.scene v me i a at.0 at.1
+abbrev pub TakesFirstOf : KeptBus → Run → Run → (NodeName × ℕ) → Type 0
+TakesFirstOf bus before after at = (until : Side → ℕ → ℕ) (w v : World) (me : Side) (i : ℕ) (a : Timed)
+    → BehindTick (scenario_of bus) (nodes_of before) before.scene until w v me i a → TakesFirstAt (scenario_of bus) (nodes_of after) after.scene v me i a at.0 at.1
 
 -- the next record needs an event, and the run may go on by its first tick
-abbrev pub CanTickFirst : Scenario → Run → Type 0
-CanTickFirst sc run = (until : Side → ℕ → ℕ) × (w : World) × (v : World) × MayTickFirst sc (nodes_of run) run.scene until w v
+abbrev pub CanTickFirst : KeptBus → Run → Type 0
+CanTickFirst bus run = (until : Side → ℕ → ℕ) × (w : World) × (v : World) × MayTickFirst (scenario_of bus) (nodes_of run) run.scene until w v
 
 -- the first tick is taken, at this node and at this time, and this turn is the result
-abbrev pub TicksFirst : Scenario → Run → Run → (NodeName × ℕ) → Turn → Type 0
-TicksFirst sc before after at turn = (until : Side → ℕ → ℕ) (w v : World) → MayTickFirst sc (nodes_of before) before.scene until w v
-    → GoesToTick sc (nodes_of after) after.scene until v at.0 at.1 turn
+abbrev pub TicksFirst : KeptBus → Run → Run → (NodeName × ℕ) → Turn → Type 0
+TicksFirst bus before after at turn = (until : Side → ℕ → ℕ) (w v : World) → MayTickFirst (scenario_of bus) (nodes_of before) before.scene until w v
+    → GoesToTick (scenario_of bus) (nodes_of after) after.scene until v at.0 at.1 turn
 
 -- Runs.
 
 -- the run is under way to its next record, this being the last tick
-abbrev pub CanStepOn : Scenario → Option (NodeName × ℕ) → Run → Type 0
-CanStepOn sc tick run = (n : ℕ) × (w : World) × (d : ℕ) × Along sc (nodes_of run) run.scene (until_from tick) n w d
+abbrev pub CanStepOn : KeptBus → Option (NodeName × ℕ) → Run → Type 0
+CanStepOn bus tick run = (n : ℕ) × (w : World) × (d : ℕ) × Along (scenario_of bus) (nodes_of run) run.scene (until_from tick) n w d
 
 -- the run goes a step on, and this turn is the result
-abbrev pub StepsOn : Scenario → Option (NodeName × ℕ) → Option (NodeName × ℕ) → Run → Run → Turn → Type 0
-StepsOn sc tick next before after turn = (n : ℕ) (w : World) (d : ℕ) → Along sc (nodes_of before) before.scene (until_from tick) n w d
-    → Comes sc (nodes_of after) after.scene (until_from next) n w d turn
+abbrev pub StepsOn : KeptBus → Option (NodeName × ℕ) → Option (NodeName × ℕ) → Run → Run → Turn → Type 0
+StepsOn bus tick next before after turn = (n : ℕ) (w : World) (d : ℕ) → Along (scenario_of bus) (nodes_of before) before.scene (until_from tick) n w d
+    → Comes (scenario_of bus) (nodes_of after) after.scene (until_from next) n w d turn
 
 -- a run that has not ended comes to its next record, which is this turn
-abbrev pub RunsToRecord : Scenario → Run → Run → Turn → Type 0
-RunsToRecord sc before after turn = (w : World) (d : ℕ) → MayRun sc (nodes_of before) before.scene w
-    → ComesToRecord sc (nodes_of after) after.scene turn w d
+abbrev pub RunsToRecord : KeptBus → Run → Run → Turn → Type 0
+RunsToRecord bus before after turn = (w : World) (d : ℕ) → MayRun (scenario_of bus) (nodes_of before) before.scene w
+    → ComesToRecord (scenario_of bus) (nodes_of after) after.scene turn w d

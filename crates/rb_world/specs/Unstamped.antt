@@ -1,11 +1,11 @@
 -- A node before a tick that ends a window of a slot before the sync slot. What comes to it until
 -- then is taken in unstamped, in any order.
-use Rattle.std.specs.Prelude.{ℕ, ◌≡◌, ◌+◌, ◌<◌, nat_lt, All, Some, List, [], ◌∷◌, filter, slice_get, slice_set}
+use Rattle.std.specs.Prelude.{ℕ, ◌≡◌, ◌+◌, nat_lt, All, Some, List, [], ◌∷◌, filter, slice_get, slice_set}
 use Rattle.rb_base.specs.{Nodes.{Side, other}, declared.node.NodeName.NodeName}
-use Rattle.rb_rules.specs.{Book.{Each, of_kind}, Core.Core, Goodness.Scenario, Hearing.Coming, Links.name_of, Slots.count_of, WorldStep.{Site, Timed, World}}
+use Rattle.rb_rules.specs.{Book.{Each, of_kind}, Core.Core, Goodness.Scenario, Hearing.Coming, Links.name_of, WorldStep.{Site, Timed, World}}
 use Rattle.rb_node.specs.{Cores.{IsCore, Running, next_of}, Ends.EndsExactWindow}
 use Rattle.rb_queue.specs.Waiting.{Held, lane_of, with_lane, without_before, without_tick}
-use Rattle.rb_world.specs.{Sites.{KeptSite, Stands as StandsFor, taken_in}, Trailing.{MayTakeFirst, bare, TakesFirst}, declared.scene.Scene.Scene}
+use Rattle.rb_world.specs.{Buses.{KeptBus, scenario_of}, Sites.{IsSource, KeptSite, Stands as StandsFor, taken_in}, Trailing.{MayTakeFirst, bare, TakesFirst}, declared.scene.Scene.Scene}
 
 -- what comes before a time, in the order of the list
 abbrev pub due_before : ℕ → List Coming → List Coming
@@ -23,7 +23,7 @@ TakesInDue me until cs before after =
 
 -- all arrivals `cs` come from sources of the node's bus
 abbrev pub AreOfSources : Side → KeptSite → List Coming → Type 0
-AreOfSources me site cs = All (λ c. c.from < count_of (other me) site.node.seat.sizes) cs
+AreOfSources me site cs = All (λ c. IsSource me site c.from) cs
 
 -- nothing that comes to the node before a time is pending, nor its tick
 abbrev pub with_nothing_before : ℕ → NodeName → Each Held → Each Held
@@ -50,10 +50,15 @@ pub record MayTakeExactly (sc : Scenario) (kept : Each KeptSite) (scene : Scene)
   pub there : slice_get own i ≡ Some site
   pub ends : EndsExactly me site.node
 
+-- the tick at this time, which is the first of all, is this node's and may be taken so
+abbrev pub CanTakeExactly : KeptBus → Side → ℕ → ℕ → KeptSite → Scene → Type 0
+CanTakeExactly bus me i time site scene = (kept : Each KeptSite) × (until : Side → ℕ → ℕ) × (w : World) × (v : World) × (a : Timed) × (own : List KeptSite)
+    × MayTakeExactly (scenario_of bus) kept scene until w v me i a time own site
+
 -- the tick at this time, which is the first of all, is this node's and needs no stamps, and it is
 -- taken
-abbrev pub TakesExactly : Scenario → Side → ℕ → ℕ → KeptSite → KeptSite → Scene → Scene → Type 0
-TakesExactly sc me i time before after around scene =
+abbrev pub TakesExactly : KeptBus → Side → ℕ → ℕ → KeptSite → KeptSite → Scene → Scene → Type 0
+TakesExactly bus me i time before after around scene =
     (kept : Each KeptSite) (until : Side → ℕ → ℕ) (w v : World) (a : Timed) (own : List KeptSite)
-    → MayTakeExactly sc kept around until w v me i a time own before
-    → TakesFirst sc v me i a (slice_set own i after) (of_kind (other me) kept) scene
+    → MayTakeExactly (scenario_of bus) kept around until w v me i a time own before
+    → TakesFirst (scenario_of bus) v me i a (slice_set own i after) (of_kind (other me) kept) scene

@@ -1,22 +1,21 @@
 //! The bus of a run.
-ghost use Rattle.std.specs.Prelude.{◌≡◌, ◌+◌, ◌<◌, ◌≤◌, ◌^◌, IfOk, get_or, length};
+ghost use Rattle.std.specs.Prelude.{◌≡◌, ◌+◌, ◌<◌, ◌≤◌, IfOk, get_or, length};
 ghost use Rattle.rb_base.specs.Nodes.{other};
 ghost use Rattle.rb_base.specs.Nodes.Side.{Biu as biu, Rmu as rmu};
-ghost use Rattle.rb_rules.specs.Book.{Each};
-ghost use Rattle.rb_rules.specs.WorldStep.{Site, first_world};
+ghost use Rattle.rb_rules.specs.WorldStep.{first_world};
 ghost use Rattle.rb_laws_events.specs.PendingEvents.{most_pending};
-ghost use Rattle.rb_node.specs.Acts.{IsSendable};
+ghost use Rattle.rb_node.specs.Acts.{span_in};
 ghost use Rattle.rb_queue.specs.Waiting.{HasLane, lane_of, spare_of};
-ghost use Rattle.rb_world_agenda.specs.Holding.{HoldsSites};
 ghost use Rattle.rb_rules.specs.Entries.{IsListed};
 ghost use Rattle.rb_rules.specs.Goodness.{clock_of};
 ghost use Rattle.rb_rules.specs.Lawful.{IsLawful, IsNodeOf, is_node_good, kind_of};
 ghost use Rattle.rb_world_book.specs.Holding.{Holds};
 ghost use Rattle.rb_scenario.specs.Acceptance.{as_scenario};
-ghost use Rattle.rb_world_traffic.specs.Arriving.{AreRunning, HaveRoom, number_of};
-ghost use Rattle.rb_world_traffic.specs.Departing.{with_sent};
-ghost use Rattle.rb_world.specs.Buses.{HasSaid, HaveRooms, scenario_of, with_said};
+ghost use Rattle.rb_world_traffic.specs.Arriving.{HaveRoom, number_of};
+ghost use Rattle.rb_world_traffic.specs.Departing.{CanDepart};
+ghost use Rattle.rb_world.specs.Buses.{HasSaid, HasSent, HaveRooms, scenario_of, with_said};
 ghost use Rattle.rb_world.specs.Calm.{is_calm};
+ghost use Rattle.rb_world.specs.Steps.{SpanFits};
 
 use crate::calm::{Restless, is_outside, restless_nodes};
 use rb_base::{Biu, NodeName, OutOfMemory, Rmu, Shape};
@@ -203,8 +202,7 @@ impl Bus {
         requires node { IsNodeOf self.now.sizes node }
         requires lane { HasLane agenda.old node }
         requires spare { length self.now.says ≤ spare_of (lane_of agenda.old node) }
-        requires stage { 1 ≤ span.now.place.stage }
-        requires first { span.now.first ≤ 2 ^ 31 }
+        requires span { SpanFits (span_in span.now) }
         ensures lanes { agenda.new ≡ with_said (scenario_of self.now) node span.now agenda.old }
         ensures world { HasSaid (scenario_of self.now) node span.now agenda.old agenda.new }
     {
@@ -220,13 +218,9 @@ impl Bus {
     #[inline(always)]
     pub fn send(&self, agenda: &mut Agenda, departure: &Departure, running: u16)
         requires node { IsNodeOf self.now.sizes departure.now.from }
-        requires tick { departure.now.tick ≤ 2 ^ 31 }
-        requires message { IsSendable departure.now.message }
+        requires departs { CanDepart departure.now }
         requires room { HaveRoom (other (kind_of departure.now.from)) running agenda.old }
-        ensures world { (sites : Each Site)
-            → AreRunning (other (kind_of departure.now.from)) running sites
-            → HoldsSites self.now.sizes agenda.old sites
-            → HoldsSites self.now.sizes agenda.new (with_sent (scenario_of self.now) departure.now sites) }
+        ensures world { HasSent (scenario_of self.now) departure.now running agenda.old agenda.new }
         ensures rooms { HaveRooms (scenario_of self.now) agenda.old
             → HaveRooms (scenario_of self.now) agenda.new }
     {

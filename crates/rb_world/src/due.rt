@@ -4,10 +4,10 @@ ghost use Rattle.rb_base.specs.Nodes.{side_of};
 ghost use Rattle.rb_base.specs.Sizes.{Sizes};
 ghost use Rattle.rb_rules.specs.Ports.{PortState};
 ghost use Rattle.rb_rules.specs.WorldStep.{Pending, Site as WorldSite, World as RunWorld, due_of, event_at, event_of};
-ghost use Rattle.rb_rules.specs.WorldStep.Pending.{Arrival, Tick};
+ghost use Rattle.rb_rules.specs.WorldStep.Pending.{Tick};
 ghost use Rattle.rb_node.specs.Wants.{want_for};
 ghost use Rattle.rb_world.specs.Sites.{number_of};
-ghost use Rattle.rb_world.specs.Showing.{CanShow, CanShowTick, MayShow, MayShowArrival, MayShowTick};
+ghost use Rattle.rb_world.specs.Showing.{CanShow, CanShowArrival, CanShowTick, MayShow, MayShowTick, ShowsArrival};
 ghost use Rattle.rb_world.specs.Worlds.{NeedsEvent, Stands, due_in};
 ghost use Rattle.rb_world.specs.Buses.{scenario_of};
 
@@ -51,7 +51,7 @@ pub(crate) fn show_tick<K: Kind>(
     ports: &[Port],
     node: NodeName,
 ) -> Event
-    requires may { CanShowTick (scenario_of bus.now) (side_of K.CODE) node site.now ports.now }
+    requires may { CanShowTick bus.now (side_of K.CODE) node site.now ports.now }
     ensures { (k : ℕ) (states : List PortState) (s : WorldSite)
         → MayShowTick (scenario_of bus.now) (side_of K.CODE) (number_of site.now) k site.now
         ports.now
@@ -84,15 +84,8 @@ pub(crate) fn show_arrival<K: Kind>(
     from: u8,
     bytes: &ArrayVec<u8, 32>,
 ) -> Event
-    requires may { (s : WorldSite)
-        × MayShowArrival (scenario_of bus.now) (side_of K.CODE)
-        (number_of site.now) site.now time node s }
-    ensures { (states : List PortState) (place : ℕ) (s : WorldSite)
-        → MayShowArrival (scenario_of bus.now) (side_of K.CODE)
-        (number_of site.now) site.now time node s
-        → result ≡ event_of (scenario_of bus.now) states (side_of K.CODE)
-        (number_of site.now) s.core
-        (Arrival place (record { time = time; from = from; bytes = bytes.now.items })) }
+    requires may { CanShowArrival bus.now (side_of K.CODE) site.now time node }
+    ensures { ShowsArrival bus.now (side_of K.CODE) site.now time node from bytes.now.items result }
 {
     let had = site.node().had();
     let quiet = bus.clock(node).first_at(time).saturating_sub(had) as u32;
@@ -112,7 +105,7 @@ fn show<K: Kind>(
     time: u64,
     event: &Event,
 ) -> Event
-    requires may { CanShow (scenario_of bus.now) (side_of K.CODE) site.now ports.now time event.now }
+    requires may { CanShow bus.now (side_of K.CODE) site.now ports.now time event.now }
     ensures { (waits : Pending) (states : List PortState) (s : WorldSite)
         → MayShow (scenario_of bus.now) (side_of K.CODE) (number_of site.now) waits site.now
         ports.now time

@@ -103,7 +103,7 @@ impl World {
         ensures world { (w : RunWorld) (state : ℕ) → Stands self.old w
             → RunsOn First state state self.old self.new turn.new w }
         ensures bus { self.new.bus ≡ self.old.bus }
-        ensures told { TellsRunOn T T.observes observed self.old self.new turn.new
+        ensures told { TellsRunOn T.observes observed self.old self.new turn.new
             observer.old observer.new }
     {
         if self.run.scene.book.has_ended() {

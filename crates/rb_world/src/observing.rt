@@ -1,18 +1,17 @@
 //! Who is told what one node is given while a run goes on.
-ghost use Rattle.std.specs.Prelude.{◌≡◌, ⊤, [], ℕ, List, Some};
+ghost use Rattle.std.specs.Prelude.{◌≡◌, ⊤, ℕ, List, Some};
 ghost use Rattle.rb_base.specs.Nodes.{side_of};
 ghost use Rattle.rb_base.specs.declared.node.NodeName.{NodeName};
 ghost use Rattle.rb_rules.specs.Goodness.{Scenario};
-ghost use Rattle.rb_rules.specs.Hearing.{Coming};
 ghost use Rattle.rb_rules.specs.Links.{name_of, same_node};
 ghost use Rattle.rb_rules.specs.Ports.{PortState};
 ghost use Rattle.rb_rules.specs.WorldStep.{Site as WorldSite};
-ghost use Rattle.rb_rules.specs.WorldStep.Pending.{Arrival, Tick};
-ghost use Rattle.rb_world.specs.Sites.{Stands as StandsFor, number_of};
+ghost use Rattle.rb_rules.specs.WorldStep.Pending.{Tick};
+ghost use Rattle.rb_world.specs.Sites.{Stands as StandsFor, StandsForSome, number_of};
 ghost use Rattle.rb_laws_sweeps.specs.Told.{Told, telling};
 ghost use Rattle.rb_world.specs.Showing.{CanShowTick, MayShowTick};
-ghost use Rattle.rb_world.specs.Steps.{CanHear, CanHearAt};
-ghost use Rattle.rb_world.specs.Observing.{TellsTickFor};
+ghost use Rattle.rb_world.specs.Steps.{CanHearAt};
+ghost use Rattle.rb_world.specs.Observing.{TellsArrival, TellsTickFor};
 ghost use Rattle.rb_world.specs.Buses.{scenario_of};
 
 use crate::Site;
@@ -72,15 +71,10 @@ pub(crate) fn tell_arrival<K: Kind, T: Observer>(
     observer: &mut T,
 )
     requires name { node ≡ name_of (side_of K.CODE) (number_of site.now) }
-    requires stands { (s : WorldSite) × StandsFor (scenario_of bus.now)
-        (side_of K.CODE) site.now s }
-    requires may { CanHearAt (scenario_of bus.now) (side_of K.CODE) node place site.now agenda.now }
-    ensures { (c : Coming) (at : ℕ) (s : WorldSite)
-        → CanHear (scenario_of bus.now) (side_of K.CODE) (number_of site.now) node place site.now
-        agenda.now c
-        → StandsFor (scenario_of bus.now) (side_of K.CODE) site.now s → T.observes observer.old
-        (telling (scenario_of bus.now) [] (side_of K.CODE) (number_of site.now) s
-        (Arrival at c)) observer.new }
+    requires stands { StandsForSome (scenario_of bus.now) (side_of K.CODE) site.now }
+    requires may { CanHearAt bus.now (side_of K.CODE) node place site.now agenda.now }
+    ensures { TellsArrival T.observes bus.now (side_of K.CODE) node place site.now agenda.now
+        observer.old observer.new }
 {
     let arrival = agenda.arrival(node, place);
     let time = arrival.time();
@@ -99,7 +93,7 @@ fn tell_tick<K: Kind, T: Observer>(
     node: NodeName,
     observer: &mut T,
 )
-    requires may { CanShowTick (scenario_of bus.now) (side_of K.CODE) node site.now ports.now }
+    requires may { CanShowTick bus.now (side_of K.CODE) node site.now ports.now }
     ensures { (k : ℕ) (states : List PortState) (s : WorldSite)
         → MayShowTick (scenario_of bus.now) (side_of K.CODE) (number_of site.now) k site.now
         ports.now
@@ -121,10 +115,8 @@ pub(crate) fn tell_tick_for<K: Kind, T: Observer>(
     node: NodeName,
     observer: &mut T,
 )
-    requires may { CanShowTick (scenario_of setup.now.bus.now)
-        (side_of K.CODE) node site.now ports.now }
-    ensures { TellsTickFor T T.observes (scenario_of setup.now.bus.now) setup.now.observed
-        (side_of K.CODE) node
+    requires may { CanShowTick setup.now.bus.now (side_of K.CODE) node site.now ports.now }
+    ensures { TellsTickFor T.observes setup.now.bus.now setup.now.observed (side_of K.CODE) node
         site.now ports.now observer.old observer.new }
 {
     if is_observed(setup.observed, node) {

@@ -1,5 +1,5 @@
 //! How a run begins.
-ghost use Rattle.std.specs.Prelude.{◌≡◌, ◌<◌, ◌+◌, ◌∷◌, ◌++◌, [], IfOk, map};
+ghost use Rattle.std.specs.Prelude.{◌≡◌, ◌<◌, ◌∷◌, ◌++◌, [], IfOk, map};
 ghost use Rattle.rb_base.specs.Counting.{numbers};
 ghost use Rattle.rb_base.specs.Nodes.{side_of};
 ghost use Rattle.rb_rules.specs.Entries.{IsListed};
@@ -7,9 +7,9 @@ ghost use Rattle.rb_rules.specs.Hearing.{port_at};
 ghost use Rattle.rb_rules.specs.Lawful.{IsLawful};
 ghost use Rattle.rb_rules.specs.Links.{name_of};
 ghost use Rattle.rb_rules.specs.Slots.{count_of};
-ghost use Rattle.rb_rules.specs.WorldStep.{World as RunWorld, first_world};
+ghost use Rattle.rb_rules.specs.WorldStep.{first_world};
 ghost use Rattle.rb_scenario.specs.Acceptance.{as_scenario};
-ghost use Rattle.rb_world.specs.Openings.{AreFresh, HaveBegun, MayBegin, before_all};
+ghost use Rattle.rb_world.specs.Openings.{AreFresh, Begins, BeginsAll, CanBegin, CanBeginAll, before_all};
 ghost use Rattle.rb_world.specs.Worlds.{HoldsPorts, Stands, Surrounds};
 ghost use Rattle.rb_world.specs.Buses.{scenario_of};
 
@@ -68,8 +68,8 @@ fn open_sites<K: Kind>(alloc: Global, bus: &Bus, count: u8) -> Result<Vec<Site<K
 
 // What surrounds them before anything is pending.
 fn open_scene(alloc: Global, bus: &Bus) -> Result<Scene, OutOfMemory>
-    ensures { IfOk result (λ scene. Surrounds (scenario_of bus.now) scene (before_all
-        (scenario_of bus.now))) }
+    ensures { IfOk result (λ scene. Surrounds (scenario_of bus.now) scene
+        (before_all (scenario_of bus.now))) }
 {
     let agenda = Agenda::new(alloc, bus.shape(), bus.room())?;
     let ports = open_ports(alloc, bus)?;
@@ -98,11 +98,9 @@ fn begin<K: Kind>(bus: &Bus, i: u8, sites: &mut Vec<Site<K>>, scene: &mut Scene)
     requires within { i < count_of (side_of K.CODE) bus.now.sizes }
     requires lawful { IsLawful (scenario_of bus.now) }
     requires listed { IsListed (scenario_of bus.now) }
-    requires begun { (w : RunWorld)
-        × HaveBegun (scenario_of bus.now) (side_of K.CODE) i sites.old.items scene.old w }
-    ensures { (w : RunWorld) → HaveBegun (scenario_of bus.now)
-        (side_of K.CODE) i sites.old.items scene.old w
-        → HaveBegun (scenario_of bus.now) (side_of K.CODE) (i + 1) sites.new.items scene.new w }
+    requires may { CanBegin bus.now (side_of K.CODE) i sites.old.items scene.old }
+    ensures { Begins bus.now (side_of K.CODE) i sites.old.items sites.new.items scene.old
+        scene.new }
 {
     proceed(bus, name_of::<K>(i), &mut sites[usize::from(i)], scene);
 }
@@ -111,9 +109,8 @@ fn begin<K: Kind>(bus: &Bus, i: u8, sites: &mut Vec<Site<K>>, scene: &mut Scene)
 fn begin_all<K: Kind>(bus: &Bus, count: u8, sites: &mut Vec<Site<K>>, scene: &mut Scene)
     requires count { count ≡ count_of (side_of K.CODE) bus.now.sizes }
     requires fresh { AreFresh (scenario_of bus.now) (side_of K.CODE) sites.old.items }
-    requires may { (w : RunWorld) × MayBegin (scenario_of bus.now) (side_of K.CODE) scene.old w }
-    ensures { (w : RunWorld) → MayBegin (scenario_of bus.now) (side_of K.CODE) scene.old w
-        → HaveBegun (scenario_of bus.now) (side_of K.CODE) count sites.new.items scene.new w }
+    requires may { CanBeginAll bus.now (side_of K.CODE) scene.old }
+    ensures { BeginsAll bus.now (side_of K.CODE) count sites.new.items scene.old scene.new }
 {
     for i in 0..count {
         begin(bus, i, sites, scene);

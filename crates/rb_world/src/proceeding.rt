@@ -1,13 +1,12 @@
 //! A node goes on to its next tick.
-ghost use Rattle.std.specs.Prelude.{◌≡◌, ◌<◌, ◌≤◌, ◌==◌, ◌&&◌, None, not};
-ghost use Rattle.rb_base.specs.Nodes.{has, set_of, side_of};
-ghost use Rattle.rb_rules.specs.Lawful.{IsNodeOf, kind_of};
+ghost use Rattle.std.specs.Prelude.{◌≡◌, ◌<◌};
+ghost use Rattle.rb_base.specs.Nodes.{side_of};
+ghost use Rattle.rb_rules.specs.Lawful.{IsNodeOf};
 ghost use Rattle.rb_rules.specs.Links.{name_of};
-ghost use Rattle.rb_rules.specs.WorldStep.{Site as WorldSite, World, span_from, stop};
-ghost use Rattle.rb_queue.specs.Waiting.{lane_of, spare_of};
-ghost use Rattle.rb_world.specs.Sites.{Stands, number_of};
-ghost use Rattle.rb_world_traffic.specs.Arriving.{number_of as number_in};
-ghost use Rattle.rb_world.specs.Steps.{AwaitsNext, CanProceed, HasProceeded, OthersStay, moved};
+ghost use Rattle.rb_rules.specs.WorldStep.{World};
+ghost use Rattle.rb_queue.specs.Waiting.{HasLane};
+ghost use Rattle.rb_world.specs.Sites.{number_of};
+ghost use Rattle.rb_world.specs.Steps.{AwaitsNext, CanProceed, HasProceeded, stopped, without};
 ghost use Rattle.rb_world.specs.Worlds.{Surrounds};
 ghost use Rattle.rb_world.specs.Buses.{scenario_of};
 
@@ -19,7 +18,7 @@ use rb_base::{Kind, NodeId, NodeName, NodeSet};
 // The set without node i.
 fn without<K: Copy>(set: NodeSet<K>, i: u8) -> NodeSet<K>
     requires { i < 16 }
-    ensures { result ≡ set_of (λ k. not (k == i) && has set k) }
+    ensures { result ≡ without set i }
 {
     let mut changed = NodeSet::from_bits(set.bits());
     changed.remove(NodeId::of(i));
@@ -30,12 +29,8 @@ fn without<K: Copy>(set: NodeSet<K>, i: u8) -> NodeSet<K>
 #[inline(always)]
 fn await_tick<K: Kind>(bus: &Bus, node: NodeName, site: &Site<K>, scene: &mut Scene)
     requires node { IsNodeOf bus.now.sizes node }
-    requires kind { kind_of node ≡ side_of K.CODE }
-    requires around { (w : World) × Surrounds (scenario_of bus.now) scene.old w }
-    requires spare { 1 ≤ spare_of (lane_of scene.old.agenda node) }
-    ensures others { OthersStay (kind_of node) scene.old scene.new }
-    ensures around { AwaitsNext (scenario_of bus.now) (side_of K.CODE) node site.now scene.old
-        scene.new }
+    requires lane { HasLane scene.old.agenda node }
+    ensures { AwaitsNext bus.now (side_of K.CODE) node site.now scene.old scene.new }
 {
     if let Some(tick) = site.node().next_tick() {
         let time = bus.clock(node).at(tick);
@@ -47,9 +42,7 @@ fn await_tick<K: Kind>(bus: &Bus, node: NodeName, site: &Site<K>, scene: &mut Sc
 fn stop_at(bus: &Bus, node: NodeName, scene: &mut Scene)
     requires node { IsNodeOf bus.now.sizes node }
     requires around { (w : World) × Surrounds (scenario_of bus.now) scene.old w }
-    ensures others { OthersStay (kind_of node) scene.old scene.new }
-    ensures around { (w : World) → Surrounds (scenario_of bus.now) scene.old w
-        → Surrounds (scenario_of bus.now) scene.new (moved (kind_of node) (number_in node) stop w) }
+    ensures { scene.new ≡ stopped node scene.old }
 {
     scene.agenda.drop_all(node);
     match node {
@@ -63,9 +56,8 @@ fn stop_at(bus: &Bus, node: NodeName, scene: &mut Scene)
 #[inline(always)]
 fn proceed_in_full<K: Kind>(bus: &Bus, node: NodeName, site: &mut Site<K>, scene: &mut Scene)
     requires name { node ≡ name_of (side_of K.CODE) (number_of site.old) }
-    requires may { CanProceed (scenario_of bus.now) (side_of K.CODE) site.old scene.old }
-    ensures { HasProceeded (scenario_of bus.now) (side_of K.CODE) site.old site.new scene.old
-        scene.new }
+    requires may { CanProceed bus.now (side_of K.CODE) site.old scene.old }
+    ensures { HasProceeded bus.now (side_of K.CODE) site.old site.new scene.old scene.new }
 {
     if let Some(span) = site.entering() {
         if !bus.is_good(node, &span) {
@@ -84,9 +76,8 @@ fn proceed_in_full<K: Kind>(bus: &Bus, node: NodeName, site: &mut Site<K>, scene
 #[inline(always)]
 pub(crate) fn proceed<K: Kind>(bus: &Bus, node: NodeName, site: &mut Site<K>, scene: &mut Scene)
     requires name { node ≡ name_of (side_of K.CODE) (number_of site.old) }
-    requires may { CanProceed (scenario_of bus.now) (side_of K.CODE) site.old scene.old }
-    ensures { HasProceeded (scenario_of bus.now) (side_of K.CODE) site.old site.new scene.old
-        scene.new }
+    requires may { CanProceed bus.now (side_of K.CODE) site.old scene.old }
+    ensures { HasProceeded bus.now (side_of K.CODE) site.old site.new scene.old scene.new }
 {
     if bus.is_calm(node, site.node().engine().frame()) {
         await_tick(bus, node, site, scene);

@@ -1,6 +1,6 @@
 //! One node of a world.
-ghost use Rattle.std.specs.Prelude.{◌≡◌, ◌^◌, ◌<◌, ◌≤◌, false, true, is_some, max, IfSome, IsTrue, None, option_map, slice_set};
-ghost use Rattle.rb_base.specs.Nodes.{other, side_of};
+ghost use Rattle.std.specs.Prelude.{◌≡◌, ◌^◌, ◌<◌, ◌≤◌, false, is_some, max, IfSome, IsTrue, option_map, slice_set};
+ghost use Rattle.rb_base.specs.Nodes.{side_of};
 ghost use Rattle.rb_rules.specs.Clock.{ComesBy};
 ghost use Rattle.rb_rules.specs.Core.{Core, pass_to, tick};
 ghost use Rattle.rb_rules.specs.Links.{name_of};
@@ -10,8 +10,8 @@ ghost use Rattle.rb_rules.specs.WorldStep.{Site as WorldSite, fresh_site, span_f
 ghost use Rattle.rb_node.specs.Acts.{IsSendable, span_in};
 ghost use Rattle.rb_node.specs.Cores.{IsCore, IsSameNode, passing_end};
 ghost use Rattle.rb_slot.specs.Engines.{nothing_shown};
-ghost use Rattle.rb_world.specs.Sites.{KeptSite, Stands, number_of};
-ghost use Rattle.rb_world.specs.Tells.{EndsNext, HasComeBy, HasTakenIn, IfEndsNext, TakesNext, TakesTickWith};
+ghost use Rattle.rb_world.specs.Sites.{IsSameSite, IsSource, KeptSite, Stands, number_of};
+ghost use Rattle.rb_world.specs.Tells.{ClosesNext, EndsNext, HasComeBy, HasTakenIn, IfEndsNext, OnlyHears, TakesTickWith};
 
 use rb_base::{Kind, NodeName};
 use rb_clock::Clock;
@@ -137,13 +137,10 @@ impl<K: Kind> Site<K> {
     #[inline(always)]
     pub fn arrive(&mut self, clock: &Clock, time: u64, from: u8, bytes: &Spelling)
         requires in_time { ComesBy (passing_end (side_of K.CODE) self.old.node) clock.now time }
-        requires source { from < count_of (other (side_of K.CODE)) self.old.node.seat.sizes }
+        requires source { IsSource (side_of K.CODE) self.old from }
         ensures stands { HasComeBy (side_of K.CODE) clock.now
             (record { time = time; from = from; bytes = bytes.now }) self.old self.new }
-        ensures rest { self.new ≡ record self.old {
-          node = record self.old.node { had = self.new.node.had; inbox = self.new.node.inbox };
-          times = slice_set self.old.times from time;
-        } }
+        ensures rest { OnlyHears from time self.old self.new }
         ensures same { IsSameNode self.old.node self.new.node }
     {
         let stamp = clock.first_at(time);
@@ -156,7 +153,7 @@ impl<K: Kind> Site<K> {
     /// node whose next busy tick depends on no stamp.
     #[inline(always)]
     pub fn take_in(&mut self, time: u64, from: u8, bytes: &Spelling)
-        requires source { from < count_of (other (side_of K.CODE)) self.old.node.seat.sizes }
+        requires source { IsSource (side_of K.CODE) self.old from }
         ensures stands { HasTakenIn (side_of K.CODE)
             (record { time = time; from = from; bytes = bytes.now }) self.old self.new }
         ensures rest { self.new ≡ record self.old {
@@ -176,10 +173,9 @@ impl<K: Kind> Site<K> {
         requires { k ≤ passing_end (side_of K.CODE) self.old.node }
         ensures ticked { TakesTickWith (side_of K.CODE) k word self.old self.new result }
         ensures shown { result.closed ≡ false → self.new.node.shown ≡ self.old.node.shown }
-        ensures rest { self.new ≡ record self.old { node = self.new.node } }
         ensures message { IfSome result.message IsSendable }
         ensures epoch { IfSome result.epoch (λ e. e.tick < 2 ^ 31) }
-        ensures same { IsSameNode self.old.node self.new.node }
+        ensures same { IsSameSite self.old self.new }
     {
         pass_to(&mut self.node, k);
         self.node.step(word)
@@ -191,13 +187,11 @@ impl<K: Kind> Site<K> {
     /// in place of stamps, is what it tells of it. Else nothing changes.
     #[inline(always)]
     pub fn end_window(&mut self) -> bool
-        ensures ticked { IsTrue result → TakesNext (side_of K.CODE) self.old self.new
-            (record { epoch = None; message = None; closed = true }) }
+        ensures ticked { IsTrue result → ClosesNext (side_of K.CODE) self.old self.new }
         ensures only { IsTrue result → EndsNext (side_of K.CODE) self.old }
         ensures otherwise { IfEndsNext (side_of K.CODE) self.old (IsTrue result) }
         ensures stays { result ≡ false → self.new ≡ self.old }
-        ensures rest { self.new ≡ record self.old { node = self.new.node } }
-        ensures same { IsSameNode self.old.node self.new.node }
+        ensures same { IsSameSite self.old self.new }
     {
         self.node.end_window()
     }

@@ -1,19 +1,14 @@
 //! How arrivals that were left behind are taken.
-ghost use Rattle.std.specs.Prelude.{◌≡◌, [], ◌∷◌, ◌<◌, IfSome, length};
-ghost use Rattle.rb_base.specs.Nodes.{other, side_of};
+ghost use Rattle.std.specs.Prelude.{◌≡◌, [], ◌∷◌, ◌<◌};
+ghost use Rattle.rb_base.specs.Nodes.{side_of};
 ghost use Rattle.rb_rules.specs.Lawful.{kind_of};
-ghost use Rattle.rb_rules.specs.Links.{name_of};
-ghost use Rattle.rb_rules.specs.Slots.{count_of};
-ghost use Rattle.rb_rules.specs.WorldStep.{World as RunWorld};
 ghost use Rattle.rb_queue.specs.Waiting.{HasLane, lane_of};
-ghost use Rattle.rb_world.specs.Sites.{number_of};
+ghost use Rattle.rb_world.specs.Sites.{IsSource};
 ghost use Rattle.rb_laws_sweeps.specs.AheadOf.{until_tick};
 ghost use Rattle.rb_world_traffic.specs.Arriving.{number_of as number_in};
-ghost use Rattle.rb_world.specs.Runs.{nodes_of};
-ghost use Rattle.rb_world.specs.Trailing.{CanCatchUpAll, CanCatchUpAt, CanSweep, CatchesUp, CatchesUpAll, CatchesUpAt, HasSwept, KeepsLanes, Trails, until_from};
+ghost use Rattle.rb_world.specs.Trailing.{CanCatchUpAll, CanCatchUp, CanSweep, CatchesUp, CatchesUpAll, HasSwept, HasLater, KeepsLanes};
 ghost use Rattle.rb_world.specs.Unstamped.{AreOfSources, TakesInDue, with_nothing_before};
-ghost use Rattle.rb_world.specs.Observing.{TellsCatchUp, TellsCatchUpAll, TellsCatchUpAt, TellsSweep, TellsSweepFor};
-ghost use Rattle.rb_world.specs.Buses.{scenario_of};
+ghost use Rattle.rb_world.specs.Observing.{TellsCatchUp, TellsCatchUpAll, TellsSweep, TellsSweepFor};
 
 use crate::Site;
 use crate::bus::Bus;
@@ -34,11 +29,9 @@ pub(crate) fn sweep<K: Kind>(
     site: &mut Site<K>,
     agenda: &mut Agenda,
 )
-    requires name { node ≡ name_of (side_of K.CODE) (number_of site.old) }
-    requires may { CanSweep (scenario_of bus.now) (side_of K.CODE) until site.old agenda.old }
-    ensures swept { HasSwept (scenario_of bus.now) (side_of K.CODE) until site.old site.new
-        agenda.old agenda.new }
-    ensures number { number_of site.new ≡ number_of site.old }
+    requires may { CanSweep bus.now (side_of K.CODE) node until site.old agenda.old }
+    ensures swept { HasSwept bus.now (side_of K.CODE) until site.old site.new agenda.old
+        agenda.new }
     ensures lanes { KeepsLanes agenda.old agenda.new }
 {
     let clock = bus.clock(node);
@@ -66,8 +59,7 @@ pub(crate) fn sweep<K: Kind>(
 // An arrival is taken in unstamped, if it comes before this time.
 #[inline(always)]
 fn take_in_before<K: Kind>(until: u64, arrival: &Arrival, site: &mut Site<K>)
-    requires sender { arrival.now.from
-        < count_of (other (side_of K.CODE)) site.old.node.seat.sizes }
+    requires sender { IsSource (side_of K.CODE) site.old arrival.now.from }
     ensures stands { TakesInDue (side_of K.CODE) until (arrival.now ∷ []) site.old site.new }
     ensures seat { site.new.node.seat ≡ site.old.node.seat }
 {
@@ -88,8 +80,8 @@ pub(crate) fn take_in_all<K: Kind>(
 )
     requires lane { HasLane agenda.old node }
     requires senders { AreOfSources (side_of K.CODE) site.old (lane_of agenda.old node).arrivals }
-    ensures stands { TakesInDue (side_of K.CODE) until (lane_of agenda.old node).arrivals
-        site.old site.new }
+    ensures stands { TakesInDue (side_of K.CODE) until (lane_of agenda.old node).arrivals site.old
+        site.new }
     ensures seat { site.new.node.seat ≡ site.old.node.seat }
     ensures lanes { agenda.new ≡ with_nothing_before until node agenda.old }
 {
@@ -110,14 +102,11 @@ fn sweep_told<K: Kind, T: Observer>(
     agenda: &mut Agenda,
     observer: &mut T,
 )
-    requires name { node ≡ name_of (side_of K.CODE) (number_of site.old) }
-    requires may { CanSweep (scenario_of bus.now) (side_of K.CODE) until site.old agenda.old }
-    ensures swept { HasSwept (scenario_of bus.now) (side_of K.CODE) until site.old site.new
-        agenda.old agenda.new }
-    ensures number { number_of site.new ≡ number_of site.old }
+    requires may { CanSweep bus.now (side_of K.CODE) node until site.old agenda.old }
+    ensures swept { HasSwept bus.now (side_of K.CODE) until site.old site.new agenda.old
+        agenda.new }
     ensures lanes { KeepsLanes agenda.old agenda.new }
-    ensures told { TellsSweep T T.observes (scenario_of bus.now)
-        (side_of K.CODE) until site.old agenda.old
+    ensures told { TellsSweep T.observes bus.now (side_of K.CODE) until site.old agenda.old
         observer.old observer.new }
 {
     'events: loop {
@@ -144,16 +133,11 @@ pub(crate) fn sweep_for<K: Kind, T: Observer>(
     agenda: &mut Agenda,
     observer: &mut T,
 )
-    requires name { node ≡ name_of (side_of K.CODE) (number_of site.old) }
-    requires may { CanSweep (scenario_of setup.now.bus.now) (side_of K.CODE) until site.old
-        agenda.old }
-    ensures swept { HasSwept (scenario_of setup.now.bus.now) (side_of K.CODE) until site.old
-        site.new
-        agenda.old agenda.new }
-    ensures number { number_of site.new ≡ number_of site.old }
+    requires may { CanSweep setup.now.bus.now (side_of K.CODE) node until site.old agenda.old }
+    ensures swept { HasSwept setup.now.bus.now (side_of K.CODE) until site.old site.new agenda.old
+        agenda.new }
     ensures lanes { KeepsLanes agenda.old agenda.new }
-    ensures told { TellsSweepFor T T.observes (scenario_of setup.now.bus.now) setup.now.observed
-        (side_of K.CODE)
+    ensures told { TellsSweepFor T.observes setup.now.bus.now setup.now.observed (side_of K.CODE)
         node until site.old agenda.old observer.old observer.new }
 {
     if is_observed(setup.observed, node) {
@@ -177,32 +161,6 @@ fn until_before(from: NodeName, time: u64, node: NodeName) -> u64
     }
 }
 
-// One node more is swept up to the tick of a node at a time.
-fn catch_up_at<K: Kind, T: Observer>(
-    setup: &Setup<'_>,
-    tick: (NodeName, u64),
-    i: usize,
-    sites: &mut Vec<Site<K>>,
-    agenda: &mut Agenda,
-    observer: &mut T,
-)
-    requires within { i < length sites.old.items }
-    requires small { tick.1 < 18446744073709551615 }
-    requires may { CanCatchUpAt (scenario_of setup.now.bus.now) tick (side_of K.CODE) i
-        sites.old.items agenda.old }
-    ensures caught { CatchesUpAt (scenario_of setup.now.bus.now) tick (side_of K.CODE) i
-        sites.old.items sites.new.items agenda.old agenda.new }
-    ensures many { length sites.new.items ≡ length sites.old.items }
-    ensures told { TellsCatchUpAt T T.observes (scenario_of setup.now.bus.now) setup.now.observed
-        tick
-        (side_of K.CODE) i sites.old.items agenda.old observer.old observer.new }
-{
-    let site = &mut sites[i];
-    let node = site.name();
-    let until = until_before(tick.0, tick.1, node);
-    sweep_for(setup, node, until, site, agenda, observer);
-}
-
 // Sweeps every node of one kind up to the tick of a node at a time.
 fn catch_up_all<K: Kind, T: Observer>(
     setup: &Setup<'_>,
@@ -211,17 +169,17 @@ fn catch_up_all<K: Kind, T: Observer>(
     agenda: &mut Agenda,
     observer: &mut T,
 )
-    requires small { tick.1 < 18446744073709551615 }
-    requires may { CanCatchUpAll (scenario_of setup.now.bus.now) tick (side_of K.CODE)
-        sites.old.items agenda.old }
-    ensures caught { CatchesUpAll (scenario_of setup.now.bus.now) tick (side_of K.CODE)
-        sites.old.items sites.new.items agenda.old agenda.new }
-    ensures told { TellsCatchUpAll T T.observes (scenario_of setup.now.bus.now) setup.now.observed
-        tick
+    requires { CanCatchUpAll setup.now.bus.now tick (side_of K.CODE) sites.old.items agenda.old }
+    ensures caught { CatchesUpAll setup.now.bus.now tick (side_of K.CODE) sites.old.items
+        sites.new.items agenda.old agenda.new }
+    ensures told { TellsCatchUpAll T.observes setup.now.bus.now setup.now.observed tick
         (side_of K.CODE) sites.old.items agenda.old observer.old observer.new }
 {
     for i in 0..sites.len() {
-        catch_up_at(setup, tick, i, sites, agenda, observer);
+        let site = &mut sites[i];
+        let node = site.name();
+        let until = until_before(tick.0, tick.1, node);
+        sweep_for(setup, node, until, site, agenda, observer);
     }
 }
 
@@ -232,13 +190,10 @@ pub(crate) fn catch_up<T: Observer>(
     run: &mut Run,
     observer: &mut T,
 )
-    requires small { IfSome tick (λ t. t.1 < 18446744073709551615) }
-    requires trails { (w : RunWorld) × (v : RunWorld)
-        × Trails (scenario_of setup.now.bus.now) (nodes_of run.old) run.old.scene
-        (until_from tick) w v }
-    ensures caught { CatchesUp (scenario_of setup.now.bus.now) tick run.old run.new }
-    ensures told { TellsCatchUp T T.observes (scenario_of setup.now.bus.now) setup.now.observed
-        tick run.old
+    requires small { HasLater tick }
+    requires trails { CanCatchUp setup.now.bus.now tick run.old }
+    ensures caught { CatchesUp setup.now.bus.now tick run.old run.new }
+    ensures told { TellsCatchUp T.observes setup.now.bus.now setup.now.observed tick run.old
         observer.old observer.new }
 {
     if let Some(tick) = tick {

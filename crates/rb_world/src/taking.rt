@@ -3,12 +3,11 @@ ghost use Rattle.std.specs.Prelude.{◌≡◌, ◌<◌, ℕ};
 ghost use Rattle.rb_base.specs.Nodes.{side_of};
 ghost use Rattle.rb_rules.specs.Links.{name_of};
 ghost use Rattle.rb_world.specs.Sites.{number_of};
-ghost use Rattle.rb_rules.specs.WorldStep.{Due, World as RunWorld, take, Site as WorldSite};
+ghost use Rattle.rb_rules.specs.WorldStep.{Due, World as RunWorld, take};
 ghost use Rattle.rb_laws_events.specs.Promise.{NodesKeepThePromise};
-ghost use Rattle.rb_queue.specs.Waiting.{lane_of, with_lane, without_place};
-ghost use Rattle.rb_world.specs.Numbering.{TakesInRounds};
+ghost use Rattle.rb_world.specs.Numbering.{TakesInRounds, TakesItInRounds};
 ghost use Rattle.rb_world.specs.Runs.{nodes_of};
-ghost use Rattle.rb_world.specs.Steps.{CanHearAt, Happens, HasHeard, MayHappen, HasTicked, MayTick};
+ghost use Rattle.rb_world.specs.Steps.{CanHearAt, CanTickNext, Happens, HasHeard, MayHappen, TicksNext, without_arrival};
 ghost use Rattle.rb_world.specs.Turning.{Gives};
 ghost use Rattle.rb_world.specs.Worlds.{Stands, due_in, last_of};
 ghost use Rattle.rb_world_book.specs.declared.turn.Turn.{Turn};
@@ -45,14 +44,8 @@ pub(crate) fn last_of(turn: &Turn) -> Last
 #[inline(always)]
 pub(crate) fn tick_at<K: Kind>(bus: &Bus, apps: &Apps, i: u8, site: &mut Site<K>, scene: &mut Scene)
     requires number { i ≡ number_of site.old }
-    requires may { (k : ℕ) × (w : RunWorld) × (s : WorldSite)
-        × MayTick (scenario_of bus.now) (side_of K.CODE) (number_of site.old) k site.old scene.old
-        w s }
-    ensures { (k : ℕ) (w : RunWorld) (s : WorldSite)
-        → MayTick (scenario_of bus.now) (side_of K.CODE) (number_of site.old) k site.old scene.old
-        w s
-        → HasTicked (scenario_of bus.now) (side_of K.CODE) (number_of site.old) k site.new
-        scene.new w s }
+    requires may { CanTickNext bus.now (side_of K.CODE) site.old scene.old }
+    ensures { TicksNext bus.now (side_of K.CODE) site.old site.new scene.old scene.new }
 {
     if let Some(k) = site.node().next_tick() {
         tick(bus, apps, i, k, site, scene);
@@ -93,11 +86,9 @@ pub(crate) fn hear_at<K: Kind>(
     agenda: &mut Agenda,
 )
     requires name { node ≡ name_of (side_of K.CODE) (number_of site.old) }
-    requires may { CanHearAt (scenario_of bus.now) (side_of K.CODE) node place site.old agenda.old }
-    ensures lane { agenda.new
-        ≡ with_lane node (without_place place (lane_of agenda.old node)) agenda.old }
-    ensures stands { HasHeard (scenario_of bus.now) (side_of K.CODE) node place site.old site.new
-        agenda.old }
+    requires may { CanHearAt bus.now (side_of K.CODE) node place site.old agenda.old }
+    ensures lane { agenda.new ≡ without_arrival node place agenda.old }
+    ensures stands { HasHeard bus.now (side_of K.CODE) node place site.old site.new agenda.old }
     ensures number { number_of site.new ≡ number_of site.old }
 {
     let arrival = agenda.arrival(node, place);
@@ -117,8 +108,7 @@ impl World {
             → Gives self.new turn.new (take self.old.bus w i) }
         ensures bus { self.new.bus ≡ self.old.bus }
         ensures seeding { self.new.seeding ≡ self.old.seeding }
-        ensures rounds { (w : RunWorld) → Stands self.old w
-            → TakesInRounds self.old.bus w (take self.old.bus w i) (record_of turn.new) }
+        ensures rounds { TakesItInRounds self.old i turn.new }
     {
         let time = self.run.scene.agenda.first_time();
         let (node, event) = self.run.scene.agenda.take(i);

@@ -8,9 +8,9 @@ ghost use Rattle.rb_rules.specs.Ports.{PortState};
 ghost use Rattle.rb_node.specs.Acts.{IsSendable};
 ghost use Rattle.rb_node.specs.Wants.{want_for};
 ghost use Rattle.rb_world.specs.Worlds.{HoldsPorts, Surrounds};
-ghost use Rattle.rb_rules.specs.WorldStep.{Site as WorldSite, World, with_delivery, word_of};
+ghost use Rattle.rb_rules.specs.WorldStep.{World, with_delivery, word_of};
 ghost use Rattle.rb_world.specs.Sites.{number_of};
-ghost use Rattle.rb_world.specs.Steps.{CanTick, CanWant, Changes, DoesTick, HasRoomFor, IsWordSlot, MayTick, SeesOnlyNodes, begun_at, closed_by, sent_by, word_at};
+ghost use Rattle.rb_world.specs.Steps.{CanTick, CanWant, Changes, Closes, DoesTick, HasRoomFor, IsWordAt, IsWordSlot, SeesOnlyNodes, begun_at, sent_by};
 ghost use Rattle.rb_world.specs.Buses.{scenario_of};
 
 use crate::Site;
@@ -62,8 +62,8 @@ fn begin(bus: &Bus, node: NodeName, epoch: Option<Epoch>, scene: &mut Scene)
     requires node { IsNodeOf bus.now.sizes node }
     requires tick { IfSome epoch (λ e. e.tick ≤ 2 ^ 31) }
     requires around { (w : World) × Surrounds (scenario_of bus.now) scene.old w }
-    ensures around { Changes (scenario_of bus.now) scene.old scene.new (begun_at
-        (scenario_of bus.now) node epoch) }
+    ensures around { Changes bus.now scene.old scene.new
+        (begun_at (scenario_of bus.now) node epoch) }
     ensures rest { scene.new ≡ record scene.old { book = scene.new.book } }
 {
     if let Some(epoch) = epoch {
@@ -113,8 +113,7 @@ fn close<K: Kind>(
     requires sources { closed ≡ true → SeesOnlyNodes (scenario_of bus.now)
         (kind_of node) site.now.node.shown }
     requires around { (w : World) × Surrounds (scenario_of bus.now) scene.old w }
-    ensures around { Changes (scenario_of bus.now) scene.old scene.new
-        (closed_by (scenario_of bus.now) (side_of K.CODE) node closed site.now) }
+    ensures around { Closes bus.now (side_of K.CODE) node closed site.now scene.old scene.new }
     ensures agenda { scene.new.agenda ≡ scene.old.agenda }
 {
     if !closed {
@@ -153,8 +152,8 @@ fn depart(
     requires message { IfSome message IsSendable }
     requires around { (w : World) × Surrounds (scenario_of bus.now) scene.old w }
     requires room { HasRoomFor (scenario_of bus.now) (other (kind_of node)) scene.old }
-    ensures { Changes (scenario_of bus.now) scene.old scene.new (sent_by
-        (scenario_of bus.now) node frame k message) }
+    ensures { Changes bus.now scene.old scene.new
+        (sent_by (scenario_of bus.now) node frame k message) }
 {
     if let Some(message) = message {
         let departure = Departure {
@@ -178,13 +177,9 @@ fn tick_with_word<K: Kind>(
     site: &mut Site<K>,
     scene: &mut Scene,
 )
-    requires may { CanTick (scenario_of bus.now) (side_of K.CODE) k site.old scene.old }
-    requires word { (w : World) (s : WorldSite)
-        → MayTick (scenario_of bus.now) (side_of K.CODE) (number_of site.old) k site.old scene.old
-        w s
-        → word ≡ word_at (scenario_of bus.now) w (side_of K.CODE) (number_of site.old) k s }
-    ensures { DoesTick (scenario_of bus.now) (side_of K.CODE) k site.old site.new scene.old
-        scene.new }
+    requires may { CanTick bus.now (side_of K.CODE) k site.old scene.old }
+    requires word { IsWordAt bus.now (side_of K.CODE) k word site.old scene.old }
+    ensures { DoesTick bus.now (side_of K.CODE) k site.old site.new scene.old scene.new }
 {
     let node = site.name();
     let step = site.tick(k, word);
@@ -206,9 +201,8 @@ fn tick_in_full<K: Kind>(
     scene: &mut Scene,
 )
     requires number { i ≡ number_of site.old }
-    requires may { CanTick (scenario_of bus.now) (side_of K.CODE) k site.old scene.old }
-    ensures { DoesTick (scenario_of bus.now) (side_of K.CODE) k site.old site.new scene.old
-        scene.new }
+    requires may { CanTick bus.now (side_of K.CODE) k site.old scene.old }
+    ensures { DoesTick bus.now (side_of K.CODE) k site.old site.new scene.old scene.new }
 {
     let word = word_for(bus, apps, &scene.ports, i, site.node().wants_then());
     tick_with_word(bus, apps, k, word, site, scene);
@@ -226,9 +220,8 @@ pub(crate) fn tick<K: Kind>(
     scene: &mut Scene,
 )
     requires number { i ≡ number_of site.old }
-    requires may { CanTick (scenario_of bus.now) (side_of K.CODE) k site.old scene.old }
-    ensures { DoesTick (scenario_of bus.now) (side_of K.CODE) k site.old site.new scene.old
-        scene.new }
+    requires may { CanTick bus.now (side_of K.CODE) k site.old scene.old }
+    ensures { DoesTick bus.now (side_of K.CODE) k site.old site.new scene.old scene.new }
 {
     if site.end_window() {
         let node = name_of::<K>(i);

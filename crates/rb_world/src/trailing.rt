@@ -1,15 +1,13 @@
 //! How a run goes from tick to tick: arrivals are left behind until a tick of their node comes, or
 //! a record.
-ghost use Rattle.std.specs.Prelude.{◌≡◌, ◌<◌, IfSome, IsTrue, Some, false, length, ℕ, List};
-ghost use Rattle.rb_base.specs.Nodes.{side_of, Side};
+ghost use Rattle.std.specs.Prelude.{◌≡◌, ◌<◌, IsTrue, Some, false};
+ghost use Rattle.rb_base.specs.Nodes.{side_of};
 ghost use Rattle.rb_rules.specs.Links.{same_node};
-ghost use Rattle.rb_rules.specs.WorldStep.{World as RunWorld, Timed};
+ghost use Rattle.rb_rules.specs.WorldStep.{World as RunWorld};
 ghost use Rattle.rb_world_book.specs.declared.turn.Turn.{Turn};
 ghost use Rattle.rb_world.specs.Runs.{nodes_of};
-ghost use Rattle.rb_world.specs.Trailing.{BehindTick, CanStepOn, CanTakeOwn, CanTickFirst, MayRun, RunsToRecord, StepsOn, TakesFirstOf, TakesOwn, TicksFirst};
-ghost use Rattle.rb_world.specs.Unstamped.{EndsExactly, MayTakeExactly, TakesExactly};
-ghost use Rattle.rb_rules.specs.Book.{Each};
-ghost use Rattle.rb_world.specs.Sites.{KeptSite};
+ghost use Rattle.rb_world.specs.Trailing.{CanStepOn, CanTakeFirst, CanTakeOwn, CanTickFirst, HasLater, MayRun, RunsToRecord, StepsOn, TakesFirstOf, TakesOwn, TicksFirst};
+ghost use Rattle.rb_world.specs.Unstamped.{CanTakeExactly, EndsExactly, TakesExactly};
 ghost use Rattle.rb_world.specs.Observing.{TellsFirst, TellsOwn, TellsRun, TellsStep};
 ghost use Rattle.rb_world.specs.Buses.{scenario_of};
 
@@ -49,12 +47,9 @@ fn take_exact_tick<K: Kind>(
     scene: &mut Scene,
 )
     requires small { time < 18446744073709551615 }
-    requires may { (kept : Each KeptSite) × (until : Side → ℕ → ℕ) × (w : RunWorld)
-        × (v : RunWorld) × (a : Timed) × (own : List KeptSite)
-        × MayTakeExactly (scenario_of bus.now) kept scene.old until w v
-        (side_of K.CODE) i a time own site.old }
-    ensures takes { TakesExactly (scenario_of bus.now) (side_of K.CODE) i time
-        site.old site.new scene.old scene.new }
+    requires may { CanTakeExactly bus.now (side_of K.CODE) i time site.old scene.old }
+    ensures takes { TakesExactly bus.now (side_of K.CODE) i time site.old site.new scene.old
+        scene.new }
 {
     take_in_all(name_of::<K>(i), time + 1, site, &mut scene.agenda);
     tick_at(bus, apps, i, site, scene)
@@ -71,15 +66,11 @@ fn take_tick<K: Kind, T: Observer>(
     scene: &mut Scene,
     observer: &mut T,
 )
-    requires within { i < length sites.old.items }
-    requires small { time < 18446744073709551615 }
-    requires may { CanTakeOwn (scenario_of setup.now.bus.now)
-        (side_of K.CODE) i time sites.old.items scene.old }
-    ensures takes { TakesOwn (scenario_of setup.now.bus.now) (side_of K.CODE) i time
-        sites.old.items sites.new.items scene.old scene.new }
-    ensures told { TellsOwn T T.observes (scenario_of setup.now.bus.now) setup.now.observed
-        (side_of K.CODE) i
-        time sites.old.items scene.old observer.old observer.new }
+    requires may { CanTakeOwn setup.now.bus.now (side_of K.CODE) i time sites.old.items scene.old }
+    ensures takes { TakesOwn setup.now.bus.now (side_of K.CODE) i time sites.old.items
+        sites.new.items scene.old scene.new }
+    ensures told { TellsOwn T.observes setup.now.bus.now setup.now.observed (side_of K.CODE) i time
+        sites.old.items scene.old observer.old observer.new }
 {
     let node = name_of::<K>(i);
     let site = &mut sites[usize::from(i)];
@@ -95,14 +86,10 @@ fn take_tick<K: Kind, T: Observer>(
 // The first tick of all is taken at its node. Before it the node is swept.
 #[inline(always)]
 fn take_first<T: Observer>(setup: &Setup<'_>, run: &mut Run, observer: &mut T) -> (NodeName, u64)
-    requires may { (until : Side → ℕ → ℕ) × (w : RunWorld) × (v : RunWorld) × (me : Side) × (i : ℕ)
-        × (a : Timed)
-        × BehindTick (scenario_of setup.now.bus.now) (nodes_of run.old) run.old.scene until w v me
-        i a }
-    ensures happens { TakesFirstOf (scenario_of setup.now.bus.now) run.old run.new result }
-    ensures told { TellsFirst T T.observes (scenario_of setup.now.bus.now) setup.now.observed
-        run.old
-        observer.old observer.new }
+    requires may { CanTakeFirst setup.now.bus.now run.old }
+    ensures happens { TakesFirstOf setup.now.bus.now run.old run.new result }
+    ensures told { TellsFirst T.observes setup.now.bus.now setup.now.observed run.old observer.old
+        observer.new }
 {
     let (node, time) = run.scene.agenda.first_tick();
     match node {
@@ -121,12 +108,11 @@ fn tick_first<T: Observer>(
     observer: &mut T,
 ) -> (NodeName, u64)
     requires quiet { turn.old ≡ Turn.Quiet }
-    requires may { CanTickFirst (scenario_of setup.now.bus.now) run.old }
-    ensures goes { TicksFirst (scenario_of setup.now.bus.now) run.old run.new result turn.new }
+    requires may { CanTickFirst setup.now.bus.now run.old }
+    ensures goes { TicksFirst setup.now.bus.now run.old run.new result turn.new }
     ensures small { result.1 < 18446744073709551615 }
-    ensures told { TellsFirst T T.observes (scenario_of setup.now.bus.now) setup.now.observed
-        run.old
-        observer.old observer.new }
+    ensures told { TellsFirst T.observes setup.now.bus.now setup.now.observed run.old observer.old
+        observer.new }
 {
     let (node, time) = take_first(setup, run, observer);
     run.scene.book.settle_into(Way::ByAnEvent, turn);
@@ -143,13 +129,11 @@ fn step_on<T: Observer>(
     observer: &mut T,
 )
     requires quiet { turn.old ≡ Turn.Quiet }
-    requires small { IfSome tick.old (λ t. t.1 < 18446744073709551615) }
-    requires may { CanStepOn (scenario_of setup.now.bus.now) tick.old run.old }
-    ensures comes { StepsOn (scenario_of setup.now.bus.now) tick.old tick.new run.old run.new
-        turn.new }
-    ensures small { IfSome tick.new (λ t. t.1 < 18446744073709551615) }
-    ensures told { TellsStep T T.observes (scenario_of setup.now.bus.now) setup.now.observed
-        tick.old tick.new
+    requires small { HasLater tick.old }
+    requires may { CanStepOn setup.now.bus.now tick.old run.old }
+    ensures comes { StepsOn setup.now.bus.now tick.old tick.new run.old run.new turn.new }
+    ensures small { HasLater tick.new }
+    ensures told { TellsStep T.observes setup.now.bus.now setup.now.observed tick.old tick.new
         run.old run.new turn.new observer.old observer.new }
 {
     if run.scene.book.needs_no_event() {
@@ -171,10 +155,9 @@ pub(crate) fn run_ticks<T: Observer>(
     requires quiet { turn.old ≡ Turn.Quiet }
     requires may { (w : RunWorld) × MayRun (scenario_of setup.now.bus.now)
         (nodes_of run.old) run.old.scene w }
-    ensures comes { RunsToRecord (scenario_of setup.now.bus.now) run.old run.new turn.new }
-    ensures told { TellsRun T T.observes (scenario_of setup.now.bus.now) setup.now.observed run.old
-        run.new
-        turn.new observer.old observer.new }
+    ensures comes { RunsToRecord setup.now.bus.now run.old run.new turn.new }
+    ensures told { TellsRun T.observes setup.now.bus.now setup.now.observed run.old run.new turn.new
+        observer.old observer.new }
 {
     let mut tick = None;
     for passed in 0..u64::MAX {

@@ -6,8 +6,8 @@ use Rattle.rb_world.proofs.opening.begin_all.Goals as goal
 pub loop-i-init : goal.loop-i-init
 loop-i-init g c = λ w may. none-yet (scenario_of c.args.bus.now) (side_of g.K.Kind.CODE) c.args.sites.now.items c.args.scene.now w c.requires.fresh may
 
-pub begin-requires-clause-begun : goal.begin-requires-clause-begun
-begin-requires-clause-begun g c = (c.requires.may.0, c.loop-i.invariant c.requires.may.0 c.requires.may.1)
+pub begin-requires-clause-may : goal.begin-requires-clause-may
+begin-requires-clause-may g c = (c.requires.may.0, c.loop-i.invariant c.requires.may.0 c.requires.may.1)
 
 pub loop-i-preserved : goal.loop-i-preserved
 loop-i-preserved g c = λ w may. c.begin.ensures w (c.loop-i.invariant w may)

@@ -1,12 +1,13 @@
-use Rattle.std.proofs.Common.{◌+◌, ◌≤◌, sym, ap, ◌∙◌, subst, arith}
-use Rattle.std.specs.Prelude.{length, option_map}
+use Rattle.std.proofs.Common.{sym, ap, ◌∙◌, subst}
+use Rattle.std.specs.Prelude.{option_map}
 use Rattle.rb_base.specs.Nodes.{other, side_of}
 use Rattle.rb_rules.specs.{Book.of_kind, Lawful.{IsNodeOf, kind_of}, WorldStep.says_in}
-use Rattle.rb_queue.specs.Waiting.{lane_of, spare_of}
+use Rattle.rb_queue.specs.Waiting.{HasLane, lane_of}
 use Rattle.rb_node.specs.Acts.{span_in}
-use Rattle.rb_world.specs.{Sites.number_of, declared.scene.Scene.Scene, Steps.{OthersStay, moved}, Worlds.Surrounds, Buses.scenario_of}
-use Rattle.rb_world_traffic.specs.{Arriving.number_of as number_in, Saying.{hears, with_arrivals}}
-use Rattle.rb_world.proofs.{Entering.{AwaitsTick, after-none, after-some, after-stop, others-named, says-around, spare-said}, Lanes.{has-lane, node-named}, proceeding.proceed_in_full.Goals.{in-Some+else-not-is_good, in_default}}
+use Rattle.rb_world.specs.{Sites.number_of, declared.scene.Scene.Scene, Buses.scenario_of}
+use Rattle.rb_world_traffic.specs.{Arriving.number_of as number_in, Saying.with_arrivals}
+use Rattle.rb_world.proofs.{Entering.{AwaitsTick, after-none, after-some, after-stop, others-named, says-around}, Lanes.{has-lane, node-named}, proceeding.proceed_in_full.Goals.{in-Some+else-not-is_good, in_default}}
+use Rattle.rb_world_agenda.proofs.Keeping.{has-with}
 use Rattle.rb_world.proofs.proceeding.proceed_in_full.Goals as goal
 
 pub returns-then-not-is_good : goal.returns-then-not-is_good
@@ -16,7 +17,7 @@ returns-then-not-is_good g c =
     let me = side_of g.K.Kind.CODE in
     let enters = sym (c.entering.ensures sc s may.at.stands) ∙ ap (option_map span_in) c.in-Some.is in
     after-stop sc me (number_of c.args.site.now) c.args.node c.args.site.now c.stop.new.self c.args.scene.now c.stop_at.new.scene w s (span_in c.in-Some.span) c.requires.name may.at enters
-    (sym c.is_good.ensures ∙ c.if-not-is_good.true) c.stop.ensures.rest (c.stop_at.ensures.around w may.at.surrounds) c.stop_at.ensures.others
+    (sym c.is_good.ensures ∙ c.if-not-is_good.true) c.stop.ensures.rest c.stop_at.ensures
 
 pub say-requires-clause-lane : goal.say-requires-clause-lane
 say-requires-clause-lane g c =
@@ -26,46 +27,23 @@ say-requires-clause-lane g c =
     has-lane sc c.args.scene.now w c.args.node at.surrounds
     (subst (IsNodeOf sc.sizes) (sym c.requires.name) (node-named sc (side_of g.K.Kind.CODE) (number_of c.args.site.now) at.within))
 
-pub say-requires-clause-stage : goal.say-requires-clause-stage
-say-requires-clause-stage g c =
+pub say-requires-clause-span : goal.say-requires-clause-span
+say-requires-clause-span g c =
     let may = c.requires.may.2 in
-    (may.spans (span_in c.in-Some.span) (sym (c.entering.ensures (scenario_of c.args.bus.now) c.requires.may.1 may.at.stands) ∙ ap (option_map span_in) c.in-Some.is)).stage
+    may.spans (span_in c.in-Some.span) (sym (c.entering.ensures (scenario_of c.args.bus.now) c.requires.may.1 may.at.stands) ∙ ap (option_map span_in) c.in-Some.is)
 
-pub say-requires-clause-first : goal.say-requires-clause-first
-say-requires-clause-first g c =
-    let may = c.requires.may.2 in
-    (may.spans (span_in c.in-Some.span) (sym (c.entering.ensures (scenario_of c.args.bus.now) c.requires.may.1 may.at.stands) ∙ ap (option_map span_in) c.in-Some.is)).first
-
-pub await_tick-requires-clause-around : goal.await_tick-requires-clause-around
-await_tick-requires-clause-around g c =
+pub await_tick-requires-clause-lane : goal.await_tick-requires-clause-lane
+await_tick-requires-clause-lane g c =
     let sc = scenario_of c.args.bus.now in
     let w = c.requires.may.0 in
     let at = c.requires.may.2.at in
     let node = c.args.node in
     let there = has-lane sc c.args.scene.now w node at.surrounds (subst (IsNodeOf sc.sizes) (sym c.requires.name) (node-named sc (side_of g.K.Kind.CODE) (number_of c.args.site.now) at.within)) in
-    elim c.match-entering.branch [
-      | in-Some+else-not-is_good d ↦ (
-        moved (kind_of node) (number_in node) (hears sc node (span_in d.in-Some.span)) w,
-        subst (λ m. Surrounds sc m (moved (kind_of node) (number_in node) (hears sc node (span_in d.in-Some.span)) w)) (sym d.scene-is)
-            (says-around sc c.args.scene.now d.say.new.agenda w node (span_in d.in-Some.span) (says_in sc (kind_of node) (number_in node) (span_in d.in-Some.span)) there d.say.ensures.lanes
-            (d.say.ensures.world w.sites at.surrounds.lanes) at.surrounds),
-      )
-      | in_default d ↦ (w, subst (λ m. Surrounds sc m w) (sym d.scene-is) at.surrounds)
-    ]
-
-pub await_tick-requires-clause-spare : goal.await_tick-requires-clause-spare
-await_tick-requires-clause-spare g c =
-    let sc = scenario_of c.args.bus.now in
-    let w = c.requires.may.0 in
-    let at = c.requires.may.2.at in
-    let node = c.args.node in
-    let lanes = c.args.scene.now.agenda in
-    let there = has-lane sc c.args.scene.now w node at.surrounds (subst (IsNodeOf sc.sizes) (sym c.requires.name) (node-named sc (side_of g.K.Kind.CODE) (number_of c.args.site.now) at.within)) in
-    let spare : length sc.says + 1 ≤ spare_of (lane_of lanes node) = subst (λ n. length sc.says + 1 ≤ spare_of (lane_of lanes n)) (sym c.requires.name) at.spare in
     elim c.match-entering.branch [
       | in-Some+else-not-is_good d ↦
-          subst (λ (m : Scene). 1 ≤ spare_of (lane_of m.agenda node)) (sym d.scene-is) (spare-said sc at.listed lanes d.say.new.agenda node (span_in d.in-Some.span) there d.say.ensures.lanes spare)
-      | in_default d ↦ let one : 1 ≤ spare_of (lane_of lanes node) = omega (arith, spare) in subst (λ (m : Scene). 1 ≤ spare_of (lane_of m.agenda node)) (sym d.scene-is) one
+          let lane = with_arrivals (says_in sc (kind_of node) (number_in node) (span_in d.in-Some.span)) (lane_of c.args.scene.now.agenda node) in
+          subst (λ (m : Scene). HasLane m.agenda node) (sym d.scene-is) (subst (λ lanes. HasLane lanes node) (sym d.say.ensures.lanes) (has-with c.args.scene.now.agenda node node lane there))
+      | in_default d ↦ subst (λ (m : Scene). HasLane m.agenda node) (sym d.scene-is) there
     ]
 
 pub returns : goal.returns
@@ -88,9 +66,9 @@ returns g c =
           (sym (c.entering.ensures sc s may.at.stands) ∙ ap (option_map span_in) d.in-Some.is) (sym d.is_good.ensures ∙ d.if-not-is_good.false)
           (says-around sc before lanes w node span more there d.say.ensures.lanes (d.say.ensures.world w.sites may.at.surrounds.lanes) may.at.surrounds)
           (ap (of_kind (other (kind_of node))) d.say.ensures.lanes ∙ others-named node (with_arrivals more (lane_of before.agenda node)) before.agenda)
-          (subst (λ m. AwaitsTick sc me node site m after) d.scene-is c.await_tick.ensures.around) (subst (λ m. OthersStay (kind_of node) m after) d.scene-is c.await_tick.ensures.others)
+          (subst (λ m. AwaitsTick sc me node site m after) d.scene-is c.await_tick.ensures)
       | in_default d ↦
           after-none sc me i node site before after w s c.requires.name may.at
           (sym (c.entering.ensures sc s may.at.stands) ∙ ap (option_map span_in) d.in_default.is)
-          (subst (λ m. AwaitsTick sc me node site m after) d.scene-is c.await_tick.ensures.around) (subst (λ m. OthersStay (kind_of node) m after) d.scene-is c.await_tick.ensures.others)
+          (subst (λ m. AwaitsTick sc me node site m after) d.scene-is c.await_tick.ensures)
     ]

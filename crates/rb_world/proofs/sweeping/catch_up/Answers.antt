@@ -1,27 +1,28 @@
 use Rattle.std.proofs.Common.{Some, refl, sym, subst}
 use Rattle.rb_base.specs.Nodes.Side.{Biu}
 use Rattle.rb_rules.specs.Slots.{count_of}
-use Rattle.rb_world.specs.{Observing.{WasTold, left_for}, Runs.nodes_of, Trailing.{Trails, swept_first, until_from}, Buses.scenario_of}
+use Rattle.rb_world.specs.{Observing.{WasTold, left_for}, Runs.nodes_of, Trailing.{HasLater, Trails, swept_first, until_from}, Buses.scenario_of}
 use Rattle.rb_world.proofs.{CaughtUp.{all-caught, may-all, may-others, none-caught}, LeftTold.{left-none, told-all}}
 use Rattle.rb_world.proofs.sweeping.catch_up.Goals as goal
 
-pub catch_up_all-requires-clause-may : goal.catch_up_all-requires-clause-may
-catch_up_all-requires-clause-may g c =
+pub catch_up_all-requires : goal.catch_up_all-requires
+catch_up_all-requires g c =
     let w = c.requires.trails.0 in
     let v = c.requires.trails.1 in
     let until = until_from (Some c.in-Some.tick) in
     let trails : Trails (scenario_of c.args.setup.now.bus.now) (nodes_of c.args.run.now) c.args.run.now.scene until w v =
     subst (λ t. Trails (scenario_of c.args.setup.now.bus.now) (nodes_of c.args.run.now) c.args.run.now.scene (until_from t) w v) c.in-Some.is c.requires.trails.2 in
-    (v.sites, may-all (scenario_of c.args.setup.now.bus.now) (nodes_of c.args.run.now) c.args.run.now.scene until w v Biu trails)
+    (subst HasLater c.in-Some.is c.requires.small, v.sites, may-all (scenario_of c.args.setup.now.bus.now) (nodes_of c.args.run.now) c.args.run.now.scene until w v Biu trails)
 
-pub catch_up_all-requires-in-Some-clause-may : goal.catch_up_all-requires-in-Some-clause-may
-catch_up_all-requires-in-Some-clause-may g c =
+pub catch_up_all-requires-in-Some : goal.catch_up_all-requires-in-Some
+catch_up_all-requires-in-Some g c =
     let sc = scenario_of c.args.setup.now.bus.now in
     let w = c.requires.trails.0 in
     let v = c.requires.trails.1 in
     let until = until_from (Some c.in-Some.tick) in
     let trails : Trails sc (nodes_of c.args.run.now) c.args.run.now.scene until w v = subst (λ t. Trails sc (nodes_of c.args.run.now) c.args.run.now.scene (until_from t) w v) c.in-Some.is c.requires.trails.2 in
     let one = c.catch_up_all.ensures.caught v.sites (may-all sc (nodes_of c.args.run.now) c.args.run.now.scene until w v Biu trails) in (
+      subst HasLater c.in-Some.is c.requires.small,
       swept_first sc until Biu (count_of Biu sc.sizes) v.sites,
       may-others sc (nodes_of c.args.run.now) c.args.run.now.scene until w v (count_of Biu sc.sizes) c.catch_up_all.new.sites.items c.catch_up_all.new.agenda trails one,
     )

@@ -1,32 +1,43 @@
-use Rattle.std.proofs.Common.{◌≡◌, ◌+◌, Some, false, [], ◌∷◌, ◌++◌, get_or, slice_get, refl, sym, ap, subst, ◌∙◌, if◌then◌else◌}
+use Rattle.std.proofs.Common.{◌≡◌, ◌+◌, Some, false, [], ◌∷◌, ◌++◌, get_or, slice_get, refl, sym, ap, subst, ◌∙◌, arith, if◌then◌else◌}
 use Rattle.std.specs.Prelude.{slice_set}
 use Rattle.rb_base.specs.Nodes.{other, side_of}
 use Rattle.rb_rules.specs.{Book.of_kind, Links.{name_of, same_node}, WorldStep.Pending.Tick}
 use Rattle.rb_world_agenda.specs.Holding.{without_waiting}
 use Rattle.rb_world.specs.{Sites.number_of, Observing.{WasTold, alone_for}, Showing.MayShowTick, Steps.{MayTick, Ticks, act_at, moved}, Trailing.{MaySweep, Sweeps, TakesFirst, alone, bare}, Unstamped.MayTakeExactly, Buses.scenario_of}
 use Rattle.rb_laws_sweeps.specs.Told.{heard, telling}
-use Rattle.rb_world.proofs.{Behind.{indexed, may-take, may-then, takes-first}, Observed.was-both, ToldOn.{alone-told, tick-shown}}
+use Rattle.rb_world.proofs.{Behind.{indexed, may-take, may-then, own-small, own-within, takes-first}, Observed.was-both, ToldOn.{alone-told, tick-shown}}
 use Rattle.rb_world.proofs.trailing.take_tick.Goals as goal
 
-pub sweep_for-requires-clause-name : goal.sweep_for-requires-clause-name
-sweep_for-requires-clause-name g c =
-    let sc = scenario_of c.args.setup.now.bus.now in
-    let me = side_of g.K.Kind.CODE in
-    let sites = c.args.sites.now.items in
-    let site = c.index_mut-site.result.now in
-    let there : slice_get sites c.args.i ≡ Some site = indexed sites c.args.i site c.requires.within (c.index_mut-site.ensures.value ∙ ap (λ n. get_or sites n site) c.from.ensures) in
-    let both = may-take sc c.requires.may.0 c.args.scene.now c.requires.may.1 c.requires.may.2 c.requires.may.3 me c.args.i c.requires.may.4 c.args.time sites site c.requires.may.5 there in
-    c.name_of-node.ensures ∙ ap (name_of me) (sym both.0)
+pub overflow_add-time : goal.overflow_add-time
+overflow_add-time g c = let small = own-small c.requires.may.5 in omega (arith, small)
 
-pub sweep_for-requires-clause-may : goal.sweep_for-requires-clause-may
-sweep_for-requires-clause-may g c =
+pub take_exact_tick-requires-clause-small : goal.take_exact_tick-requires-clause-small
+take_exact_tick-requires-clause-small g c = own-small c.requires.may.5
+
+pub take_exact_tick-requires-clause-may : goal.take_exact_tick-requires-clause-may
+take_exact_tick-requires-clause-may g c =
+    let m = c.requires.may in
+    let sites = c.args.sites.now.items in
+    let site = c.index_mut-site.result.now in
+    let there : slice_get sites c.args.i ≡ Some site = indexed sites c.args.i site (own-within m.5) (c.index_mut-site.ensures.value ∙ ap (λ n. get_or sites n site) c.from.ensures) in
+    (m.0, m.1, m.2, m.3, m.4, sites, record { first = m.5; there = there; ends = c.if-needs_no_stamps.ensures.ends refl })
+
+pub sweep_for-requires : goal.sweep_for-requires
+sweep_for-requires g c =
     let sc = scenario_of c.args.setup.now.bus.now in
     let me = side_of g.K.Kind.CODE in
     let sites = c.args.sites.now.items in
     let site = c.index_mut-site.result.now in
-    let there : slice_get sites c.args.i ≡ Some site = indexed sites c.args.i site c.requires.within (c.index_mut-site.ensures.value ∙ ap (λ n. get_or sites n site) c.from.ensures) in
+    let there : slice_get sites c.args.i ≡ Some site = indexed sites c.args.i site (own-within c.requires.may.5) (c.index_mut-site.ensures.value ∙ ap (λ n. get_or sites n site) c.from.ensures) in
     let both = may-take sc c.requires.may.0 c.args.scene.now c.requires.may.1 c.requires.may.2 c.requires.may.3 me c.args.i c.requires.may.4 c.args.time sites site c.requires.may.5 there in
-    (c.requires.may.3.sites, c.requires.may.5.at.first.node, subst (λ n. MaySweep sc me n (c.args.time + 1) site c.args.scene.now.agenda c.requires.may.3.sites c.requires.may.5.at.first.node) (sym both.0) both.1)
+    record {
+      may = (
+        c.name_of-node.ensures ∙ ap (name_of me) (sym both.0),
+        c.requires.may.3.sites,
+        c.requires.may.5.at.first.node,
+        subst (λ n. MaySweep sc me n (c.args.time + 1) site c.args.scene.now.agenda c.requires.may.3.sites c.requires.may.5.at.first.node) (sym both.0) both.1,
+      );
+    }
 
 pub tick_at-requires-clause-number : goal.tick_at-requires-clause-number
 tick_at-requires-clause-number g c =
@@ -34,9 +45,11 @@ tick_at-requires-clause-number g c =
     let me = side_of g.K.Kind.CODE in
     let sites = c.args.sites.now.items in
     let site = c.index_mut-site.result.now in
-    let there : slice_get sites c.args.i ≡ Some site = indexed sites c.args.i site c.requires.within (c.index_mut-site.ensures.value ∙ ap (λ n. get_or sites n site) c.from.ensures) in
+    let there : slice_get sites c.args.i ≡ Some site = indexed sites c.args.i site (own-within c.requires.may.5) (c.index_mut-site.ensures.value ∙ ap (λ n. get_or sites n site) c.from.ensures) in
     let both = may-take sc c.requires.may.0 c.args.scene.now c.requires.may.1 c.requires.may.2 c.requires.may.3 me c.args.i c.requires.may.4 c.args.time sites site c.requires.may.5 there in
-    sym (c.sweep_for.ensures.number ∙ both.0)
+    let s = c.requires.may.5.at.first.node in
+    let sites_are = c.requires.may.3.sites in
+    sym ((c.sweep_for.ensures.swept sites_are s (subst (λ n. MaySweep sc me n (c.args.time + 1) site c.args.scene.now.agenda sites_are s) (sym both.0) both.1)).node.number ∙ both.0)
 
 pub tick_at-requires-clause-may : goal.tick_at-requires-clause-may
 tick_at-requires-clause-may g c =
@@ -44,7 +57,7 @@ tick_at-requires-clause-may g c =
     let me = side_of g.K.Kind.CODE in
     let sites = c.args.sites.now.items in
     let site = c.index_mut-site.result.now in
-    let there : slice_get sites c.args.i ≡ Some site = indexed sites c.args.i site c.requires.within (c.index_mut-site.ensures.value ∙ ap (λ n. get_or sites n site) c.from.ensures) in
+    let there : slice_get sites c.args.i ≡ Some site = indexed sites c.args.i site (own-within c.requires.may.5) (c.index_mut-site.ensures.value ∙ ap (λ n. get_or sites n site) c.from.ensures) in
     let both = may-take sc c.requires.may.0 c.args.scene.now c.requires.may.1 c.requires.may.2 c.requires.may.3 me c.args.i c.requires.may.4 c.args.time sites site c.requires.may.5 there in
     let sweeps : Sweeps sc me c.args.i (c.args.time + 1) c.sweep_for.new.site c.sweep_for.new.agenda c.requires.may.3.sites c.requires.may.5.at.first.node =
     subst (λ n. Sweeps sc me n (c.args.time + 1) c.sweep_for.new.site c.sweep_for.new.agenda c.requires.may.3.sites c.requires.may.5.at.first.node) both.0
@@ -54,7 +67,7 @@ tick_at-requires-clause-may g c =
       c.requires.may.4.tick,
       x,
       s,
-      subst (λ n. MayTick sc me n c.requires.may.4.tick c.sweep_for.new.site (record c.args.scene.now { agenda = c.sweep_for.new.agenda }) x s) (sym (c.sweep_for.ensures.number ∙ both.0))
+      subst (λ n. MayTick sc me n c.requires.may.4.tick c.sweep_for.new.site (record c.args.scene.now { agenda = c.sweep_for.new.agenda }) x s) (sym sweeps.node.number)
           (may-then sc c.requires.may.0 c.args.scene.now c.requires.may.1 c.requires.may.2 c.requires.may.3 me c.args.i c.requires.may.4 c.args.time sites c.sweep_for.new.site c.sweep_for.new.agenda c.requires.may.5 sweeps),
     )
 
@@ -64,14 +77,14 @@ returns-clause-takes g c = λ kept until w v a m.
     let me = side_of g.K.Kind.CODE in
     let sites = c.args.sites.now.items in
     let site = c.index_mut-site.result.now in
-    let there : slice_get sites c.args.i ≡ Some site = indexed sites c.args.i site c.requires.within (c.index_mut-site.ensures.value ∙ ap (λ n. get_or sites n site) c.from.ensures) in
+    let there : slice_get sites c.args.i ≡ Some site = indexed sites c.args.i site (own-within m) (c.index_mut-site.ensures.value ∙ ap (λ n. get_or sites n site) c.from.ensures) in
     let both = may-take sc kept c.args.scene.now until w v me c.args.i a c.args.time sites site m there in
     let sweeps : Sweeps sc me c.args.i (c.args.time + 1) c.sweep_for.new.site c.sweep_for.new.agenda v.sites m.at.first.node =
     subst (λ n. Sweeps sc me n (c.args.time + 1) c.sweep_for.new.site c.sweep_for.new.agenda v.sites m.at.first.node) both.0
     (c.sweep_for.ensures.swept v.sites m.at.first.node (subst (λ n. MaySweep sc me n (c.args.time + 1) site c.args.scene.now.agenda v.sites m.at.first.node) (sym both.0) both.1)) in
     let x = moved me c.args.i (without_waiting (Tick a.tick)) (alone sc me c.args.i a v) in
     let s = bare sc me c.args.i a m.at.first.node in
-    let number : number_of c.sweep_for.new.site ≡ c.args.i = c.sweep_for.ensures.number ∙ both.0 in
+    let number : number_of c.sweep_for.new.site ≡ c.args.i = sweeps.node.number in
     let may : MayTick sc me c.args.i a.tick c.sweep_for.new.site (record c.args.scene.now { agenda = c.sweep_for.new.agenda }) x s =
     may-then sc kept c.args.scene.now until w v me c.args.i a c.args.time sites c.sweep_for.new.site c.sweep_for.new.agenda m sweeps in
     let ticks : Ticks sc me c.args.i a.tick c.tick_at.new.site c.tick_at.new.scene x s (act_at sc x me c.args.i a.tick s) =
@@ -86,7 +99,7 @@ tell_tick_for-requires g c =
     let me = side_of g.K.Kind.CODE in
     let sites = c.args.sites.now.items in
     let site = c.index_mut-site.result.now in
-    let there : slice_get sites c.args.i ≡ Some site = indexed sites c.args.i site c.requires.within (c.index_mut-site.ensures.value ∙ ap (λ n. get_or sites n site) c.from.ensures) in
+    let there : slice_get sites c.args.i ≡ Some site = indexed sites c.args.i site (own-within c.requires.may.5) (c.index_mut-site.ensures.value ∙ ap (λ n. get_or sites n site) c.from.ensures) in
     let v = c.requires.may.3 in
     let a = c.requires.may.4 in
     let m = c.requires.may.5 in
@@ -114,7 +127,7 @@ returns-clause-told g c = λ name is kept until w v a m.
     let me = side_of g.K.Kind.CODE in
     let sites = c.args.sites.now.items in
     let site = c.index_mut-site.result.now in
-    let there : slice_get sites c.args.i ≡ Some site = indexed sites c.args.i site c.requires.within (c.index_mut-site.ensures.value ∙ ap (λ n. get_or sites n site) c.from.ensures) in
+    let there : slice_get sites c.args.i ≡ Some site = indexed sites c.args.i site (own-within m) (c.index_mut-site.ensures.value ∙ ap (λ n. get_or sites n site) c.from.ensures) in
     let both = may-take sc kept c.args.scene.now until w v me c.args.i a c.args.time sites site m there in
     let may_sweep : MaySweep sc me (number_of site) (c.args.time + 1) site c.args.scene.now.agenda v.sites m.at.first.node =
     subst (λ n. MaySweep sc me n (c.args.time + 1) site c.args.scene.now.agenda v.sites m.at.first.node) (sym both.0) both.1 in
@@ -124,7 +137,7 @@ returns-clause-told g c = λ name is kept until w v a m.
     let s = bare sc me c.args.i a m.at.first.node in
     let may : MayTick sc me c.args.i a.tick c.sweep_for.new.site (record c.args.scene.now { agenda = c.sweep_for.new.agenda }) x s =
     may-then sc kept c.args.scene.now until w v me c.args.i a c.args.time sites c.sweep_for.new.site c.sweep_for.new.agenda m sweeps in
-    let number : number_of c.sweep_for.new.site ≡ c.args.i = c.sweep_for.ensures.number ∙ both.0 in
+    let number : number_of c.sweep_for.new.site ≡ c.args.i = sweeps.node.number in
     let heard_it : WasTold _ g.T.Observer.observes c.args.observer.now (if same_node c.name_of-node.result name then heard sc me c.args.i (a.time + 1) m.at.first.node else []) c.sweep_for.new.observer =
     subst (λ t. WasTold _ g.T.Observer.observes c.args.observer.now (if same_node c.name_of-node.result name then heard sc me c.args.i (t + 1) m.at.first.node else []) c.sweep_for.new.observer) m.time_is
     (subst (λ n. WasTold _ g.T.Observer.observes c.args.observer.now (if same_node c.name_of-node.result name then heard sc me n (c.args.time + 1) m.at.first.node else []) c.sweep_for.new.observer) both.0
@@ -144,7 +157,7 @@ returns-then-needs_no_stamps-clause-takes g c = λ kept until w v a m.
     let me = side_of g.K.Kind.CODE in
     let sites = c.args.sites.now.items in
     let site = c.index_mut-site.result.now in
-    let there : slice_get sites c.args.i ≡ Some site = indexed sites c.args.i site c.requires.within (c.index_mut-site.ensures.value ∙ ap (λ n. get_or sites n site) c.from.ensures) in
+    let there : slice_get sites c.args.i ≡ Some site = indexed sites c.args.i site (own-within m) (c.index_mut-site.ensures.value ∙ ap (λ n. get_or sites n site) c.from.ensures) in
     let may : MayTakeExactly sc kept c.args.scene.now until w v me c.args.i a c.args.time sites site = record { first = m; there = there; ends = c.if-needs_no_stamps.ensures.ends refl } in
     subst (λ n. TakesFirst sc v me c.args.i a (slice_set sites n c.take_exact_tick.new.site) (of_kind (other me) kept) c.take_exact_tick.new.scene) (sym c.from.ensures)
     (c.take_exact_tick.ensures.takes kept until w v a sites may)
