@@ -4,9 +4,9 @@ use Rattle.std.proofs.{Common.{◌≡◌, ℕ, zero, suc, ◌+◌, ◌*◌, ◌^
 use Rattle.rb_base.specs.Nodes.{Side, other}
 use Rattle.rb_base.proofs.Plain.{none_and_some, option_map-back}
 use Rattle.rb_rules.specs.{declared.message.Message.Message, Book.{Each, of_kind}, Clock.{time_of}, Core.{Act}, Entries.IsListed, Goodness.{Scenario, clock_of}, Hearing.{Coming, coming_of}, Lawful.IsLawful, Ports.{HandIn, PortState}, Rounds.moment, Slots.{count_of, same_side}, WorldStep.{Site, Timed, after_act, after_arrival, at_node, pass_and_tick, with_message}}
-use Rattle.rb_rules.proofs.{Drift.times_rise_to}
+use Rattle.rb_rules.proofs.{Drift.times_rise_to, Stamps.Moves}
 use Rattle.rb_laws_events.specs.PendingEvents.{most_coming}
-use Rattle.rb_laws_events.proofs.{BreakBegins.FirstCloses, BreakEnters.TickBreaks, BreakNodes.{BreaksAt, KeepsNodes}, BreakRooms.{HasLater, has-later}, EventsHold.{course_of, keeps, nodes_at, tells-on}, FewBreak.{ClosedFew, early-few}, FewLast.{ToldFew, last-few}, FewOff.{HaveRooms, messages_in, rooms-change}, FewTold.{Few, FewOn, May, breaks-few}, FewThere.few-where-it-stands, Invariant.is_good_at, PendingLists.StandsAt, SourceSums.sum_to, Takes.length-without, TickRooms.has-room, WorldStands.{IsDown, IsUp, is_node, node-is, sent_by}, WorldTicks.{after_tick, get-after, length-after, moved, reached}}
+use Rattle.rb_laws_events.proofs.{BreakBegins.FirstCloses, BreakEnters.TickBreaks, BreakNodes.{BreaksAt, KeepsNodes}, BreakRooms.{HasLater, has-later}, EventsHold.{course_of, keeps, nodes_at, tells-on}, FewBreak.{ClosedFew, early-few}, FewLast.{ToldFew, last-few}, FewOff.{HaveRooms, StepsOn, messages_in, rooms-change}, FewTold.{Few, FewOn, May, breaks-few}, FewThere.few-where-it-stands, Invariant.is_good_at, PendingLists.StandsAt, SourceSums.sum_to, Takes.length-without, TickRooms.has-room, WorldStands.{IsDown, IsUp, is_node, node-is, sent_by}, WorldTicks.{after_tick, get-after, length-after, moved, reached}}
 
 -- what a node may do yet that has told its row, and how much one that has not
 abbrev pub few_of : Scenario → ℕ → Few
@@ -26,7 +26,7 @@ may_at sc q = May (least_of q) (few_of sc q)
 abbrev pub FewAt : Scenario → ℕ → Type 0
 FewAt sc q = FewOn sc q (least_of q) (course_of sc q) (few_of sc q)
 
-few-on : (sc : Scenario) → IsListed sc → IsLawful sc → (q : ℕ) → q < 3 → FewAt sc q
+pub few-on : (sc : Scenario) → IsListed sc → IsLawful sc → (q : ℕ) → q < 3 → FewAt sc q
 few-on sc listed lawful zero small = early-few sc listed lawful (has-room sc lawful) 0 (omega arith)
 few-on sc listed lawful (suc zero) small = early-few sc listed lawful (has-room sc lawful) 1 (omega arith)
 few-on sc listed lawful (suc (suc zero)) small = last-few sc listed lawful (has-room sc lawful)
@@ -78,7 +78,7 @@ begins-few sc listed q few hands b now at sites t h = record {
 
 -- Messages and arrivals.
 
-may-reached : (sc : Scenario) (q : ℕ) → FewAt sc q → (hands : List HandIn) (b : ℕ) (me : Side) (i frame k : ℕ) (m : Option Message) (side : Side) (j r e : ℕ) (z : Site)
+pub may-reached : (sc : Scenario) (q : ℕ) → FewAt sc q → (hands : List HandIn) (b : ℕ) (me : Side) (i frame k : ℕ) (m : Option Message) (side : Side) (j r e : ℕ) (z : Site)
     → may_at sc q hands b side j r e z → may_at sc q hands b side j r e (reached sc me i frame k m side j z)
 may-reached sc q its hands b me i frame k None side j r e z h = h
 may-reached sc q its hands b me i frame k (Some m) side j r e z h = by (same_side side (other me) && z.runs)
@@ -90,6 +90,30 @@ may-reached sc q its hands b me i frame k (Some m) side j r e z h = by (same_sid
     by true = elim h [ inl most ↦ inl most | inr f ↦ inr (its.more hands b side j r e z (z.coming ++ coming_of sc side j i frame (record { tick = k; message = m }) ∷ []) f) ]
     by false = h
 
+pub may-arrives : (sc : Scenario) (q : ℕ) → FewAt sc q → (hands : List HandIn) (b : ℕ) (me : Side) (i r e n : ℕ) (c : Coming) (s : Site) → (is_good_at sc (moment sc hands b) me i ≡ true → Moves (clock_of sc me i))
+    → ((a : Timed) → s.ahead ≡ Some a → c.time ≤ a.time) → may_at sc q hands b me i r e s → may_at sc q hands b me i r e (after_arrival sc me i n c s)
+may-arrives sc q its hands b me i r e n c s moves before (inl most) = inl most
+may-arrives sc q its hands b me i r e n c s moves before (inr f) = inr (its.arrives hands b me i r e n c s moves before f)
+
+-- what the nodes may do if one changes and a message is on its way
+pub may-after : (sc : Scenario) (q : ℕ) → FewAt sc q → (hands : List HandIn) (b : ℕ) (sites : Each Site) (me : Side) (i frame k : ℕ) (m : Option Message) (change : Site → Site) (s : Site) (r e : ℕ) (sends enters : Side → ℕ → ℕ)
+    → slice_get (of_kind me sites) i ≡ Some s → ((side : Side) (j : ℕ) (z : Site) → slice_get (of_kind side sites) j ≡ Some z → may_at sc q hands b side j (sends side j) (enters side j) z) → may_at sc q hands b me i r e (change s)
+    → (side : Side) (j : ℕ) (z : Site) → slice_get (of_kind side (with_message sc me i frame k m (at_node me i change sites))) j ≡ Some z → may_at sc q hands b side j (moved me i r sends side j) (moved me i e enters side j) z
+may-after sc q few hands b sites me i frame k m change s r e sends enters there h may side j z f =
+    let was = option_map-back (after_tick sc me i frame k m change side j) (slice_get (of_kind side sites) j) z (sym (get-after sc me i frame k m change sites side j) ∙ f) in
+    subst (may_at sc q hands b side j (moved me i r sends side j) (moved me i e enters side j)) was.1.1
+    (may-reached sc q few hands b me i frame k m side j (moved me i r sends side j) (moved me i e enters side j) (elim (is_node me i side j) as (λ _. Site) [ true ↦ change was.0 | false ↦ was.0 ])
+    (its was.0 was.1.0 (is_node me i side j) refl))
+  where
+    its : (was : Site) → slice_get (of_kind side sites) j ≡ Some was → (d : Bool) → is_node me i side j ≡ d
+        → may_at sc q hands b side j (elim d as (λ _. ℕ) [ true ↦ r | false ↦ sends side j ]) (elim d as (λ _. ℕ) [ true ↦ e | false ↦ enters side j ]) (elim d as (λ _. Site) [ true ↦ change was | false ↦ was ])
+    its was at true f =
+        let is = node-is me side i j f in
+        let here : slice_get (of_kind me sites) i ≡ Some was = sym (ap (λ y. slice_get (of_kind y sites) j) is.0 ∙ ap (slice_get (of_kind me sites)) is.1) ∙ at in
+        subst (λ was. may_at sc q hands b side j r e (change was)) (same_Some s was (sym there ∙ here))
+        (subst (λ y. may_at sc q hands b y j r e (change s)) (sym is.0) (subst (λ n. may_at sc q hands b me n r e (change s)) (sym is.1) may))
+    its was at false f = h side j was at
+
 -- the room is enough if one node changes and a message is on its way
 changes-few : (sc : Scenario) (q : ℕ) → FewAt sc q → (hands : List HandIn) (b : ℕ) (sites : Each Site) (me : Side) (i frame k : ℕ) (m : Option Message) (change : Site → Site) (s : Site) (r e : ℕ)
     → (h : FewOff sc q hands b sites) → slice_get (of_kind me sites) i ≡ Some s → length (change s).coming + e * length sc.says ≤ length s.coming + h.enters me i * length sc.says
@@ -100,23 +124,16 @@ changes-few sc q few hands b sites me i frame k m change s r e h there room sent
   rooms = rooms-change sc (most_coming sc) h.sends h.enters sites me i frame k m change s r e
       (let within = slice_get_within (of_kind me sites) i s there in let long = h.counts me in omega (arith, within, long)) there room sent h.rooms;
   counts = λ side. length-after sc me i frame k m change sites side ∙ h.counts side;
-  may = λ side j z f.
-      let was = option_map-back (after_tick sc me i frame k m change side j) (slice_get (of_kind side sites) j) z (sym (get-after sc me i frame k m change sites side j) ∙ f) in
-      subst (may_at sc q hands b side j (moved me i r h.sends side j) (moved me i e h.enters side j)) was.1.1
-      (may-reached sc q few hands b me i frame k m side j (moved me i r h.sends side j) (moved me i e h.enters side j) (elim (is_node me i side j) as (λ _. Site) [ true ↦ change was.0 | false ↦ was.0 ])
-      (its side j was.0 was.1.0 (is_node me i side j) refl));
+  may = may-after sc q few hands b sites me i frame k m change s r e h.sends h.enters there h.may may;
 }
-  where
-    its : (side : Side) (j : ℕ) (was : Site) → slice_get (of_kind side sites) j ≡ Some was → (d : Bool) → is_node me i side j ≡ d
-        → may_at sc q hands b side j (elim d as (λ _. ℕ) [ true ↦ r | false ↦ h.sends side j ]) (elim d as (λ _. ℕ) [ true ↦ e | false ↦ h.enters side j ]) (elim d as (λ _. Site) [ true ↦ change was | false ↦ was ])
-    its side j was at true f =
-        let is = node-is me side i j f in
-        let here : slice_get (of_kind me sites) i ≡ Some was = sym (ap (λ y. slice_get (of_kind y sites) j) is.0 ∙ ap (slice_get (of_kind me sites)) is.1) ∙ at in
-        subst (λ was. may_at sc q hands b side j r e (change was)) (same_Some s was (sym there ∙ here))
-        (subst (λ y. may_at sc q hands b y j r e (change s)) (sym is.0) (subst (λ n. may_at sc q hands b me n r e (change s)) (sym is.1) may))
-    its side j was at false f = h.may side j was at
 
 -- Ticks.
+
+pub steps-at : (sc : Scenario) → IsListed sc → IsLawful sc → (q : ℕ) (hands : List HandIn) (b : ℕ) → BreaksAt sc hands b q → (sent : Side → ℕ → ℕ → Bool) (ports : List PortState) (sites : Each Site) → nodes_at sc q hands b sent sites
+    → (me : Side) (i : ℕ) (s : Site) (a : Timed) (r e : ℕ) → TickBreaks sc hands sent ports b me i s a → a.tick < 2 ^ 31 → slice_get (of_kind me sites) i ≡ Some s → may_at sc q hands b me i r e s
+    → StepsOn sc (may_at sc q hands b me i) (pass_and_tick sc ports me i a.tick s.core).message s (after_act sc ports me i (pass_and_tick sc ports me i a.tick s.core) s) r e
+steps-at sc listed lawful q hands b off sent ports sites h me i s a r e t small there =
+    breaks-few sc q (least_of q) (course_of sc q) (few_of sc q) (tells-on sc lawful q off.small) (few-on sc listed lawful q off.small) listed lawful (has-room sc lawful) hands b off sent ports me i s a r e t small (h me i s there)
 
 -- a tick that is due is one of those that the node may have
 pub tick-small : (sc : Scenario) → IsLawful sc → (q : ℕ) → KeepsNodes sc q (nodes_at sc q) → (hands : List HandIn) (b : ℕ) → BreaksAt sc hands b q → (sent : Side → ℕ → ℕ → Bool) (ports : List PortState) (sites : Each Site)
@@ -145,8 +162,7 @@ few-keeps sc listed lawful q small = record {
   told = λ hands b off sent ports sites h. its.told hands b off sent ports sites h.0;
   tick = λ hands b off sent ports sites h me i frame s a t there.
       let x : Act = pass_and_tick sc ports me i a.tick s.core in
-      let step = breaks-few sc q (least_of q) (course_of sc q) (few_of sc q) (tells-on sc lawful q small) few listed lawful (has-room sc lawful) hands b off sent ports me i s a (h.1.sends me i) (h.1.enters me i) t
-      (tick-small sc lawful q its hands b off sent ports sites h.0 me i s a t there) (h.0 me i s there) (h.1.may me i s there) in (
+      let step = steps-at sc listed lawful q hands b off sent ports sites h.0 me i s a (h.1.sends me i) (h.1.enters me i) t (tick-small sc lawful q its hands b off sent ports sites h.0 me i s a t there) there (h.1.may me i s there) in (
         its.tick hands b off sent ports sites h.0 me i frame s a t there,
         changes-few sc q few hands b sites me i frame a.tick x.message (after_act sc ports me i x) s step.sends step.enters h.1 there step.room step.sent step.may,
       );
@@ -155,7 +171,7 @@ few-keeps sc listed lawful q small = record {
       let less = arrived-less sc me i n c s stands in (
         its.arrival hands b off sent sites h.0 me i n c s moves there stands due first,
         changes-few sc q few hands b sites me i 0 0 none (after_arrival sc me i n c) s (h.1.sends me i) (h.1.enters me i) h.1 there (omega (arith, less)) (omega arith)
-            (elim (h.1.may me i s there) [ inl most ↦ inl most | inr f ↦ inr (few.arrives hands b me i (h.1.sends me i) (h.1.enters me i) n c s moves (λ a e. (due a e).before_tick) f) ]),
+            (may-arrives sc q few hands b me i (h.1.sends me i) (h.1.enters me i) n c s moves (λ a e. (due a e).before_tick) (h.1.may me i s there)),
       );
   goes = λ hands b off sent sites h. its.goes hands b off sent sites h.0;
   ahead = λ hands b off sent sites h. its.ahead hands b off sent sites h.0;
