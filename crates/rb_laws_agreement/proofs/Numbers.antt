@@ -1,8 +1,8 @@
 -- How many nodes pass a test.
-use Rattle.std.proofs.Common.{◌≡◌, ℕ, ◌+◌, ◌<◌, ◌≤◌, Bool, true, ◌||◌, refl, sym, ◌∙◌, ap, inl, inr, arith}
+use Rattle.std.proofs.Common.{◌≡◌, ℕ, ◌<◌, ◌≤◌, Bool, true, refl, sym, ◌∙◌, inl, inr, arith}
 use Rattle.std.specs.List.{list_any}
-use Rattle.rb_base.specs.{Counting.numbers, Nodes.{has, set_of, size}}
-use Rattle.rb_base.proofs.{Sets.has-set_of, SetSizes.{size_none, size_within, size_within_two, size_some}}
+use Rattle.rb_base.specs.{Counting.numbers, Nodes.{set_of, size}}
+use Rattle.rb_base.proofs.{Sets.has-set_of, SetSizes.{size_none, size_within}}
 use Rattle.rb_laws_agreement.proofs.Tests.{true_or_false, passes_at, Passing, passing}
 
 -- how many of the nodes pass
@@ -18,19 +18,6 @@ pub how_many-le : (p q : ℕ → Bool) → ((i : ℕ) → i < 16 → p i ≡ tru
 unfolding how_many
 how_many-le p q gives =
     size_within (set_of p) (set_of q) (λ i below is. has-set_of i q below ∙ gives i below (sym (has-set_of i p below) ∙ is))
-
-pub how_many-le_two : (p q r : ℕ → Bool) → ((i : ℕ) → i < 16 → p i ≡ true → (q i || r i) ≡ true) → how_many p ≤ how_many q + how_many r
-unfolding how_many
-how_many-le_two p q r gives =
-    size_within_two (set_of p) (set_of q) (set_of r)
-    (λ i below is.
-    ap (λ b. b || has (set_of r) i) (has-set_of i q below) ∙ ap (λ b. q i || b) (has-set_of i r below)
-    ∙ gives i below (sym (has-set_of i p below) ∙ is))
-
--- a node below 16 that passes counts
-pub how_many_some : (p : ℕ → Bool) (i : ℕ) → i < 16 → p i ≡ true → 0 < how_many p
-unfolding how_many
-how_many_some p i below h = size_some (set_of p) i below (has-set_of i p below ∙ h)
 
 -- if some number passes, one can be named
 pub one_of_many : (p : ℕ → Bool) → 0 < how_many p → Passing p 0 16

@@ -23,10 +23,6 @@ votes-agree s t mine yours a b same = same_vote s t mine yours a b same
 abbrev pub kind_in : Exchange → Side
 kind_in x = sender_kind (role_of x.sizes x.slot)
 
--- a good node is one of the other kind's other kind
-twice-good : (x : Exchange) (k : Side) (j : ℕ) → x.good (other (other k)) j ≡ true → x.good k j ≡ true
-twice-good x k j g = ap (λ k. x.good k j) (sym (other_twice k)) ∙ g
-
 good-twice : (x : Exchange) (k : Side) (j : ℕ) → x.good k j ≡ true → x.good (other (other k)) j ≡ true
 good-twice x k j g = ap (λ k. x.good k j) (other_twice k) ∙ g
 

@@ -31,14 +31,6 @@ listens_second me role h = go (same_side me (sender_kind role)) refl h
     go true e h = same_side-is me (sender_kind role) e
     go false e h = cc
 
--- a node that listens in stage 1 is of the other kind than the sender
-pub listens_first : (me : Side) (role : Role) → listens me role 1 ≡ true → me ≡ other (sender_kind role)
-listens_first me role h = go (same_side me (sender_kind role)) refl h
-  where
-    go : (b : Bool) → same_side me (sender_kind role) ≡ b → (if b then false else true) ≡ true → me ≡ other (sender_kind role)
-    go true e h = cc
-    go false e h = not_same_side me (sender_kind role) e
-
 pub listens_third : (me : Side) (role : Role) → listens me role 3 ≡ true → me ≡ other (sender_kind role)
 listens_third me role h = go (same_side me (sender_kind role)) refl h
   where

@@ -56,11 +56,6 @@ call-tick sizes plan Biu st (suc (suc zero)) small h knows =
 call-tick sizes plan Rmu st (suc (suc zero)) small h knows = cc
 call-tick sizes plan me st (suc (suc (suc q))) small h knows = absurd (omega arith)
 
--- in the tail no node calls
-pub tail-silent : (sizes : Sizes) (me : Side) (st : NodeState) → calls sizes me st 4 ≡ None
-tail-silent sizes Biu st = refl
-tail-silent sizes Rmu st = refl
-
 -- How good sources are heard.
 
 in-sync : (sizes : Sizes) → (sync_slot_of sizes == sync_slot_of sizes) ≡ true

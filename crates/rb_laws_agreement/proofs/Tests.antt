@@ -1,15 +1,11 @@
 -- Tests that hold, and tests of which one holds.
-use Rattle.std.proofs.{Common.{◌≡◌, ℕ, zero, suc, ◌+◌, ◌<◌, ◌≤◌, Bool, true, false, ◌&&◌, ◌||◌, List, [], ◌∷◌, get_or, Option, Some, None, is_some, slice_get, refl, ◌∙◌, ap, ◌⊎◌, inl, inr, arith, zero-add}, lemmas.Bool.or_cases, lemmas.List.Folds.list_any_at, lemmas.List.FromFn.get_or-range_with_len}
+use Rattle.std.proofs.{Common.{◌≡◌, ℕ, zero, suc, ◌+◌, ◌<◌, ◌≤◌, Bool, true, false, ◌||◌, List, [], ◌∷◌, get_or, Option, Some, None, is_some, slice_get, refl, ◌∙◌, ap, ◌⊎◌, inl, inr, arith, zero-add}, lemmas.Bool.or_cases, lemmas.List.Folds.list_any_at, lemmas.List.FromFn.get_or-range_with_len}
 use Rattle.std.specs.List.{list_any, range_with_len}
 use Rattle.rb_base.specs.Counting.{numbers}
 
 pub true_or_false : (b : Bool) → (b ≡ true) ⊎ (b ≡ false)
 true_or_false true = inl refl
 true_or_false false = inr refl
-
-pub and_rest : (a b : Bool) → a ≡ true → (a && b) ≡ false → b ≡ false
-and_rest true b p h = h
-and_rest false b p h = cc
 
 pub or_neither_first : (a b : Bool) → (a || b) ≡ false → a ≡ false
 or_neither_first true b h = h
@@ -60,6 +56,3 @@ pub record Present {X : Type 0} (o : Option X) : Type 0 where
 pub present_if : {X : Type 0} (o : Option X) → is_some o ≡ true → Present o
 present_if None h = cc
 present_if (Some x) h = record { value = x; is = refl }
-
-pub some_not_none : {X : Type 0} {P : Type 0} (x : X) → Some x ≡ None → P
-some_not_none x h = cc

@@ -37,10 +37,6 @@ vector_slot-lt sizes Rmu i h = omega arith
 pub count_same : (p q : ℕ → Bool) → ((i : ℕ) → i < 16 → p i ≡ q i) → count_if p (numbers 16) ≡ count_if q (numbers 16)
 count_same p q same = sym (size-set_of p) ∙ ap size (same_set_of p q same) ∙ size-set_of q
 
-where_sent : (a : Bool) (f g : Bool) → (a ≡ true → f ≡ g) → (a && f) ≡ (a && g)
-where_sent true f g h = h refl
-where_sent false f g h = refl
-
 -- the vectors of the senders alone count
 pub convicted_same : (others senders trusted : ℕ) (v w : ℕ → Heard) → ((i : ℕ) → i < 16 → has senders i ≡ true → v i ≡ w i)
     → convicted_by others senders trusted v ≡ convicted_by others senders trusted w

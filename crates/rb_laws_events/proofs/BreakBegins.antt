@@ -1,10 +1,10 @@
 -- For the law that events are rounds if the premise on faults is broken in a sync slot: when the
 -- first node closes the stage with which the run breaks off, all that run wait for their last tick
 -- of it, and have sent what they send in it.
-use Rattle.std.proofs.{Common.{◌≡◌, ℕ, ◌+◌, ◌*◌, ◌<◌, ◌≤◌, ◌==◌, ◌&&◌, ◌||◌, ◌⊎◌, nat_lt, Bool, true, false, List, [], refl, ap, ◌∙◌, subst, arith, inl, inr, Option, Some, None, option_and_then, option_map, option_to_list, slice_get}, lemmas.Bool.Decides.nat_tests}
+use Rattle.std.proofs.{Common.{◌≡◌, ℕ, ◌+◌, ◌*◌, ◌<◌, ◌≤◌, ◌==◌, ◌&&◌, ◌||◌, ◌⊎◌, nat_lt, Bool, true, false, List, [], append-nil, refl, ap, sym, ◌∙◌, subst, arith, inl, inr, Option, Some, None, option_and_then, option_map, option_to_list, slice_get}, lemmas.Bool.Decides.nat_tests}
 use Rattle.rb_base.specs.{Nodes.{Side, other}, Sizes.sync_slot_of}
 use Rattle.rb_rules.specs.{Book.{Each, of_kind}, Clock.time_of, Goodness.{Scenario, clock_of}, Hearing.{Sending, coming_of}, Lawful.IsLawful, Moments.IsRunning, NodeState.NodeState, Ports.HandIn, Rounds.{Moment, moment}, WorldStep.Site}
-use Rattle.rb_laws_events.proofs.{Behind.pend-of, BreakEnters.{sent-then, waits-then}, BreakMessages.SiteBreaks, BreakSites.{HasClosed, WaitsDeaf, WaitsHearing}, BreakWorld.SitesBreak, Invariant.{entry_of, has_sent, is_good_at, last_tick, sending_of}, NodeActs.HasRoom, NodeEvents.tick-after, WorldStands.{AllPend, IsDown, IsUp, SitesStand, ahead_in, sent_by}}
+use Rattle.rb_laws_events.proofs.{Behind.pend-of, BreakEnters.{sent-then, waits-then}, BreakSites.{Course, NodesBreak, SiteBreaks, WaitsDeaf, WaitsHearing}, Invariant.{entry_of, has_sent, is_good_at, last_tick, sending_of}, NodeActs.HasRoom, NodeEvents.tick-after, WorldStands.{AllPend, IsDown, IsUp, SitesStand, ahead_in, sent_by}}
 
 -- moment `p` has the first close of a stage: all nodes that run are in it, one of them at its last
 -- tick, and nothing pends before
@@ -25,20 +25,20 @@ up-there : (sc : Scenario) (hands : List HandIn) (now : ℕ) (at : Side → ℕ 
 up-there sc hands now at sites p t h side j z there runs =
     subst (λ p. IsUp sc hands (sent_by sc hands at sites) now side j p z) (h.together side j z there runs) (h.stand.up side j z there runs)
 
-pub break-begins : (sc : Scenario) (hands : List HandIn) → IsLawful sc → HasRoom sc.plan → (now : ℕ) (at : Side → ℕ → ℕ) (sites : Each Site) (p q t : ℕ) → IsRunning (moment sc hands p) → q < 3
-    → (moment sc hands p).window ≡ 3 * sync_slot_of sc.sizes + q → FirstCloses sc hands now at sites p t → SitesBreak sc hands (sent_by sc hands at sites) now p sites
-break-begins sc hands lawful room now at sites p q t running small window h side j z there = by z.runs refl
+pub break-begins : (sc : Scenario) (hands : List HandIn) (C : Course) → IsLawful sc → HasRoom sc.plan → (now : ℕ) (at : Side → ℕ → ℕ) (sites : Each Site) (p q t : ℕ) → IsRunning (moment sc hands p) → q < 3
+    → (moment sc hands p).window ≡ 3 * sync_slot_of sc.sizes + q → FirstCloses sc hands now at sites p t → NodesBreak sc C hands p (sent_by sc hands at sites) sites
+break-begins sc hands C lawful room now at sites p q t running small window h side j z there = by z.runs refl
   where
-    of-two : (side : Side) (j : ℕ) (z : Site) → WaitsHearing sc hands (sent_by sc hands at sites) now side j p z ⊎ WaitsDeaf sc hands side j p z
-        → WaitsHearing sc hands (sent_by sc hands at sites) now side j p z ⊎ (WaitsDeaf sc hands side j p z ⊎ HasClosed sc hands side j p z)
-    of-two side j z (inl w) = inl w
-    of-two side j z (inr w) = inr (inl w)
+    of-two : WaitsHearing sc hands (sent_by sc hands at sites) now side j p z ⊎ WaitsDeaf sc hands side j p z → SiteBreaks sc hands C (sent_by sc hands at sites) p side j z
+    of-two (inl w) =
+        inr (inl (record { now = now; mine = z.coming; more = []; is = sym (append-nil z.coming); waits = record { st = w.st; a = w.a; stands = w.stands; hears = w.hears; last = w.last }; later = tt }))
+    of-two (inr w) = inr (inr (inl w))
 
-    by : (b : Bool) → z.runs ≡ b → SiteBreaks sc hands (sent_by sc hands at sites) now p side j z
+    by : (b : Bool) → z.runs ≡ b → SiteBreaks sc hands C (sent_by sc hands at sites) p side j z
     by true e =
         let up : IsUp sc hands (sent_by sc hands at sites) now side j p z = up-there sc hands now at sites p t h side j z there e in
         let le : t ≤ up.a.time = tick-after t z.ahead up.a z.coming up.stands.receives.pends (pend-of t sites h.pend side j z there) in
-        inr (of-two side j z (waits-then sc hands lawful room (sent_by sc hands at sites) now p q running small window side j z up.st up.a up.stands h.me h.i h.st h.there h.good (let time = h.time in omega (arith, le, time))))
+        of-two (waits-then sc hands lawful room (sent_by sc hands at sites) now p q running small window side j z up.st up.a up.stands h.me h.i h.st h.there h.good (let time = h.time in omega (arith, le, time)))
     by false e =
         let down : IsDown sc hands side j (at side j) z = h.stand.down side j z there e in
         inl (record { runs = e; ahead = down.ahead; coming = down.coming })

@@ -8,6 +8,20 @@ use Rattle.rb_rules.proofs.{Drift.times_rise_to, RoundStates.Stays}
 use Rattle.rb_laws_agreement.proofs.NodeWindows.{sync_windows_are}
 use Rattle.rb_laws_events.proofs.{BreachMiddles.next-after, BreachSends.sent-before, BreakSites.{HasClosed, WaitsDeaf, WaitsHearing, closes-told}, FrameTimes.good-node, Invariant.{NodeStands, entry_of, is_good_at, last_tick, sending_of, word_at}, LastCloses.shows-heard, NodeActs.{HasRoom, HasWord}, NodeMoves.{after-stays, first-alike}, PastTicks.IsPast, SameHeard.Every, SentAlready.waits-for-last, SentChanges.sending-of-is, StageOrder.last_of, TickWindows.{ends-before-later, first_of}}
 
+-- the tick is due, and some good node has its last tick of the stage no earlier
+pub record TickBreaks (sc : Scenario) (hands : List HandIn) (sent : Side → ℕ → ℕ → Bool) (ports : List PortState) (p : ℕ) (me : Side) (i : ℕ) (s : Site) (a : Timed) : Type 0 where
+  pub pend : s.ahead ≡ Some a
+  pub later : Every (λ c. a.time < c.time) s.coming
+  pub you : Side
+  pub j : ℕ
+  pub yours : NodeState
+  pub there : slice_get (of_kind you (moment sc hands p).nodes) j ≡ Some yours
+  pub good : is_good_at sc (moment sc hands p) you j ≡ true
+  pub first : a.time ≤ time_of (clock_of sc you j) (last_tick sc (moment sc hands p) you yours)
+  pub frame : (st : NodeState) → slice_get (of_kind me (moment sc hands p).nodes) i ≡ Some st → is_good_at sc (moment sc hands p) me i ≡ true → st.frame ≡ (moment sc hands p).frame
+  pub words : (st : NodeState) → slice_get (of_kind me (moment sc hands p).nodes) i ≡ Some st → HasWord sc ports me i st (moment sc hands p).window (word_at sc (moment sc hands p) me i st)
+  pub all_sent : (n : ℕ) → is_good_at sc (moment sc hands p) (other me) n ≡ true → (sent (other me) n p ≡ true) ⊎ (entry_of sc (moment sc hands p) me i n ≡ [])
+
 -- what a good node sends in the stage has gone out by the time of the last tick of another
 pub sent-then : (sc : Scenario) (hands : List HandIn) → IsLawful sc → (p q : ℕ) → IsRunning (moment sc hands p) → q < 3 → (moment sc hands p).window ≡ 3 * sync_slot_of sc.sizes + q
     → (me : Side) (i : ℕ) (st : NodeState) → slice_get (of_kind me (moment sc hands p).nodes) i ≡ Some st → is_good_at sc (moment sc hands p) me i ≡ true

@@ -1,73 +1,126 @@
--- For the law that events are rounds: the nodes of a world in which the run breaks off with the
--- first or the second stage of the sync slot keep what is asked of them.
-use Rattle.std.proofs.{Common.{◌≡◌, ℕ, ◌+◌, ◌*◌, ◌<◌, ◌≤◌, ◌⊎◌, Bool, true, false, List, ap, sym, ◌∙◌, subst, arith, inl, inr, Some}, lemmas.Option.same_Some}
-use Rattle.rb_base.specs.{Nodes.Side, Sizes.sync_slot_of}
-use Rattle.rb_base.proofs.Plain.{none_and_some}
-use Rattle.rb_rules.specs.{Clock.time_of, Goodness.{Scenario, clock_of}, Lawful.IsLawful, Ports.HandIn, Rounds.{Moment, moment, window_in}, WorldStep.{Site, Timed}}
-use Rattle.rb_laws_events.proofs.{BreakBegins.break-begins, BreakEvents.site-ticks, BreakMessages.{HasStopped, SiteBreaks}, BreakNodes.{KeepsNodes, TellsStage, WaitsLast}, BreakSites.HasClosed, BreakTells.closed-tells, BreakWorld.{NodesBreak, break-arrival, break-tick}, Invariant.is_good_at, NodeActs.HasRoom, RoundNodes.moments-stand, Telling.{place-is, row-place}}
+-- For the law that events are rounds: the nodes of a world in which the run breaks off in a sync
+-- slot keep what is asked of them, if each that has told its row goes on by a course of the stage.
+use Rattle.std.proofs.{Common.{◌≡◌, ℕ, ◌<◌, ◌≤◌, ◌⊎◌, Bool, true, List, [], ap, sym, ◌∙◌, subst, arith, inl, inr, Option, Some, None}, lemmas.Option.same_Some}
+use Rattle.rb_base.specs.{Nodes.{Side, other}}
+use Rattle.rb_base.proofs.Plain.{none_and_some, true-false}
+use Rattle.rb_rules.specs.{declared.message.Message.Message, Clock.time_of, Core.Act, Goodness.{Scenario, clock_of}, Hearing.{coming_of}, Lawful.IsLawful, Ports.{HandIn, PortState}, Rounds.{Moment, moment, window_in}, Slots.{same_side}, WorldStep.{Site, Timed, after_act, after_arrival, pass_and_tick}}
+use Rattle.rb_laws_events.specs.Closing.{stages_in}
+use Rattle.rb_laws_events.proofs.{BreakBegins.break-begins, BreakEnters.TickBreaks, BreakMessages.{act-same, every-left, message-comes, site-comes, told-same}, BreakNodes.{BreaksAt, KeepsNodes, TellsStage, WaitsLast}, BreakSites.{ArrivalsKeep, Course, HasStopped, HasTold, NodesBreak, SiteBreaks, WaitsAhead, WaitsDeaf, WaitsHearing}, FewQuiet.{deaf-quiet, hearing-quiet}, Invariant.{entry_of, is_good_at, word_at}, MomentBooks.place_at, NodeActs.{HasRoom, HasWord}, RoundNodes.moments-stand, SameHeard.Every, TailTicks.none-some, Telling.{place-is, row-place}, ToldInOrder.one-changes}
 
--- a node that has closed the stage has told its row of it
-pub closed-stage-tells : (sc : Scenario) (hands : List HandIn) → HasRoom sc.plan → (p q : ℕ) → q < 3 → (moment sc hands p).window ≡ 3 * sync_slot_of sc.sizes + q → (me : Side) (i : ℕ) (s : Site)
-    → HasClosed sc hands me i p s → TellsStage sc hands p me i s
-closed-stage-tells sc hands room p q small at me i s h =
-    let m : Moment = moment sc hands p in
-    let frame : h.st.frame ≡ m.frame = ((moments-stand sc hands p room.ticks).stands me i h.st h.state h.good).frame in
-    record {
-      row = h.row;
-      is = h.told;
-      place = row-place sc m me i h.st (window_in sc m me h.st) h.row h.is ∙ place-is sc m me h.st (omega (arith, at, small)) frame;
-      rounds = closed-tells sc hands p q small at me i s h frame h.row h.told;
-    }
+-- how nodes go on by the course `C` if the run breaks off with stage q: a node tells its row with
+-- its last tick of the stage; what one that has told it says comes to those that wait after their
+-- last tick
+pub record TellsOn (sc : Scenario) (q : ℕ) (C : Course) : Type 0 where
+  pub ahead : (hands : List HandIn) (b : ℕ) (me : Side) (i : ℕ) (s : Site) (a : Timed) → HasTold sc hands C me i b s → s.ahead ≡ Some a → (s.core.had ≤ a.tick) × (a.time ≡ time_of (clock_of sc me i) a.tick)
+  pub arrives : ArrivalsKeep sc C
+  pub hears : (hands : List HandIn) (b : ℕ) → BreaksAt sc hands b q → (sent : Side → ℕ → ℕ → Bool) (now : ℕ) (ports : List PortState) (me : Side) (i : ℕ) (s : Site) → (h : WaitsHearing sc hands sent now me i b s)
+      → h.st.frame ≡ (moment sc hands b).frame
+      → ((j : ℕ) → is_good_at sc (moment sc hands b) (other me) j ≡ true → (sent (other me) j b ≡ true) ⊎ (entry_of sc (moment sc hands b) me i j ≡ []))
+      → HasWord sc ports me i h.st (moment sc hands b).window (word_at sc (moment sc hands b) me i h.st) → Every (λ c. h.a.time < c.time) s.coming
+      → HasTold sc hands C me i b (after_act sc ports me i (pass_and_tick sc ports me i h.a.tick s.core) s)
+  pub deaf : (hands : List HandIn) (b : ℕ) → BreaksAt sc hands b q → (ports : List PortState) (me : Side) (i : ℕ) (s : Site) → (h : WaitsDeaf sc hands me i b s)
+      → HasWord sc ports me i h.st (moment sc hands b).window (word_at sc (moment sc hands b) me i h.st)
+      → HasTold sc hands C me i b (after_act sc ports me i (pass_and_tick sc ports me i h.a.tick s.core) s)
+  pub ticks : (hands : List HandIn) (b : ℕ) → BreaksAt sc hands b q → (sent : Side → ℕ → ℕ → Bool) (ports : List PortState) (me : Side) (i : ℕ) (s : Site) (a : Timed) → TickBreaks sc hands sent ports b me i s a
+      → HasTold sc hands C me i b s → HasTold sc hands C me i b (after_act sc ports me i (pass_and_tick sc ports me i a.tick s.core) s)
+  pub late : (hands : List HandIn) (b : ℕ) → BreaksAt sc hands b q → (sent : Side → ℕ → ℕ → Bool) (ports : List PortState) (me : Side) (i : ℕ) (s : Site) (a : Timed) → TickBreaks sc hands sent ports b me i s a
+      → HasTold sc hands C me i b s → (frame : ℕ) (side : Side) (n : ℕ) (z : Site) (w : WaitsAhead sc hands sent side n b z) → same_side side (other me) ≡ true
+      → (msg : Message) → (pass_and_tick sc ports me i a.tick s.core).message ≡ Some msg → w.waits.a.time < (coming_of sc side n i frame (record { tick = a.tick; message = msg })).time
 
-site-waits : (sc : Scenario) (hands : List HandIn) → HasRoom sc.plan → (sent : Side → ℕ → ℕ → Bool) (now p q : ℕ) → q < 3 → (moment sc hands p).window ≡ 3 * sync_slot_of sc.sizes + q
-    → (me : Side) (i : ℕ) (s : Site) → s.runs ≡ true → SiteBreaks sc hands sent now p me i s → WaitsLast sc hands p me i s ⊎ TellsStage sc hands p me i s
-site-waits sc hands room sent now p q small at me i s runs (inl stopped) = absurd (true-false (sym runs ∙ stopped.runs))
-  where
-    true-false : true ≡ false → ⊥
-    true-false e = cc
-site-waits sc hands room sent now p q small at me i s runs (inr (inl h)) = inl (record {
-  st = h.st;
-  a = h.a;
-  pends = h.stands.receives.pends;
-  state = h.stands.state;
-  time = h.stands.receives.at_time ∙ ap (time_of (clock_of sc me i)) h.last;
+-- A due tick.
+
+-- after its due tick a node has told its row of the stage
+pub site-ticks : (sc : Scenario) (q : ℕ) (C : Course) → TellsOn sc q C → (hands : List HandIn) (b : ℕ) → BreaksAt sc hands b q → (sent : Side → ℕ → ℕ → Bool) (ports : List PortState) (me : Side) (i : ℕ) (s : Site) (a : Timed)
+    → TickBreaks sc hands sent ports b me i s a → SiteBreaks sc hands C sent b me i s → HasTold sc hands C me i b (after_act sc ports me i (pass_and_tick sc ports me i a.tick s.core) s)
+site-ticks sc q C its hands b off sent ports me i s a t (inl stopped) = none_and_some a s.ahead stopped.ahead t.pend
+site-ticks sc q C its hands b off sent ports me i s a t (inr (inl h)) =
+    let same : h.waits.a ≡ a = same_Some h.waits.a a (sym h.waits.stands.receives.pends ∙ t.pend) in
+    let base : Site = record s { coming = h.mine } in
+    let later : Every (λ c. h.waits.a.time < c.time) s.coming = subst (λ (b : Timed). Every (λ c. b.time < c.time) s.coming) (sym same) t.later in
+    subst (λ (y : Timed). HasTold sc hands C me i b (after_act sc ports me i (pass_and_tick sc ports me i y.tick s.core) s)) same
+    (told-same sc hands C me i b (after_act sc ports me i (pass_and_tick sc ports me i h.waits.a.tick s.core) base) (after_act sc ports me i (pass_and_tick sc ports me i h.waits.a.tick s.core) s)
+    (act-same sc ports me i (pass_and_tick sc ports me i h.waits.a.tick s.core) s h.mine)
+    (its.hears hands b off sent h.now ports me i base h.waits (t.frame h.waits.st h.waits.stands.state h.waits.stands.good) t.all_sent (t.words h.waits.st h.waits.stands.state)
+    (every-left (λ c. h.waits.a.time < c.time) h.mine h.more (subst (Every (λ c. h.waits.a.time < c.time)) h.is later))))
+site-ticks sc q C its hands b off sent ports me i s a t (inr (inr (inl h))) =
+    let same : h.a ≡ a = same_Some h.a a (sym h.pends ∙ t.pend) in
+    subst (λ (y : Timed). HasTold sc hands C me i b (after_act sc ports me i (pass_and_tick sc ports me i y.tick s.core) s)) same (its.deaf hands b off ports me i s h (t.words h.st h.state))
+site-ticks sc q C its hands b off sent ports me i s a t (inr (inr (inr h))) = its.ticks hands b off sent ports me i s a t h
+
+-- what a node says with its due tick comes to those that wait after their last tick
+ticks-late : (sc : Scenario) (q : ℕ) (C : Course) → TellsOn sc q C → IsLawful sc → HasRoom sc.plan → (hands : List HandIn) (b : ℕ) → BreaksAt sc hands b q → (sent : Side → ℕ → ℕ → Bool) (ports : List PortState)
+    → (me : Side) (i : ℕ) (s : Site) (a : Timed) → TickBreaks sc hands sent ports b me i s a → SiteBreaks sc hands C sent b me i s
+    → (frame : ℕ) (side : Side) (n : ℕ) (z : Site) (w : WaitsAhead sc hands sent side n b z) → same_side side (other me) ≡ true
+    → (msg : Message) → (pass_and_tick sc ports me i a.tick s.core).message ≡ Some msg → w.waits.a.time < (coming_of sc side n i frame (record { tick = a.tick; message = msg })).time
+ticks-late sc q C its lawful room hands b off sent ports me i s a t (inl stopped) frame side n z w kind msg e = none_and_some a s.ahead stopped.ahead t.pend
+ticks-late sc q C its lawful room hands b off sent ports me i s a t (inr (inl h)) frame side n z w kind msg e =
+    none-some (pass_and_tick sc ports me i a.tick s.core).message msg (hearing-quiet sc hands lawful room sent ports b q off.running off.small off.window me i s a t h) e
+ticks-late sc q C its lawful room hands b off sent ports me i s a t (inr (inr (inl h))) frame side n z w kind msg e =
+    none-some (pass_and_tick sc ports me i a.tick s.core).message msg (deaf-quiet sc hands lawful room sent ports b q off.running off.small off.window me i s a t h) e
+ticks-late sc q C its lawful room hands b off sent ports me i s a t (inr (inr (inr h))) frame side n z w kind msg e = its.late hands b off sent ports me i s a t h frame side n z w kind msg e
+
+-- What is told.
+
+-- a node that has told its row has told the row of the stage in the rounds
+tells : (sc : Scenario) (q : ℕ) (C : Course) → HasRoom sc.plan → (hands : List HandIn) (b : ℕ) → BreaksAt sc hands b q → (me : Side) (i : ℕ) (s : Site) → HasTold sc hands C me i b s → TellsStage sc hands b me i s
+tells sc q C room hands b off me i s h =
+    let m : Moment = moment sc hands b in
+    let stage : m.window < stages_in sc.sizes = (let at = off.window in let small = off.small in omega (arith, at, small)) in
+    let frame : h.st.frame ≡ m.frame = ((moments-stand sc hands b room.ticks).stands me i h.st h.state h.good).frame in
+    let place : h.row.place ≡ place_at sc.sizes m = row-place sc m me i h.st (window_in sc m me h.st) h.row h.is ∙ place-is sc m me h.st stage frame in
+    record { row = h.row; is = h.told; place = place; rounds = record { q = b; st = h.st; stage = stage; state = h.state; place = place; is = h.is } }
+
+site-waits : (sc : Scenario) (q : ℕ) (C : Course) → HasRoom sc.plan → (hands : List HandIn) (b : ℕ) → BreaksAt sc hands b q → (sent : Side → ℕ → ℕ → Bool) (me : Side) (i : ℕ) (s : Site) → s.runs ≡ true
+    → SiteBreaks sc hands C sent b me i s → WaitsLast sc hands b me i s ⊎ TellsStage sc hands b me i s
+site-waits sc q C room hands b off sent me i s runs (inl stopped) = true-false (sym runs ∙ stopped.runs)
+site-waits sc q C room hands b off sent me i s runs (inr (inl h)) = inl (record {
+  st = h.waits.st;
+  a = h.waits.a;
+  pends = h.waits.stands.receives.pends;
+  state = h.waits.stands.state;
+  time = h.waits.stands.receives.at_time ∙ ap (time_of (clock_of sc me i)) h.waits.last;
 })
-site-waits sc hands room sent now p q small at me i s runs (inr (inr (inl h))) =
+site-waits sc q C room hands b off sent me i s runs (inr (inr (inl h))) =
     inl (record { st = h.st; a = h.a; pends = h.pends; state = h.state; time = h.at_time ∙ ap (time_of (clock_of sc me i)) h.last })
-site-waits sc hands room sent now p q small at me i s runs (inr (inr (inr h))) = inr (closed-stage-tells sc hands room p q small at me i s h)
+site-waits sc q C room hands b off sent me i s runs (inr (inr (inr h))) = inr (tells sc q C room hands b off me i s h)
 
-site-goes : (sc : Scenario) (hands : List HandIn) (sent : Side → ℕ → ℕ → Bool) (now p : ℕ) (me : Side) (i : ℕ) (s : Site) → SiteBreaks sc hands sent now p me i s
-    → HasStopped s ⊎ (is_good_at sc (moment sc hands p) me i ≡ true)
-site-goes sc hands sent now p me i s (inl stopped) = inl stopped
-site-goes sc hands sent now p me i s (inr (inl h)) = inr h.stands.good
-site-goes sc hands sent now p me i s (inr (inr (inl h))) = inr h.good
-site-goes sc hands sent now p me i s (inr (inr (inr h))) = inr h.good
+-- What pends.
+
+site-goes : (sc : Scenario) (C : Course) (hands : List HandIn) (sent : Side → ℕ → ℕ → Bool) (b : ℕ) (me : Side) (i : ℕ) (s : Site) → SiteBreaks sc hands C sent b me i s
+    → HasStopped s ⊎ (is_good_at sc (moment sc hands b) me i ≡ true)
+site-goes sc C hands sent b me i s (inl stopped) = inl stopped
+site-goes sc C hands sent b me i s (inr (inl h)) = inr h.waits.stands.good
+site-goes sc C hands sent b me i s (inr (inr (inl h))) = inr h.good
+site-goes sc C hands sent b me i s (inr (inr (inr h))) = inr h.good
 
 abbrev IsAhead : Scenario → Side → ℕ → Site → Timed → Type 0
 IsAhead sc me i s a = (s.core.had ≤ a.tick) × (a.time ≡ time_of (clock_of sc me i) a.tick)
 
-site-ahead : (sc : Scenario) (hands : List HandIn) (sent : Side → ℕ → ℕ → Bool) (now p : ℕ) (me : Side) (i : ℕ) (s : Site) → SiteBreaks sc hands sent now p me i s
+site-ahead : (sc : Scenario) (q : ℕ) (C : Course) → TellsOn sc q C → (hands : List HandIn) (sent : Side → ℕ → ℕ → Bool) (b : ℕ) (me : Side) (i : ℕ) (s : Site) → SiteBreaks sc hands C sent b me i s
     → (a : Timed) → s.ahead ≡ Some a → IsAhead sc me i s a
-site-ahead sc hands sent now p me i s (inl stopped) a e = none_and_some a s.ahead stopped.ahead e
-site-ahead sc hands sent now p me i s (inr (inl h)) a e =
-    subst (IsAhead sc me i s) (same_Some h.a a (sym h.stands.receives.pends ∙ e)) (h.stands.receives.is_next.later, h.stands.receives.at_time)
-site-ahead sc hands sent now p me i s (inr (inr (inl h))) a e = subst (IsAhead sc me i s) (same_Some h.a a (sym h.pends ∙ e)) (h.had, h.at_time)
-site-ahead sc hands sent now p me i s (inr (inr (inr h))) a e = h.ahead a e
+site-ahead sc q C its hands sent b me i s (inl stopped) a e = none_and_some a s.ahead stopped.ahead e
+site-ahead sc q C its hands sent b me i s (inr (inl h)) a e =
+    subst (IsAhead sc me i s) (same_Some h.waits.a a (sym h.waits.stands.receives.pends ∙ e)) (h.waits.stands.receives.is_next.later, h.waits.stands.receives.at_time)
+site-ahead sc q C its hands sent b me i s (inr (inr (inl h))) a e = subst (IsAhead sc me i s) (same_Some h.a a (sym h.pends ∙ e)) (h.had, h.at_time)
+site-ahead sc q C its hands sent b me i s (inr (inr (inr h))) a e = its.ahead hands b me i s a h e
 
-pub early-keeps : (sc : Scenario) → IsLawful sc → HasRoom sc.plan → (q : ℕ) → q < 2 → KeepsNodes sc q (NodesBreak sc)
-early-keeps sc lawful room q early = record {
-  begins = λ hands b off now at sites t first side j z there.
-      (now, break-begins sc hands lawful room now at sites b q t off.running off.small off.window first side j z there);
-  waits = λ hands b off sent sites h me i s there runs good.
-      let here = h me i s there in
-      site-waits sc hands room sent here.0 b q off.small off.window me i s runs here.1;
+pub break-keeps : (sc : Scenario) (q : ℕ) (C : Course) → IsLawful sc → HasRoom sc.plan → TellsOn sc q C → KeepsNodes sc q (NodesBreak sc C)
+break-keeps sc q C lawful room its = record {
+  begins = λ hands b off now at sites t first. break-begins sc hands C lawful room now at sites b q t off.running off.small off.window first;
+  waits = λ hands b off sent sites h me i s there runs good. site-waits sc q C room hands b off sent me i s runs (h me i s there);
   told = λ hands b off sent ports sites h me i s a t there.
-      let here = h me i s there in
-      closed-stage-tells sc hands room b q off.small off.window me i _ (site-ticks sc hands lawful room sent here.0 ports b q off.running early off.window me i s a t here.1);
+      tells sc q C room hands b off me i _ (site-ticks sc q C its hands b off sent ports me i s a t (h me i s there));
   tick = λ hands b off sent ports sites h me i frame s a t there.
-      break-tick sc hands lawful room sent ports b q off.running early off.window sites me i frame s a t there h;
+      let x : Act = pass_and_tick sc ports me i a.tick s.core in
+      let here : SiteBreaks sc hands C sent b me i s = h me i s there in
+      one-changes (λ side j r z. SiteBreaks sc hands C sent b side j z) sc (λ side j. 0) sites me i frame a.tick 0 x.message (after_act sc ports me i x) s
+      (λ side j r z was. message-comes sc hands C sent b me i frame a.tick x.message side j z (λ w kind msg e. ticks-late sc q C its lawful room hands b off sent ports me i s a t here frame side j z w kind msg e) was)
+      there (inr (inr (inr (site-ticks sc q C its hands b off sent ports me i s a t here))))
+      (λ side j z other e. h side j z e);
   arrival = λ hands b off sent sites h me i n c s moves there stands due first.
-      break-arrival sc hands sent b sites me i n c s moves there stands due h;
-  goes = λ hands b off sent sites h me i s there. let here = h me i s there in site-goes sc hands sent here.0 b me i s here.1;
-  ahead = λ hands b off sent sites h me i s there. let here = h me i s there in site-ahead sc hands sent here.0 b me i s here.1;
+      let none : Option Message = None in
+      one-changes (λ side j r z. SiteBreaks sc hands C sent b side j z) sc (λ side j. 0) sites me i 0 0 0 none (after_arrival sc me i n c) s
+      (λ side j r z was. was) there (site-comes sc hands C its.arrives sent b me i n c s moves stands due (h me i s there)) (λ side j z other e. h side j z e);
+  goes = λ hands b off sent sites h me i s there. site-goes sc C hands sent b me i s (h me i s there);
+  ahead = λ hands b off sent sites h me i s there. site-ahead sc q C its hands sent b me i s (h me i s there);
 }

@@ -1,139 +1,150 @@
--- For the law that events are rounds if the premise on faults is broken in a sync slot: if the run
--- breaks off messages reach only nodes that do not listen in the stage, or have closed it; a node
--- that has told its row of it, and is of the kind heard in it, says nothing up to the last tick of
--- the next window.
-use Rattle.std.proofs.Common.{◌≡◌, ℕ, ◌+◌, ◌*◌, ◌<◌, ◌≤◌, ◌&&◌, ◌++◌, ◌∷◌, [], ◌⊎◌, Bool, true, false, List, refl, ap, sym, ◌∙◌, subst, arith, inl, inr, Option, Some, None}
-use Rattle.rb_base.specs.{Nodes.{Side, other}, Sizes.{Sizes, sync_slot_of}}
-use Rattle.rb_rules.specs.{declared.message.Message.Message, declared.plan.Plan.Plan, declared.role.Role.TheVariants.Sync, Core.{Act, Core, act_at, act_on, epoch_at, is_last, is_spent, of_source, pass_to, said_at, state_at, state_kept, tick, window_here}, ExactStage.Outcome, Goodness.Scenario, Hearing.{close_window, coming_of}, NodeState.NodeState, Ports.{HandIn, PortState}, Rounds.{moment, window_in}, Slots.{listens, same_side}, WorldStep.{Site, pass_and_tick, wants_in, word_of}}
-use Rattle.rb_laws_events.proofs.{BreakSites.{HasClosed, WaitsDeaf, WaitsHearing}, Invariant.word_at, NodeActs.{HasRoom, IsInWindow}, NodeSends.KeepsTime, PastTicks.{IsPast, turns-later}, SilentThere.silent-there, StageOrder.last_of, TickWindows.{IsTickIn, first_of}, WorldTicks.reached}
+-- For the law that events are rounds if the premise on faults is broken in a sync slot: an arrival
+-- and a message on its way keep each node of a world in which the run breaks off. What comes to a
+-- node that waits for its last tick of the stage comes after that tick.
+use Rattle.std.proofs.Common.{◌≡◌, ℕ, zero, suc, ◌<◌, ◌≤◌, ◌&&◌, ◌++◌, ◌∷◌, [], Bool, true, false, List, append_assoc, refl, ap, sym, ◌∙◌, subst, arith, inl, inr, Option, Some, None, remove}
+use Rattle.rb_base.specs.Nodes.{Side, other}
+use Rattle.rb_rules.specs.{declared.closing.Closed.Closed as Shown, declared.message.Message.Message, declared.record.Epoch.Epoch, Core.{Act}, Goodness.{Scenario, clock_of, is_good}, Hearing.{Coming, Span, coming_of}, Ports.{HandIn, PortState}, Rounds.moment, Slots.same_side, WorldStep.{Site, Timed, after_act, after_arrival, await, enter, proceed, says_in, span_from, stop, with_close, with_epoch}}
+use Rattle.rb_rules.proofs.Stamps.{Moves}
+use Rattle.rb_laws_events.proofs.{BreakSites.{ArrivalsKeep, Course, HasTold, SiteBreaks, WaitsAhead, WaitsDeaf, deaf-arrives, told-on}, Invariant.{is_good_at}, NodeEvents.stands-arrival, PendingLists.{StandsAt, each-append}, Receiving.{ArrivesNow, every-stands}, SameHeard.Every, WorldTicks.reached}
+
+-- Arrivals.
+
+pub every-left : (P : Coming → Type 0) (xs ys : List Coming) → Every P (xs ++ ys) → Every P xs
+every-left P [] ys e = tt
+every-left P (x ∷ xs) ys e = (e.0, every-left P xs ys e.1)
+
+-- an item that comes by time `t` is not among those that come after it
+stands-left : (n : ℕ) (c : Coming) (t : ℕ) (xs ys : List Coming) → Every (λ y. t < y.time) ys → c.time ≤ t → StandsAt n c (xs ++ ys) → StandsAt n c xs × (remove (xs ++ ys) n ≡ remove xs n ++ ys)
+stands-left n c t [] ys all le s = let after : t < c.time = every-stands (λ y. t < y.time) n c ys s all in absurd (omega (arith, after, le))
+stands-left zero c t (x ∷ xs) ys all le s = (s, refl)
+stands-left (suc n) c t (x ∷ xs) ys all le s =
+    let others = stands-left n c t xs ys all le s in
+    (others.0, ap (λ l. x ∷ l) others.1)
+
+ahead-arrives : (sc : Scenario) (hands : List HandIn) (sent : Side → ℕ → ℕ → Bool) (me : Side) (i p n : ℕ) (c : Coming) (s : Site) → Moves (clock_of sc me i)
+    → (h : WaitsAhead sc hands sent me i p s) → ArrivesNow n c s h.waits.a → WaitsAhead sc hands sent me i p (after_arrival sc me i n c s)
+unfolding after_arrival
+ahead-arrives sc hands sent me i p n c s moves h due =
+    let base : Site = record s { coming = h.mine } in
+    let split = stands-left n c h.waits.a.time h.mine h.more h.later due.before_tick (subst (StandsAt n c) h.is due.at) in
+    let its : ArrivesNow n c base h.waits.a = record {
+      at = split.0;
+      least = every-left (λ x. c.time ≤ x.time) h.mine h.more (subst (Every (λ x. c.time ≤ x.time)) h.is due.least);
+      before_tick = due.before_tick;
+    } in
+    record {
+      now = c.time;
+      mine = remove h.mine n;
+      more = h.more;
+      is = ap (λ l. remove l n) h.is ∙ split.1;
+      waits = record {
+        st = h.waits.st;
+        a = h.waits.a;
+        stands = stands-arrival sc hands sent h.now me i p n c base h.waits.st h.waits.a moves its h.waits.stands;
+        hears = h.waits.hears;
+        last = h.waits.last;
+      };
+      later = h.later;
+    }
+
+pub site-comes : (sc : Scenario) (hands : List HandIn) (C : Course) → ArrivalsKeep sc C → (sent : Side → ℕ → ℕ → Bool) (p : ℕ) (me : Side) (i n : ℕ) (c : Coming) (s : Site) → (is_good_at sc (moment sc hands p) me i ≡ true → Moves (clock_of sc me i)) → StandsAt n c s.coming
+    → ((a : Timed) → s.ahead ≡ Some a → ArrivesNow n c s a) → SiteBreaks sc hands C sent p me i s → SiteBreaks sc hands C sent p me i (after_arrival sc me i n c s)
+unfolding after_arrival
+site-comes sc hands C its sent p me i n c s moves stands due (inl stopped) = absurd (none-stands s.coming stopped.coming n stands)
+  where
+    none-stands : (cs : List Coming) → cs ≡ [] → (n : ℕ) → StandsAt n c cs → ⊥
+    none-stands [] e n s = s
+    none-stands (x ∷ xs) e n s = cc
+site-comes sc hands C its sent p me i n c s moves stands due (inr (inl h)) = inr (inl (ahead-arrives sc hands sent me i p n c s (moves h.waits.stands.good) h (due h.waits.a h.waits.stands.receives.pends)))
+site-comes sc hands C its sent p me i n c s moves stands due (inr (inr (inl h))) = inr (inr (inl (deaf-arrives sc hands me i p n c s (moves h.good) h (due h.a h.pends).before_tick)))
+site-comes sc hands C its sent p me i n c s moves stands due (inr (inr (inr h))) =
+    inr (inr (inr (told-on sc hands C me i p s (after_arrival sc me i n c s) h refl (its hands me i p n c s h.st (moves h.good) h.course (λ a e. (due a e).before_tick)))))
 
 -- A message on its way.
 
--- a node at which nothing happens any more
-pub record HasStopped (s : Site) : Type 0 where
-  pub runs : s.runs ≡ false
-  pub ahead : s.ahead ≡ None
-  pub coming : s.coming ≡ []
-
--- a node of a world in which the run breaks off at moment p
-abbrev pub SiteBreaks : Scenario → List HandIn → (Side → ℕ → ℕ → Bool) → ℕ → ℕ → Side → ℕ → Site → Type 0
-SiteBreaks sc hands sent now p side j s = HasStopped s ⊎ (WaitsHearing sc hands sent now side j p s ⊎ (WaitsDeaf sc hands side j p s ⊎ HasClosed sc hands side j p s))
-
-deaf-more : (sc : Scenario) (hands : List HandIn) (p : ℕ) (side : Side) (j : ℕ) (s z : Site) → z.core ≡ s.core → z.ahead ≡ s.ahead → WaitsDeaf sc hands side j p s → WaitsDeaf sc hands side j p z
-deaf-more sc hands p side j s z core ahead h = record {
+deaf-more : (sc : Scenario) (hands : List HandIn) (p : ℕ) (side : Side) (j : ℕ) (s : Site) (more : List Coming) → WaitsDeaf sc hands side j p s → WaitsDeaf sc hands side j p (record s { coming = more })
+deaf-more sc hands p side j s more h = record {
   st = h.st;
   a = h.a;
   state = h.state;
   good = h.good;
   slot = h.slot;
   deaf = h.deaf;
-  stands = subst (λ (c : Core). IsInWindow sc.sizes sc.plan side j h.st (moment sc hands p).window (word_at sc (moment sc hands p) side j h.st) h.a.tick c.state) (sym core) h.stands;
-  from = subst (λ (c : Core). h.st.epoch + first_of sc.sizes sc.plan side h.st (moment sc hands p).window ≤ c.had) (sym core) h.from;
-  had = subst (λ (c : Core). c.had ≤ h.a.tick) (sym core) h.had;
+  stands = h.stands;
+  from = h.from;
+  had = h.had;
   small = h.small;
-  pends = ahead ∙ h.pends;
+  pends = h.pends;
   at_time = h.at_time;
   last = h.last;
 }
 
-pub closed-more : (sc : Scenario) (hands : List HandIn) (p : ℕ) (side : Side) (j : ℕ) (s z : Site) → z.core ≡ s.core → z.ahead ≡ s.ahead → z.row ≡ s.row → HasClosed sc hands side j p s → HasClosed sc hands side j p z
-closed-more sc hands p side j s z core ahead row h = record {
-  st = h.st;
-  state = h.state;
-  good = h.good;
-  row = h.row;
-  told = row ∙ h.told;
-  is = h.is;
-  past = subst (λ (c : Core). IsPast sc.sizes sc.plan side h.st.frame h.st.epoch ((moment sc hands p).window + 1) c.state c.had) (sym core) h.past;
-  keeps = λ deaf. subst (λ (c : Core). KeepsTime sc.sizes sc.plan side c.state) (sym core) (h.keeps deaf);
-  ahead = λ a e. let was = h.ahead a (sym ahead ∙ e) in (subst (λ (c : Core). c.had ≤ a.tick) (sym core) was.0, was.1);
+ahead-more : (sc : Scenario) (hands : List HandIn) (sent : Side → ℕ → ℕ → Bool) (p : ℕ) (side : Side) (j : ℕ) (s : Site) (c : Coming) → (h : WaitsAhead sc hands sent side j p s) → h.waits.a.time < c.time
+    → WaitsAhead sc hands sent side j p (record s { coming = s.coming ++ c ∷ [] })
+ahead-more sc hands sent p side j s c h after = record {
+  now = h.now;
+  mine = h.mine;
+  more = h.more ++ c ∷ [];
+  is = ap (λ l. l ++ c ∷ []) h.is ∙ append_assoc h.mine h.more (c ∷ []);
+  waits = record { st = h.waits.st; a = h.waits.a; stands = h.waits.stands; hears = h.waits.hears; last = h.waits.last };
+  later = each-append (λ x. h.waits.a.time < x.time) h.more (c ∷ []) h.later (after, tt);
 }
 
-pub message-breaks : (sc : Scenario) (hands : List HandIn) (sent : Side → ℕ → ℕ → Bool) (now p : ℕ) (me : Side) (i frame k : ℕ) (m : Option Message) (side : Side) (j : ℕ) (z : Site)
-    → (WaitsHearing sc hands sent now side j p z → same_side side (other me) ≡ true → m ≡ None)
-    → SiteBreaks sc hands sent now p side j z → SiteBreaks sc hands sent now p side j (reached sc me i frame k m side j z)
-message-breaks sc hands sent now p me i frame k None side j z quiet h = h
-message-breaks sc hands sent now p me i frame k (Some m) side j z quiet h = by (same_side side (other me)) z.runs refl refl h
+pub message-comes : (sc : Scenario) (hands : List HandIn) (C : Course) (sent : Side → ℕ → ℕ → Bool) (p : ℕ) (me : Side) (i frame k : ℕ) (m : Option Message) (side : Side) (j : ℕ) (z : Site)
+    → ((h : WaitsAhead sc hands sent side j p z) → same_side side (other me) ≡ true → (x : Message) → m ≡ Some x → h.waits.a.time < (coming_of sc side j i frame (record { tick = k; message = x })).time)
+    → SiteBreaks sc hands C sent p side j z → SiteBreaks sc hands C sent p side j (reached sc me i frame k m side j z)
+message-comes sc hands C sent p me i frame k None side j z late h = h
+message-comes sc hands C sent p me i frame k (Some m) side j z late h = by (same_side side (other me)) z.runs refl refl h
   where
-    more : Bool → Site
-    more b = elim b as (λ _. Site) [
-      | true ↦ record z { coming = z.coming ++ coming_of sc side j i frame (record { tick = k; message = m }) ∷ [] }
-      | false ↦ z
-    ]
+    c : Coming
+    c = coming_of sc side j i frame (record { tick = k; message = m })
 
-    by : (a b : Bool) → same_side side (other me) ≡ a → z.runs ≡ b → SiteBreaks sc hands sent now p side j z → SiteBreaks sc hands sent now p side j (more (a && b))
+    more : Bool → Site
+    more b = elim b as (λ _. Site) [ true ↦ record z { coming = z.coming ++ c ∷ [] } | false ↦ z ]
+
+    by : (a b : Bool) → same_side side (other me) ≡ a → z.runs ≡ b → SiteBreaks sc hands C sent p side j z → SiteBreaks sc hands C sent p side j (more (a && b))
     by false b e f h = h
     by true false e f h = h
     by true true e f (inl stopped) = let both : true ≡ false = sym f ∙ stopped.runs in absurd (cc)
-    by true true e f (inr (inl hearing)) = let none : Some m ≡ None = quiet hearing e in absurd (cc)
-    by true true e f (inr (inr (inl deaf))) = inr (inr (inl (deaf-more sc hands p side j z (more true) refl refl deaf)))
-    by true true e f (inr (inr (inr closed))) = inr (inr (inr (closed-more sc hands p side j z (more true) refl refl refl closed)))
+    by true true e f (inr (inl ahead)) = inr (inl (ahead-more sc hands sent p side j z c ahead (late ahead e m refl)))
+    by true true e f (inr (inr (inl deaf))) = inr (inr (inl (deaf-more sc hands p side j z (z.coming ++ c ∷ []) deaf)))
+    by true true e f (inr (inr (inr told))) = inr (inr (inr (told-on sc hands C side j p z (more true) told refl told.course)))
 
--- Who says nothing.
+-- What comes to a node matters not to what it tells.
 
--- a core that says nothing at a tick sends nothing with it
-pub says-none : (sizes : Sizes) (plan : Plan) (me : Side) (i : ℕ) (c : Core) (word : ℕ) → said_at sizes plan me i (state_at sizes plan me c.state c.had) word c.had ≡ None
-    → (tick sizes plan me i c word).message ≡ None
-unfolding tick act_at act_on
-says-none sizes plan me i c word none = by (is_spent c)
+pub record IsSame (a b : Site) : Type 0 where
+  pub core : a.core ≡ b.core
+  pub row : a.row ≡ b.row
+  pub ahead : a.ahead ≡ b.ahead
+
+enter-same : (sc : Scenario) (me : Side) (i : ℕ) (o : Option Span) (s : Site) (l : List Coming) → IsSame (enter sc me i o (record s { coming = l })) (enter sc me i o s)
+enter-same sc me i None s l = record { core = refl; row = refl; ahead = refl }
+enter-same sc me i (Some span) s l = by (is_good sc me i span.place.frame span.place.slot)
   where
-    st : NodeState
-    st = state_at sizes plan me c.state c.had
+    next : Bool → Site → Site
+    next b s = elim b as (λ _. Site) [ true ↦ await sc me i (says_in sc me i span) s | false ↦ stop s ]
 
-    m : Option Message
-    m = said_at sizes plan me i st word c.had
+    by : (b : Bool) → IsSame (next b (record s { coming = l })) (next b s)
+    by true = record { core = refl; row = refl; ahead = refl }
+    by false = record { core = refl; row = refl; ahead = refl }
 
-    kept : NodeState
-    kept = state_kept sizes me i st word m
+pub act-same : (sc : Scenario) (ports : List PortState) (me : Side) (i : ℕ) (x : Act) (s : Site) (l : List Coming) → IsSame (after_act sc ports me i x (record s { coming = l })) (after_act sc ports me i x s)
+unfolding after_act proceed
+act-same sc ports me i x s l =
+    let s3 : Site = with_epoch sc ports me i x.epoch (with_close me i x.core.state x.closed (record s { core = x.core })) in
+    let is : with_epoch sc ports me i x.epoch (with_close me i x.core.state x.closed (record s { core = x.core; coming = l })) ≡ record s3 { coming = l } =
+    ap (with_epoch sc ports me i x.epoch) (close-same x.closed (record s { core = x.core })) ∙ epoch-same x.epoch (with_close me i x.core.state x.closed (record s { core = x.core })) in
+    subst (λ z. IsSame (enter sc me i (span_from sc.sizes sc.plan me z.core.state z.core.had) z) (enter sc me i (span_from sc.sizes sc.plan me s3.core.state s3.core.had) s3)) (sym is)
+    (enter-same sc me i (span_from sc.sizes sc.plan me s3.core.state s3.core.had) s3 l)
+  where
+    close-same : (c : Option Shown) (s : Site) → with_close me i x.core.state c (record s { coming = l }) ≡ record (with_close me i x.core.state c s) { coming = l }
+    close-same None s = refl
+    close-same (Some c) s = refl
 
-    closing : Outcome
-    closing = close_window sizes plan me i kept (window_here sizes plan me st c.had) (of_source c.inbox)
+    epoch-same : (e : Option Epoch) (s : Site) → with_epoch sc ports me i e (record s { coming = l }) ≡ record (with_epoch sc ports me i e s) { coming = l }
+    epoch-same None s = refl
+    epoch-same (Some e) s = refl
 
-    acts : Bool → Act
-    acts b = elim b as (λ _. Act) [
-      | true ↦ record {
-        core = record { state = closing.state; had = c.had + 1; inbox = [] };
-        epoch = epoch_at sizes me st c.had;
-        message = m;
-        closed = Some closing.closed;
-      }
-      | false ↦ record {
-        core = record { state = kept; had = c.had + 1; inbox = c.inbox };
-        epoch = epoch_at sizes me st c.had;
-        message = m;
-        closed = None;
-      }
-    ]
-
-    go : (b : Bool) → (acts b).message ≡ None
-    go true = none
-    go false = none
-
-    by : (b : Bool) → (elim b as (λ _. Act) [
-      | true ↦ record { core = c; epoch = None; message = None; closed = None }
-      | false ↦ acts (is_last sizes plan me st c.had)
-    ]).message ≡ None
-    by true = refl
-    by false = go (is_last sizes plan me st c.had)
-
--- a node of the kind that is heard in the stage says nothing from its row of that stage up to the
--- last tick of the next window
-pub closed-silent : (sc : Scenario) (hands : List HandIn) (ports : List PortState) (p q k : ℕ) → HasRoom sc.plan → q < 3 → (moment sc hands p).window ≡ 3 * sync_slot_of sc.sizes + q
-    → (me : Side) (i : ℕ) (s : Site) → (h : HasClosed sc hands me i p s) → listens me Sync (window_in sc (moment sc hands p) me h.st).stage ≡ false → listens (other me) Sync (q + 2) ≡ false
-    → s.core.had ≤ k → k ≤ s.core.state.epoch + last_of sc.sizes sc.plan me s.core.state (3 * sync_slot_of sc.sizes + (q + 1))
-    → (pass_and_tick sc ports me i k s.core).message ≡ None
-unfolding pass_and_tick
-closed-silent sc hands ports p q k room small at me i s h deaf unheard had before =
-    let n : ℕ = 3 * sync_slot_of sc.sizes + (q + 1) in
-    let c : Core = pass_to k s.core in
-    let c_had : c.had ≡ k = omega arith in
-    let n_is : (moment sc hands p).window + 1 ≡ n = omega (arith, at) in
-    let from : s.core.state.epoch + first_of sc.sizes sc.plan me s.core.state n ≤ s.core.had =
-    subst (λ n. s.core.state.epoch + first_of sc.sizes sc.plan me s.core.state n ≤ s.core.had) n_is h.past.from in
-    let in_it : IsTickIn sc.sizes sc.plan me s.core.state n c.had = record { from = omega (arith, from, c_had, had); to = omega (arith, before, c_had) } in
-    let now : state_at sc.sizes sc.plan me s.core.state c.had ≡ s.core.state = turns-later sc.sizes sc.plan me s.core.state n c.had room.ticks h.past.next (omega arith) in_it in
-    let stage : q + 2 ≡ q + 1 + 1 = omega arith in
-    let word : ℕ = word_of sc ports i (wants_in sc me i c) in
-    says-none sc.sizes sc.plan me i c word
-    (ap (λ z. said_at sc.sizes sc.plan me i z word c.had) now
-    ∙ silent-there sc.sizes sc.plan me i s.core.state (q + 1) word c.had room (omega arith) (h.keeps deaf) in_it (ap (listens (other me) Sync) (sym stage) ∙ unheard))
+pub told-same : (sc : Scenario) (hands : List HandIn) (C : Course) (me : Side) (i p : ℕ) (a b : Site) → IsSame a b → HasTold sc hands C me i p a → HasTold sc hands C me i p b
+told-same sc hands C me i p a b same h = told-on sc hands C me i p a b h (sym same.row)
+    (subst (λ o. C hands p me i h.st b.core o) same.ahead (subst (λ c. C hands p me i h.st c a.ahead) same.core h.course))

@@ -4,7 +4,7 @@ use Rattle.std.proofs.Common.{◌≡◌, ℕ, suc, ◌+◌, ◌*◌, ◌<◌, �
 use Rattle.rb_base.specs.{Nodes.Side, Sizes.sync_slot_of}
 use Rattle.rb_rules.specs.{Book.{Each, Row, of_kind}, Clock.time_of, Goodness.{Scenario, clock_of}, Hearing.Coming, Moments.IsRunning, NodeState.NodeState, Ports.{HandIn, PortState}, Rounds.moment, WorldStep.{Site, Timed, after_act, after_arrival, at_node, pass_and_tick, with_message}}
 use Rattle.rb_rules.proofs.Stamps.{Moves}
-use Rattle.rb_laws_events.proofs.{BreakBegins.FirstCloses, BreakEvents.TickBreaks, BreakMessages.HasStopped, Invariant.{is_good_at, last_tick}, MomentBooks.place_at, PendingLists.StandsAt, Receiving.ArrivesNow, Settling.RowOfRounds, WorldStands.sent_by}
+use Rattle.rb_laws_events.proofs.{BreakBegins.FirstCloses, BreakEnters.TickBreaks, BreakSites.HasStopped, Invariant.{is_good_at, last_tick}, MomentBooks.place_at, PendingLists.StandsAt, Receiving.ArrivesNow, Settling.RowOfRounds, WorldStands.sent_by}
 
 -- the run breaks off with stage q of the sync slot, which is the window of moment b
 pub record BreaksAt (sc : Scenario) (hands : List HandIn) (b q : ℕ) : Type 0 where

@@ -1,13 +1,13 @@
 -- For the law that events are rounds if the premise on faults is broken in a sync slot: the nodes
 -- of a world in which the run breaks off at moment p. Each node that is good there waits for its
 -- last tick of the window, or has told its row of it. What happens at a node keeps this.
-use Rattle.std.proofs.Common.{◌≡◌, ℕ, ◌+◌, ◌^◌, ◌<◌, ◌≤◌, ◌==◌, Bool, true, false, List, [], refl, ap, sym, ◌∙◌, subst, arith, Option, Some, None, slice_get, option_map}
+use Rattle.std.proofs.Common.{◌≡◌, ℕ, ◌+◌, ◌++◌, ◌⊎◌, ◌-◌, ◌^◌, ◌<◌, ◌≤◌, ◌==◌, Bool, true, false, List, [], refl, ap, sym, ◌∙◌, subst, arith, Option, Some, None, slice_get, option_map}
 use Rattle.rb_base.specs.{Nodes.Side, Sizes.sync_slot_of}
-use Rattle.rb_rules.specs.{declared.closing.Closed.Closed as Shown, declared.record.Epoch.Epoch, declared.role.Role.TheVariants.Sync, declared.plan.Window.Window, Book.{Row, of_kind}, Clock.{stamp_of, time_of}, Core.{Act, Core, next_tick, of_source, pass_to}, Goodness.{Scenario, clock_of, is_good}, Hearing.{Coming, Span, row_of}, NodeState.NodeState, Ports.{HandIn, PortState}, Rounds.{Moment, go_through, moment, sent_in, window_in}, Slots.listens, WorldStep.{Site, Timed, after_act, after_arrival, await, coming_from, enter, pass_and_tick, proceed, says_in, span_from, stop, with_close, with_epoch}}
+use Rattle.rb_rules.specs.{declared.closing.Closed.Closed as Shown, declared.record.Epoch.Epoch, declared.role.Role.TheVariants.Sync, declared.plan.Window.Window, Book.{Each, Row, of_kind}, Clock.{stamp_of, time_of}, Core.{Act, Core, next_tick, of_source, pass_to}, Goodness.{Scenario, clock_of, is_good}, Hearing.{Coming, Span, row_of}, NodeState.NodeState, Ports.{HandIn, PortState}, Rounds.{Moment, go_through, moment, sent_in, window_in}, Slots.listens, WorldStep.{Site, Timed, after_act, after_arrival, await, coming_from, enter, pass_and_tick, proceed, says_in, span_from, stop, with_close, with_epoch}}
 use Rattle.rb_rules.proofs.{QuietTicks.arrive-same, RoundStates.HasTicks, Stamps.Moves}
 use Rattle.rb_laws_synchrony.proofs.Times.{stamp_to}
 use Rattle.rb_laws_events.specs.Closing.{stages_in}
-use Rattle.rb_laws_events.proofs.{ClosingTicks.{closing_of, spoken}, Invariant.{NodeStands, is_good_at, last_tick, word_at}, LastCloses.ShowsRounds, NodeActs.IsInWindow, NodeClosing.closed-stage, NodeSends.KeepsTime, NodeTicks.{like-itself, like-keeps}, PastTicks.{IsPast, TellsNone, past-arrival, past-kept, past-tick}, StageOrder.last_of, Takes.busy-later, TickWindows.first_of}
+use Rattle.rb_laws_events.proofs.{ClosingTicks.{closing_of, spoken}, Invariant.{NodeStands, is_good_at, last_tick, word_at}, LastCloses.ShowsRounds, NodeActs.IsInWindow, NodeClosing.closed-stage, NodeSends.KeepsTime, NodeTicks.{like-itself, like-keeps}, SameHeard.Every, PastTicks.{IsPast, TellsNone, past-arrival, past-kept, past-tick}, StageOrder.last_of, Takes.busy-later, TickWindows.first_of}
 
 -- a node that listens in the window waits for its last tick
 pub record WaitsHearing (sc : Scenario) (hands : List HandIn) (sent : Side → ℕ → ℕ → Bool) (now : ℕ) (me : Side) (i p : ℕ) (s : Site) : Type 0 where
@@ -32,17 +32,64 @@ pub record WaitsDeaf (sc : Scenario) (hands : List HandIn) (me : Side) (i p : �
   pub at_time : a.time ≡ time_of (clock_of sc me i) a.tick
   pub last : a.tick ≡ last_tick sc (moment sc hands p) me st
 
--- a node that has told its row of the window
-pub record HasClosed (sc : Scenario) (hands : List HandIn) (me : Side) (i p : ℕ) (s : Site) : Type 0 where
+-- a node that listens; besides what comes to it in the rounds of the stage and of the window after
+-- it, some messages may come after its last tick
+pub record WaitsAhead (sc : Scenario) (hands : List HandIn) (sent : Side → ℕ → ℕ → Bool) (me : Side) (i p : ℕ) (s : Site) : Type 0 where
+  pub now : ℕ
+  pub mine : List Coming
+  pub more : List Coming
+  pub is : s.coming ≡ mine ++ more
+  pub waits : WaitsHearing sc hands sent now me i p (record s { coming = mine })
+  pub later : Every (λ c. waits.a.time < c.time) more
+
+-- how a node goes on that has told its row: a relation of its state in the rounds, of its core, and
+-- of its next tick
+abbrev pub Course : Type 1
+Course = List HandIn → ℕ → Side → ℕ → NodeState → Core → Option Timed → Type 0
+
+-- a node that has told its row of the window, and goes on by the course `C`
+pub record HasTold (sc : Scenario) (hands : List HandIn) (C : Course) (me : Side) (i p : ℕ) (s : Site) : Type 0 where
   pub st : NodeState
   pub state : slice_get (of_kind me (moment sc hands p).nodes) i ≡ Some st
   pub good : is_good_at sc (moment sc hands p) me i ≡ true
   pub row : Row
   pub told : s.row ≡ Some row
   pub is : (go_through sc (moment sc hands p) (sent_in sc (moment sc hands p)) me i st (window_in sc (moment sc hands p) me st)).row ≡ Some row
-  pub past : IsPast sc.sizes sc.plan me st.frame st.epoch ((moment sc hands p).window + 1) s.core.state s.core.had
-  pub keeps : listens me Sync (window_in sc (moment sc hands p) me st).stage ≡ false → KeepsTime sc.sizes sc.plan me s.core.state
-  pub ahead : (a : Timed) → s.ahead ≡ Some a → (s.core.had ≤ a.tick) × (a.time ≡ time_of (clock_of sc me i) a.tick)
+  pub course : C hands p me i st s.core s.ahead
+
+-- a node that has told its row goes on if its row stays
+unfoldable pub told-on : (sc : Scenario) (hands : List HandIn) (C : Course) (me : Side) (i p : ℕ) (s z : Site) → (h : HasTold sc hands C me i p s) → z.row ≡ s.row → C hands p me i h.st z.core z.ahead
+    → HasTold sc hands C me i p z
+told-on sc hands C me i p s z h row course = record { st = h.st; state = h.state; good = h.good; row = h.row; told = row ∙ h.told; is = h.is; course = course }
+
+-- a node at which nothing happens any more
+pub record HasStopped (s : Site) : Type 0 where
+  pub runs : s.runs ≡ false
+  pub ahead : s.ahead ≡ None
+  pub coming : s.coming ≡ []
+
+-- a node of a world in which the run breaks off at moment p
+abbrev pub SiteBreaks : Scenario → List HandIn → Course → (Side → ℕ → ℕ → Bool) → ℕ → Side → ℕ → Site → Type 0
+SiteBreaks sc hands C sent p side j s = HasStopped s ⊎ (WaitsAhead sc hands sent side j p s ⊎ (WaitsDeaf sc hands side j p s ⊎ HasTold sc hands C side j p s))
+
+-- `SiteBreaks` holds for each node
+abbrev pub NodesBreak : Scenario → Course → List HandIn → ℕ → (Side → ℕ → ℕ → Bool) → Each Site → Type 0
+NodesBreak sc C hands p sent sites = (side : Side) (j : ℕ) (z : Site) → slice_get (of_kind side sites) j ≡ Some z → SiteBreaks sc hands C sent p side j z
+
+-- an arrival keeps the course
+abbrev pub ArrivalsKeep : Scenario → Course → Type 0
+ArrivalsKeep sc C = (hands : List HandIn) (me : Side) (i p n : ℕ) (c : Coming) (s : Site) (st : NodeState) → Moves (clock_of sc me i) → C hands p me i st s.core s.ahead
+    → ((a : Timed) → s.ahead ≡ Some a → c.time ≤ a.time) → C hands p me i st (after_arrival sc me i n c s).core (after_arrival sc me i n c s).ahead
+
+-- the course after the first and the second stage: the node is past the window, and stays in the
+-- frame
+pub record InFrame (sc : Scenario) (hands : List HandIn) (p : ℕ) (me : Side) (i : ℕ) (st : NodeState) (core : Core) (o : Option Timed) : Type 0 where
+  pub past : IsPast sc.sizes sc.plan me st.frame st.epoch ((moment sc hands p).window + 1) core.state core.had
+  pub keeps : listens me Sync (window_in sc (moment sc hands p) me st).stage ≡ false → KeepsTime sc.sizes sc.plan me core.state
+  pub ahead : (a : Timed) → o ≡ Some a → (core.had ≤ a.tick) × (a.time ≡ time_of (clock_of sc me i) a.tick)
+
+abbrev pub HasClosed : Scenario → List HandIn → Side → ℕ → ℕ → Site → Type 0
+HasClosed sc hands me i p s = HasTold sc hands (InFrame sc) me i p s
 
 -- Arrivals.
 
@@ -80,24 +127,18 @@ deaf-arrives sc hands me i p n c s moves h before =
       last = h.last;
     }
 
-pub closed-arrives : (sc : Scenario) (hands : List HandIn) (me : Side) (i p n : ℕ) (c : Coming) (s : Site) → Moves (clock_of sc me i) → HasClosed sc hands me i p s
-    → ((a : Timed) → s.ahead ≡ Some a → c.time ≤ a.time) → HasClosed sc hands me i p (after_arrival sc me i n c s)
+pub closed-arrives : (sc : Scenario) (hands : List HandIn) (me : Side) (i p n : ℕ) (c : Coming) (s : Site) (st : NodeState) → Moves (clock_of sc me i) → InFrame sc hands p me i st s.core s.ahead
+    → ((a : Timed) → s.ahead ≡ Some a → c.time ≤ a.time) → InFrame sc hands p me i st (after_arrival sc me i n c s).core (after_arrival sc me i n c s).ahead
 unfolding after_arrival
-closed-arrives sc hands me i p n c s moves h before =
+closed-arrives sc hands me i p n c s st moves h before =
     let m : Moment = moment sc hands p in
     let passed : Core = pass_to (stamp_of (clock_of sc me i) c.time) s.core in
     let more : s.core.had ≤ passed.had = omega arith in
-    let later : IsPast sc.sizes sc.plan me h.st.frame h.st.epoch (m.window + 1) passed.state passed.had =
-    past-kept sc.sizes sc.plan me i h.st.frame h.st.epoch (m.window + 1) s.core.state s.core.state s.core.had passed.had (like-itself sc.sizes sc.plan me i s.core.state) refl more h.past in
+    let later : IsPast sc.sizes sc.plan me st.frame st.epoch (m.window + 1) passed.state passed.had =
+    past-kept sc.sizes sc.plan me i st.frame st.epoch (m.window + 1) s.core.state s.core.state s.core.had passed.had (like-itself sc.sizes sc.plan me i s.core.state) refl more h.past in
     record {
-      st = h.st;
-      state = h.state;
-      good = h.good;
-      row = h.row;
-      told = h.told;
-      is = h.is;
       keeps = λ deaf. subst (KeepsTime sc.sizes sc.plan me) (sym (arrive-same sc.sizes me passed c.from c.bytes).0) (h.keeps deaf);
-      past = past-arrival sc.sizes sc.plan me h.st.frame h.st.epoch (m.window + 1) passed c.from c.bytes later;
+      past = past-arrival sc.sizes sc.plan me st.frame st.epoch (m.window + 1) passed c.from c.bytes later;
       ahead = λ a e.
           let was = h.ahead a e in
           ((arrival-had sc me i n c s a moves (before a e) was.1 was.0).1.0, was.1);
@@ -105,26 +146,32 @@ closed-arrives sc hands me i p n c s moves h before =
 
 -- Ticks.
 
+-- `a` is the node's next tick
+pub record PendsNext (sc : Scenario) (me : Side) (i : ℕ) (core : Core) (a : Timed) : Type 0 where
+  pub next : next_tick sc.sizes sc.plan me i core ≡ Some a.tick
+  pub later : core.had ≤ a.tick
+  pub at_time : a.time ≡ time_of (clock_of sc me i) a.tick
+
 -- what comes after a tick leaves what the node has told of stages, and its core
 pub record Proceeds (sc : Scenario) (me : Side) (i : ℕ) (row : Option Row) (core : Core) (z : Site) : Type 0 where
   pub row_is : z.row ≡ row
   pub core_is : z.core ≡ core
-  pub ahead : (a : Timed) → z.ahead ≡ Some a → (core.had ≤ a.tick) × (a.time ≡ time_of (clock_of sc me i) a.tick)
+  pub ahead : (a : Timed) → z.ahead ≡ Some a → PendsNext sc me i core a
 
 awaits : (sc : Scenario) (me : Side) (i : ℕ) (more : List Coming) (s : Site) → Proceeds sc me i s.row s.core (await sc me i more s)
 awaits sc me i more s = record {
   row_is = refl;
   core_is = refl;
-  ahead = by (next_tick sc.sizes sc.plan me i s.core) (λ k e. busy-later sc.sizes sc.plan me i s.core.state _ s.core.had k e);
+  ahead = by (next_tick sc.sizes sc.plan me i s.core) refl;
 }
   where
-    by : (o : Option ℕ) → ((k : ℕ) → o ≡ Some k → s.core.had ≤ k) → (a : Timed)
-        → option_map (λ k. let t : Timed = record { tick = k; time = time_of (clock_of sc me i) k } in t) o ≡ Some a
-        → (s.core.had ≤ a.tick) × (a.time ≡ time_of (clock_of sc me i) a.tick)
-    by None later a e = cc
-    by (Some k) later a e =
+    by : (o : Option ℕ) → next_tick sc.sizes sc.plan me i s.core ≡ o → (a : Timed)
+        → option_map (λ k. let t : Timed = record { tick = k; time = time_of (clock_of sc me i) k } in t) o ≡ Some a → PendsNext sc me i s.core a
+    by None is a e = cc
+    by (Some k) is a e =
         let same : (let t : Timed = record { tick = k; time = time_of (clock_of sc me i) k } in t) ≡ a = cc in
-        subst (λ (a : Timed). (s.core.had ≤ a.tick) × (a.time ≡ time_of (clock_of sc me i) a.tick)) same (later k refl, refl)
+        subst (λ (a : Timed). PendsNext sc me i s.core a) same
+        (record { next = is; later = busy-later sc.sizes sc.plan me i s.core.state (2 ^ 31 - s.core.had) s.core.had k is; at_time = refl })
 
 none-pends : (sc : Scenario) (me : Side) (i : ℕ) (s : Site) → Proceeds sc me i s.row s.core (stop s)
 none-pends sc me i s = record { row_is = refl; core_is = refl; ahead = λ a e. absurd (cc) }
@@ -173,22 +220,16 @@ closed-ticks sc hands ports me i p k s ticks le h had before =
     let c_had : c.had ≡ k = omega arith in
     let x : Act = pass_and_tick sc ports me i k s.core in
     let later : IsPast sc.sizes sc.plan me h.st.frame h.st.epoch n c.state c.had =
-    past-kept sc.sizes sc.plan me i h.st.frame h.st.epoch n s.core.state s.core.state s.core.had c.had (like-itself sc.sizes sc.plan me i s.core.state) refl (omega arith) h.past in
+    past-kept sc.sizes sc.plan me i h.st.frame h.st.epoch n s.core.state s.core.state s.core.had c.had (like-itself sc.sizes sc.plan me i s.core.state) refl (omega arith) h.course.past in
     let none : TellsNone sc.sizes sc.plan me i h.st.frame h.st.epoch n s.core.state x = past-tick sc.sizes sc.plan me i h.st.frame h.st.epoch n c _ ticks le later (omega arith) in
     let z : Site = after_act sc ports me i x s in
     let go : Proceeds sc me i (with_close me i x.core.state x.closed (record s { core = x.core })).row x.core z = acted sc ports me i x s in
     let row : z.row ≡ s.row = go.row_is ∙ ap (λ c. (with_close me i x.core.state c (record s { core = x.core })).row) none.closed in
-    record {
-      st = h.st;
-      state = h.state;
-      good = h.good;
-      row = h.row;
-      told = row ∙ h.told;
-      is = h.is;
+    told-on sc hands (InFrame sc) me i p s z h row (record {
       past = subst (λ (c : Core). IsPast sc.sizes sc.plan me h.st.frame h.st.epoch n c.state c.had) (sym go.core_is) none.past;
-      keeps = λ deaf. subst (λ (c : Core). KeepsTime sc.sizes sc.plan me c.state) (sym go.core_is) (like-keeps sc.sizes sc.plan me i s.core.state x.core.state none.like (h.keeps deaf));
-      ahead = λ a e. let was = go.ahead a e in (subst (λ (c : Core). c.had ≤ a.tick) (sym go.core_is) was.0, was.1);
-    }
+      keeps = λ deaf. subst (λ (c : Core). KeepsTime sc.sizes sc.plan me c.state) (sym go.core_is) (like-keeps sc.sizes sc.plan me i s.core.state x.core.state none.like (h.course.keeps deaf));
+      ahead = λ a e. let was = go.ahead a e in (subst (λ (c : Core). c.had ≤ a.tick) (sym go.core_is) was.later, was.at_time);
+    })
 
 -- a node that closes the window with what the rounds tell of it has told its row
 pub closes-told : (sc : Scenario) (hands : List HandIn) (ports : List PortState) (me : Side) (i p k : ℕ) (s : Site) (st : NodeState) (x : Act)
@@ -215,9 +256,11 @@ closes-told sc hands ports me i p k s st x there good h stage past keeps =
       row = row;
       told = told;
       is = h.row;
-      past = subst (λ (c : Core). IsPast sc.sizes sc.plan me st.frame st.epoch (m.window + 1) c.state c.had) (sym go.core_is) past;
-      keeps = λ deaf. subst (λ (c : Core). KeepsTime sc.sizes sc.plan me c.state) (sym go.core_is) (keeps deaf);
-      ahead = λ a e. let was = go.ahead a e in (subst (λ (c : Core). c.had ≤ a.tick) (sym go.core_is) was.0, was.1);
+      course = record {
+        past = subst (λ (c : Core). IsPast sc.sizes sc.plan me st.frame st.epoch (m.window + 1) c.state c.had) (sym go.core_is) past;
+        keeps = λ deaf. subst (λ (c : Core). KeepsTime sc.sizes sc.plan me c.state) (sym go.core_is) (keeps deaf);
+        ahead = λ a e. let was = go.ahead a e in (subst (λ (c : Core). c.had ≤ a.tick) (sym go.core_is) was.later, was.at_time);
+      };
     }
   where
     some-same : (a b : Shown) → Some a ≡ Some b → a ≡ b

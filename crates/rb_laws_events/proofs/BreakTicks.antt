@@ -1,12 +1,12 @@
 -- For the law that events are rounds if the premise on faults is broken in a sync slot: as long as
 -- a node waits for the last tick of the stage with which the run breaks off, those that have closed
--- it do not close the next one. An arrival keeps each of them.
-use Rattle.std.proofs.{Common.{◌≡◌, ℕ, suc, ◌+◌, ◌*◌, ◌<◌, ◌≤◌, Bool, true, List, [], ◌∷◌, ap, sym, ◌∙◌, subst, arith, inl, inr, Some, slice_get}, lemmas.Bool.cases_lt}
-use Rattle.rb_base.specs.{Nodes.Side, Sizes.sync_slot_of}
-use Rattle.rb_rules.specs.{Book.of_kind, Clock.time_of, Goodness.{Scenario, clock_of}, Hearing.Coming, Lawful.IsLawful, Moments.IsRunning, NodeState.NodeState, Ports.{HandIn, PortState}, Rounds.{Moment, moment}, WorldStep.{Site, Timed, after_act, after_arrival, pass_and_tick}}
-use Rattle.rb_rules.proofs.{Drift.times_rise_to, RoundStates.Stays, Stamps.Moves}
+-- it do not close the next one, and those of them that are of the kind heard in it say nothing.
+use Rattle.std.proofs.{Common.{◌≡◌, ℕ, suc, ◌+◌, ◌*◌, ◌<◌, ◌≤◌, Bool, true, false, List, [], refl, ap, sym, ◌∙◌, subst, arith, inl, inr, Option, Some, None, slice_get}, lemmas.Bool.cases_lt}
+use Rattle.rb_base.specs.{Nodes.{Side, other}, Sizes.{Sizes, sync_slot_of}}
+use Rattle.rb_rules.specs.{declared.message.Message.Message, declared.plan.Plan.Plan, declared.role.Role.TheVariants.Sync, Core.{Act, Core, act_at, act_on, epoch_at, is_last, is_spent, of_source, pass_to, said_at, state_at, state_kept, tick, window_here}, ExactStage.Outcome, Book.of_kind, Clock.time_of, Goodness.{Scenario, clock_of}, Hearing.close_window, Lawful.IsLawful, Moments.IsRunning, NodeState.NodeState, Ports.{HandIn, PortState}, Rounds.{Moment, moment, window_in}, Slots.listens, WorldStep.{Site, Timed, after_act, pass_and_tick, wants_in, word_of}}
+use Rattle.rb_rules.proofs.{Drift.times_rise_to, RoundStates.Stays}
 use Rattle.rb_laws_events.specs.Closing.{stages_in}
-use Rattle.rb_laws_events.proofs.{BreachWindows.in-reached, BreakMessages.SiteBreaks, BreakSites.{HasClosed, closed-arrives, closed-ticks, deaf-arrives}, CloseOrder.{IsWindowLater, window-later}, Invariant.{InTime, is_good_at, last_tick, next_stage}, MomentSteps.next-inner, NodeActs.HasRoom, NodeClosing.good-in-sync, NodeEvents.stands-arrival, NodeMoves.{after-stays, first-alike, get-later, state_after}, PendingLists.StandsAt, Receiving.ArrivesNow, StageOrder.last_of, TickWindows.first_of}
+use Rattle.rb_laws_events.proofs.{BreachWindows.in-reached, BreakSites.{HasClosed, closed-ticks}, CloseOrder.{IsWindowLater, window-later}, Invariant.{InTime, is_good_at, last_tick, next_stage}, MomentSteps.next-inner, NodeActs.HasRoom, NodeClosing.good-in-sync, NodeMoves.{after-stays, first-alike, get-later, state_after}, PastTicks.turns-later, SilentThere.silent-there, StageOrder.last_of, TickWindows.{IsTickIn, first_of}}
 
 -- up to the last tick of a stage at any good node, no good node has the last tick of the next stage
 pub before-next : (sc : Scenario) (hands : List HandIn) → IsLawful sc → HasRoom sc.plan → (p q : ℕ) → IsRunning (moment sc hands p) → q < 2 → (moment sc hands p).window ≡ 3 * sync_slot_of sc.sizes + q
@@ -27,7 +27,7 @@ before-next sc hands lawful room p q running small at me i s h you j yours there
     let order : time_of (clock_of sc you j) (last_tick sc m you yours) < time_of (clock_of sc me i) (last_tick sc m2 me end) =
     times.order you me j i yours end there2 good2 there good_then in
     let stays : Stays h.st end = after-stays sc m me i h.st in
-    let epoch : end.epoch ≡ s.core.state.epoch = stays.epoch ∙ sym h.past.epoch in
+    let epoch : end.epoch ≡ s.core.state.epoch = stays.epoch ∙ sym h.course.past.epoch in
     let mine : first_of sc.sizes sc.plan me end (m.window + 1 + 1) ≡ last_of sc.sizes sc.plan me s.core.state (m.window + 1) + 1 =
     first-alike sc.sizes sc.plan me s.core.state end (m.window + 1) room.ticks inner in
     let its : first_of sc.sizes sc.plan me end (m.window + 1 + 1) ≡ last_of sc.sizes sc.plan me end (m.window + 1) + 1 = first-alike sc.sizes sc.plan me end end (m.window + 1) room.ticks inner in
@@ -50,22 +50,75 @@ pub closed-goes-on : (sc : Scenario) (hands : List HandIn) → IsLawful sc → H
     → (a : Timed) → s.ahead ≡ Some a → a.time ≤ time_of (clock_of sc you j) (last_tick sc (moment sc hands p) you yours)
     → HasClosed sc hands me i p (after_act sc ports me i (pass_and_tick sc ports me i a.tick s.core) s)
 closed-goes-on sc hands lawful room ports p q running small at me i s h you j yours there2 good2 a pend le =
-    let is = h.ahead a pend in
+    let is = h.course.ahead a pend in
     closed-ticks sc hands ports me i p a.tick s room.ticks (omega (arith, at, small)) h is.0
     (before-next sc hands lawful room p q running small at me i s h you j yours there2 good2 a is.1 le)
 
--- An arrival.
+-- Who says nothing.
 
-pub site-arrives : (sc : Scenario) (hands : List HandIn) (sent : Side → ℕ → ℕ → Bool) (now p : ℕ) (me : Side) (i n : ℕ) (c : Coming) (s : Site) → Moves (clock_of sc me i) → StandsAt n c s.coming
-    → ((a : Timed) → s.ahead ≡ Some a → ArrivesNow n c s a) → SiteBreaks sc hands sent now p me i s → SiteBreaks sc hands sent c.time p me i (after_arrival sc me i n c s)
-site-arrives sc hands sent now p me i n c s moves stands due (inl stopped) = absurd (none-stands s.coming stopped.coming n stands)
+-- a core that says nothing at a tick sends nothing with it
+pub says-none : (sizes : Sizes) (plan : Plan) (me : Side) (i : ℕ) (c : Core) (word : ℕ) → said_at sizes plan me i (state_at sizes plan me c.state c.had) word c.had ≡ None
+    → (tick sizes plan me i c word).message ≡ None
+unfolding tick act_at act_on
+says-none sizes plan me i c word none = by (is_spent c)
   where
-    none-stands : (cs : List Coming) → cs ≡ [] → (n : ℕ) → StandsAt n c cs → ⊥
-    none-stands [] e n s = s
-    none-stands (x ∷ xs) e n s = cc
-site-arrives sc hands sent now p me i n c s moves stands due (inr (inl h)) =
-    inr (inl (record { st = h.st; a = h.a; stands = stands-arrival sc hands sent now me i p n c s h.st h.a moves (due h.a h.stands.receives.pends) h.stands; hears = h.hears; last = h.last }))
-site-arrives sc hands sent now p me i n c s moves stands due (inr (inr (inl h))) =
-    inr (inr (inl (deaf-arrives sc hands me i p n c s moves h (due h.a h.pends).before_tick)))
-site-arrives sc hands sent now p me i n c s moves stands due (inr (inr (inr h))) =
-    inr (inr (inr (closed-arrives sc hands me i p n c s moves h (λ a e. (due a e).before_tick))))
+    st : NodeState
+    st = state_at sizes plan me c.state c.had
+
+    m : Option Message
+    m = said_at sizes plan me i st word c.had
+
+    kept : NodeState
+    kept = state_kept sizes me i st word m
+
+    closing : Outcome
+    closing = close_window sizes plan me i kept (window_here sizes plan me st c.had) (of_source c.inbox)
+
+    acts : Bool → Act
+    acts b = elim b as (λ _. Act) [
+      | true ↦ record {
+        core = record { state = closing.state; had = c.had + 1; inbox = [] };
+        epoch = epoch_at sizes me st c.had;
+        message = m;
+        closed = Some closing.closed;
+      }
+      | false ↦ record {
+        core = record { state = kept; had = c.had + 1; inbox = c.inbox };
+        epoch = epoch_at sizes me st c.had;
+        message = m;
+        closed = None;
+      }
+    ]
+
+    go : (b : Bool) → (acts b).message ≡ None
+    go true = none
+    go false = none
+
+    by : (b : Bool) → (elim b as (λ _. Act) [
+      | true ↦ record { core = c; epoch = None; message = None; closed = None }
+      | false ↦ acts (is_last sizes plan me st c.had)
+    ]).message ≡ None
+    by true = refl
+    by false = go (is_last sizes plan me st c.had)
+
+-- a node of the kind that is heard in the stage says nothing from its row of that stage up to the
+-- last tick of the next window
+pub closed-silent : (sc : Scenario) (hands : List HandIn) (ports : List PortState) (p q k : ℕ) → HasRoom sc.plan → q < 3 → (moment sc hands p).window ≡ 3 * sync_slot_of sc.sizes + q
+    → (me : Side) (i : ℕ) (s : Site) → (h : HasClosed sc hands me i p s) → listens me Sync (window_in sc (moment sc hands p) me h.st).stage ≡ false → listens (other me) Sync (q + 2) ≡ false
+    → s.core.had ≤ k → k ≤ s.core.state.epoch + last_of sc.sizes sc.plan me s.core.state (3 * sync_slot_of sc.sizes + (q + 1))
+    → (pass_and_tick sc ports me i k s.core).message ≡ None
+unfolding pass_and_tick
+closed-silent sc hands ports p q k room small at me i s h deaf unheard had before =
+    let n : ℕ = 3 * sync_slot_of sc.sizes + (q + 1) in
+    let c : Core = pass_to k s.core in
+    let c_had : c.had ≡ k = omega arith in
+    let n_is : (moment sc hands p).window + 1 ≡ n = omega (arith, at) in
+    let from : s.core.state.epoch + first_of sc.sizes sc.plan me s.core.state n ≤ s.core.had =
+    subst (λ n. s.core.state.epoch + first_of sc.sizes sc.plan me s.core.state n ≤ s.core.had) n_is h.course.past.from in
+    let in_it : IsTickIn sc.sizes sc.plan me s.core.state n c.had = record { from = omega (arith, from, c_had, had); to = omega (arith, before, c_had) } in
+    let now : state_at sc.sizes sc.plan me s.core.state c.had ≡ s.core.state = turns-later sc.sizes sc.plan me s.core.state n c.had room.ticks h.course.past.next (omega arith) in_it in
+    let stage : q + 2 ≡ q + 1 + 1 = omega arith in
+    let word : ℕ = word_of sc ports i (wants_in sc me i c) in
+    says-none sc.sizes sc.plan me i c word
+    (ap (λ z. said_at sc.sizes sc.plan me i z word c.had) now
+    ∙ silent-there sc.sizes sc.plan me i s.core.state (q + 1) word c.had room (omega arith) (h.course.keeps deaf) in_it (ap (listens (other me) Sync) (sym stage) ∙ unheard))

@@ -7,8 +7,8 @@ use Rattle.rb_base.proofs.Plain.{true-false}
 use Rattle.rb_rules.specs.{declared.plan.Plan.Plan, declared.plan.Window.Window, Book.of_kind, Conviction.turn, Core.{Core, is_tick, state_at, window_here}, Goodness.Scenario, Hearing.port_at, Lawful.IsLawful, Moments.IsRunning, NodeState.NodeState, Ports.HandIn, Rounds.{Moment, moment, windows_in}, SyncStage.new_epoch_of, WorldStep.{Site, Timed, World, world_after}}
 use Rattle.rb_rules.proofs.RoundStates.{HasTicks}
 use Rattle.rb_laws_agreement.proofs.ExactAgrees.{has_ticks}
-use Rattle.rb_laws_events.specs.{Closing.stages_in, OwnMoments.{CoresFollowTheRounds, FollowsTheRounds, HoldsTheRounds, HoldsTheState, RunningNode, moment_of, open_window, own_moment, ready_state}}
-use Rattle.rb_laws_events.proofs.{BreakMessages.SiteBreaks, BreakNodes.BreaksAt, BreakPorts.PortsBreak, BreakSites.{HasClosed, WaitsDeaf, WaitsHearing}, CoreStates.{IsThere, StandsIn, is-there, window-place}, CoresHold.run-holds, EventsHold.{any, keeps, nodes_at}, EveryWorld.AnyWorld, Invariant.{is_good_at, last_tick}, LastSites.{AwaitsNext, HasToldLast, SiteLast}, MomentBooks.number-of, NodeTicks.tail-first, RoundNodes.moments-stand, StageOrder.last_of, TickWindows.{Tiles, first_of, here-is, tail-here, tiles}, UpToThere.breaks-later}
+use Rattle.rb_laws_events.specs.{Closing.stages_in, OwnMoments.{CoresFollowTheRounds, FollowsTheRounds, HoldsTheRounds, HoldsTheState, RunningNode, open_window, own_moment, ready_state}}
+use Rattle.rb_laws_events.proofs.{BreakNodes.BreaksAt, BreakPorts.PortsBreak, BreakSites.{HasClosed, HasTold, SiteBreaks, WaitsDeaf, WaitsHearing}, CoreStates.{IsThere, StandsIn, is-there, window-place}, CoresHold.run-holds, EventsHold.{any, course_of, keeps, nodes_at}, EveryWorld.AnyWorld, Invariant.{is_good_at, last_tick}, LastSites.{AwaitsNext, HasToldLast}, MomentBooks.number-of, NodeTicks.tail-first, RoundNodes.moments-stand, StageOrder.last_of, TickWindows.{Tiles, first_of, here-is, tail-here, tiles}, UpToThere.breaks-later}
 
 -- The window of a late tick.
 
@@ -151,14 +151,14 @@ closed-late : (sc : Scenario) (hands : List HandIn) (me : Side) (i b q : ℕ) (s
 closed-late sc hands me i b q s ticks off h =
     let frame : h.st.frame ≡ (moment sc hands b).frame = ((moments-stand sc hands b ticks).stands me i h.st h.state h.good).frame in
     record {
-      place = inl (h.past.in_frame ∙ frame, subst (λ n. s.core.state.epoch + first_of sc.sizes sc.plan me s.core.state (n + 1) ≤ s.core.had) off.window h.past.from);
+      place = inl (h.course.past.in_frame ∙ frame, subst (λ n. s.core.state.epoch + first_of sc.sizes sc.plan me s.core.state (n + 1) ≤ s.core.had) off.window h.course.past.from);
     }
 
 told-late : (sc : Scenario) (hands : List HandIn) (me : Side) (i b : ℕ) (s : Site) (a : Timed) → HasTicks sc.plan → BreaksAt sc hands b 2 → HasToldLast sc hands me i b s → s.ahead ≡ Some a
     → IsLate sc hands me b 2 s.core
 told-late sc hands me i b s a ticks off h pends =
     let frame : h.st.frame ≡ (moment sc hands b).frame = ((moments-stand sc hands b ticks).stands me i h.st h.state h.good).frame in
-    let next : AwaitsNext sc me i h.st h.x s.core a = h.ahead a pends in
+    let next : AwaitsNext sc me i h.st h.course.x s.core a = h.course.ahead a pends in
     elim next.after [
       | inl tail ↦
           let t = tail.0 in
@@ -171,36 +171,23 @@ told-late sc hands me i b s a ticks off h pends =
       | inr turned ↦ let f = turned.in_frame in record { place = inr (omega (arith, f, frame)) }
     ]
 
--- if the run breaks off in stage 1 or 2, `IsStill` holds for a node in a moment of the run
-early-node : (sc : Scenario) (hands : List HandIn) (sent : Side → ℕ → ℕ → Bool) (now b q : ℕ) (me : Side) (i : ℕ) (s : Site) → HasTicks sc.plan → BreaksAt sc hands b q → s.runs ≡ true
-    → SiteBreaks sc hands sent now b me i s → IsRunning (own_moment sc hands me s.core) → IsStill sc hands me i b s.core
-early-node sc hands sent now b q me i s ticks off runs (inl stopped) running = true-false (sym runs ∙ stopped.runs)
-early-node sc hands sent now b q me i s ticks off runs (inr (inl hearing)) running = of-hearing sc hands sent now me i b s ticks hearing
-early-node sc hands sent now b q me i s ticks off runs (inr (inr (inl deaf))) running = of-deaf sc hands me i b s ticks deaf
-early-node sc hands sent now b q me i s ticks off runs (inr (inr (inr closed))) running =
-    late-ended sc hands me b q s.core ticks off (closed-late sc hands me i b q s ticks off closed) running
+-- a node that goes on by the course of stage q has left the stage
+course-late : (sc : Scenario) (hands : List HandIn) (b q : ℕ) (me : Side) (i : ℕ) (s : Site) (a : Timed) → HasTicks sc.plan → BreaksAt sc hands b q → s.ahead ≡ Some a → HasTold sc hands (course_of sc q) me i b s
+    → IsLate sc hands me b q s.core
+course-late sc hands b zero me i s a ticks off pends told = closed-late sc hands me i b 0 s ticks off told
+course-late sc hands b (suc zero) me i s a ticks off pends told = closed-late sc hands me i b 1 s ticks off told
+course-late sc hands b (suc (suc zero)) me i s a ticks off pends told = told-late sc hands me i b s a ticks off told pends
+course-late sc hands b (suc (suc (suc q))) me i s a ticks off pends told = absurd (let small = off.small in omega (arith, small))
 
-last-node : (sc : Scenario) (hands : List HandIn) (sent : Side → ℕ → ℕ → Bool) (b : ℕ) (me : Side) (i : ℕ) (s : Site) (a : Timed) → HasTicks sc.plan → BreaksAt sc hands b 2 → s.runs ≡ true
-    → s.ahead ≡ Some a → SiteLast sc hands sent b me i s → IsRunning (own_moment sc hands me s.core) → IsStill sc hands me i b s.core
-last-node sc hands sent b me i s a ticks off runs pends (inl stopped) running = true-false (sym runs ∙ stopped.runs)
-last-node sc hands sent b me i s a ticks off runs pends (inr (inl ahead)) running = of-hearing sc hands sent ahead.now me i b (record s { coming = ahead.mine }) ticks ahead.waits
-last-node sc hands sent b me i s a ticks off runs pends (inr (inr (inl deaf))) running = of-deaf sc hands me i b s ticks deaf
-last-node sc hands sent b me i s a ticks off runs pends (inr (inr (inr told))) running =
-    late-ended sc hands me b 2 s.core ticks off (told-late sc hands me i b s a ticks off told pends) running
+-- `IsStill` holds for a node in a moment of the run
+any-node : (sc : Scenario) (hands : List HandIn) (sent : Side → ℕ → ℕ → Bool) (b q : ℕ) (me : Side) (i : ℕ) (s : Site) (a : Timed) → HasTicks sc.plan → BreaksAt sc hands b q → s.runs ≡ true
+    → s.ahead ≡ Some a → SiteBreaks sc hands (course_of sc q) sent b me i s → IsRunning (own_moment sc hands me s.core) → IsStill sc hands me i b s.core
+any-node sc hands sent b q me i s a ticks off runs pends (inl stopped) running = true-false (sym runs ∙ stopped.runs)
+any-node sc hands sent b q me i s a ticks off runs pends (inr (inl ahead)) running = of-hearing sc hands sent ahead.now me i b (record s { coming = ahead.mine }) ticks ahead.waits
+any-node sc hands sent b q me i s a ticks off runs pends (inr (inr (inl deaf))) running = of-deaf sc hands me i b s ticks deaf
+any-node sc hands sent b q me i s a ticks off runs pends (inr (inr (inr told))) running = late-ended sc hands me b q s.core ticks off (course-late sc hands b q me i s a ticks off pends told) running
 
 -- Worlds.
-
-any-node : (sc : Scenario) → IsLawful sc → (q : ℕ) (w : World) (b : ℕ) (sent : Side → ℕ → ℕ → Bool) → q < 3 → BreaksAt sc w.hands b q
-    → nodes_at sc q w.hands b sent w.sites → (me : Side) (node : RunningNode w me) → IsRunning (moment_of sc node) → IsStill sc w.hands me node.index b node.site.core
-any-node sc lawful zero w b sent small off h me node running =
-    let site = h me node.index node.site node.there in
-    early-node sc w.hands sent site.0 b 0 me node.index node.site (has_ticks sc lawful) off node.runs site.1 running
-any-node sc lawful (suc zero) w b sent small off h me node running =
-    let site = h me node.index node.site node.there in
-    early-node sc w.hands sent site.0 b 1 me node.index node.site (has_ticks sc lawful) off node.runs site.1 running
-any-node sc lawful (suc (suc zero)) w b sent small off h me node running =
-    last-node sc w.hands sent b me node.index node.site node.ahead (has_ticks sc lawful) off node.runs node.pends (h me node.index node.site node.there) running
-any-node sc lawful (suc (suc (suc q))) w b sent small off h me node running = absurd (omega (arith, small))
 
 -- a node that runs was good there
 good-there : (sc : Scenario) → IsLawful sc → (q : ℕ) (w : World) (b : ℕ) (sent : Side → ℕ → ℕ → Bool) → BreaksAt sc w.hands b q → nodes_at sc q w.hands b sent w.sites
@@ -214,10 +201,10 @@ past : (sc : Scenario) → IsLawful sc → (q : ℕ) (w : World) (b : ℕ) (sent
     → FollowsTheRounds sc w
 past sc lawful q w b sent off h ports = record {
   cores = λ me node running.
-      let still : IsStill sc w.hands me node.index b node.site.core = any-node sc lawful q w b sent off.small off h me node running in
+      let still : IsStill sc w.hands me node.index b node.site.core = any-node sc w.hands sent b q me node.index node.site node.ahead (has_ticks sc lawful) off node.runs node.pends (h me node.index node.site node.there) running in
       subst (λ (m : Moment). HoldsTheState sc m me node.index node.site.core) (sym still.there.moment_is) still.there.holds;
   ports = λ node running.
-      let still : IsStill sc w.hands Biu node.index b node.site.core = any-node sc lawful q w b sent off.small off h Biu node running in
+      let still : IsStill sc w.hands Biu node.index b node.site.core = any-node sc w.hands sent b q Biu node.index node.site node.ahead (has_ticks sc lawful) off node.runs node.pends (h Biu node.index node.site node.there) running in
       elim (ports b q off node.index node.site node.there (good-there sc lawful q w b sent off h Biu node)) [
         | inl waits ↦ waits.port ∙ ap (λ (m : Moment). port_at sc m.ports node.index) (sym still.there.moment_is)
         | inr last ↦

@@ -4,19 +4,26 @@ use Rattle.rb_base.specs.Nodes.{Side}
 use Rattle.rb_base.proofs.Plain.{true-false}
 use Rattle.rb_rules.specs.{Book.{Each, of_kind}, Goodness.Scenario, Lawful.IsLawful, Ports.HandIn, WorldStep.{Choice, Site, World, needs_no_event, says_in, world_after}}
 use Rattle.rb_laws_events.specs.Laws.{BoundedRunsEndInLawful, EventsAreRoundsInLawful, EveryRunEndsInLawful, OneTurnARecordInLawful, SomethingIsDueInLawful, nodes_of}
-use Rattle.rb_laws_events.proofs.{BreakKeeps.early-keeps, BreakNodes.KeepsNodes, BreakOff.{left-off, runs-small}, BreakRuns.{WaitsYet, waits-yet}, BreakWorld.NodesBreak, Behind.IsBehind, EveryWorld.{AnyWorld, any-after, events-are-rounds}, FewEntered.says-few, LastKeeps.{NodesLast, last-keeps}, OneTake.{StandsInRounds, world-waits}, Progress.{SomePends, something-is-due}, RunsEnd.{HasTicksLeft, every-run-ends, in-rounds-left}, TickRooms.has-room, Turns.turns-are-next, WorldStands.{IsUp, sent_by}}
+use Rattle.rb_laws_events.proofs.{BreakEvents.early-tells, BreakKeeps.{TellsOn, break-keeps}, BreakNodes.KeepsNodes, BreakSites.{Course, InFrame, NodesBreak}, BreakOff.{left-off, runs-small}, BreakRuns.{WaitsYet, waits-yet}, Behind.IsBehind, EveryWorld.{AnyWorld, any-after, events-are-rounds}, FewEntered.says-few, LastEvents.last-tells, LastSites.Beyond, OneTake.{StandsInRounds, world-waits}, Progress.{SomePends, something-is-due}, RunsEnd.{HasTicksLeft, every-run-ends, in-rounds-left}, TickRooms.has-room, Turns.turns-are-next, WorldStands.{IsUp, sent_by}}
 
--- what the nodes keep if the run breaks off with stage q of a sync slot
+-- how nodes go on that have told their rows, if the run breaks off with stage q of a sync slot
+abbrev pub course_of : Scenario → ℕ → Course
+course_of sc zero = InFrame sc
+course_of sc (suc zero) = InFrame sc
+course_of sc (suc (suc q)) = Beyond sc
+
+-- what the nodes keep then
 abbrev pub nodes_at : Scenario → ℕ → List HandIn → ℕ → (Side → ℕ → ℕ → Bool) → Each Site → Type 0
-nodes_at sc zero = NodesBreak sc
-nodes_at sc (suc zero) = NodesBreak sc
-nodes_at sc (suc (suc q)) = NodesLast sc
+nodes_at sc q = NodesBreak sc (course_of sc q)
+
+pub tells-on : (sc : Scenario) → IsLawful sc → (q : ℕ) → q < 3 → TellsOn sc q (course_of sc q)
+tells-on sc lawful zero small = early-tells sc lawful (has-room sc lawful) 0 (omega arith)
+tells-on sc lawful (suc zero) small = early-tells sc lawful (has-room sc lawful) 1 (omega arith)
+tells-on sc lawful (suc (suc zero)) small = last-tells sc lawful (has-room sc lawful)
+tells-on sc lawful (suc (suc (suc q))) small = absurd (omega (arith, small))
 
 pub keeps : (sc : Scenario) → IsLawful sc → (q : ℕ) → q < 3 → KeepsNodes sc q (nodes_at sc q)
-keeps sc lawful zero small = early-keeps sc lawful (has-room sc lawful) 0 (omega arith)
-keeps sc lawful (suc zero) small = early-keeps sc lawful (has-room sc lawful) 1 (omega arith)
-keeps sc lawful (suc (suc zero)) small = last-keeps sc lawful (has-room sc lawful)
-keeps sc lawful (suc (suc (suc q))) small = absurd (omega (arith, small))
+keeps sc lawful q small = break-keeps sc q (course_of sc q) lawful (has-room sc lawful) (tells-on sc lawful q small)
 
 pub any : (sc : Scenario) → IsLawful sc → (choices : List Choice) → AnyWorld sc (nodes_at sc) (world_after sc choices)
 any sc lawful = any-after sc (nodes_at sc) lawful (has-room sc lawful) (keeps sc lawful)

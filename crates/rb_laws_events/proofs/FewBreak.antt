@@ -3,11 +3,10 @@
 -- enters no window.
 use Rattle.std.proofs.{Common.{◌≡◌, ℕ, zero, suc, ◌+◌, ◌-◌, ◌*◌, ◌^◌, ◌<◌, ◌≤◌, ◌==◌, ◌⊎◌, Bool, true, false, List, refl, ap, sym, ◌∙◌, subst, arith, inl, inr, Option, Some, None, length}, lemmas.Bool.Decides.nat_tests}
 use Rattle.rb_base.specs.{Nodes.Side, Sizes.{Sizes, sync_slot_of}}
-use Rattle.rb_base.proofs.Plain.{none_and_some}
-use Rattle.rb_rules.specs.{declared.message.Message.Message, declared.plan.Plan.Plan, declared.plan.Window.Window, Core.{Act, Core, pass_to, said_at, state_at, window_here}, Entries.IsListed, Goodness.Scenario, Hearing.{Span, span_of, window_numbered}, Lawful.IsLawful, Moments.IsRunning, NodeState.NodeState, Ports.{HandIn, PortState}, Rounds.moment, WorldStep.{Site, Timed, after_act, pass_and_tick, span_from, wants_in, word_of}}
-use Rattle.rb_rules.proofs.WindowNumbers.{sync-numbered}
+use Rattle.rb_rules.specs.{declared.message.Message.Message, declared.plan.Plan.Plan, declared.plan.Window.Window, Core.{Act, Core, pass_to, said_at, state_at, window_here}, Entries.IsListed, Goodness.{Scenario, clock_of}, Hearing.{Coming, Span, span_of, window_numbered}, Lawful.IsLawful, Moments.IsRunning, NodeState.NodeState, Ports.{HandIn, PortState}, Rounds.moment, WorldStep.{Site, Timed, after_act, after_arrival, pass_and_tick, span_from, wants_in, word_of}}
+use Rattle.rb_rules.proofs.{Stamps.Moves, WindowNumbers.sync-numbered}
 use Rattle.rb_laws_events.specs.Closing.{stages_in}
-use Rattle.rb_laws_events.proofs.{BreakEvents.{TickBreaks, site-ticks}, BreakMessages.SiteBreaks, BreakSites.{HasClosed, acted}, BreakTicks.{before-next, closed-goes-on}, FewEntered.{BringsFew, act-brings}, FewOff.{StepsOn, messages_in}, FewSent.{CallsAlike, HasSpoken, IsSentThen, SaysAt, said-then, says-some, speaks-once, spoken-kept, spoken-quiet}, FewQuiet.{deaf-quiet, hearing-quiet}, NodeActs.HasRoom, NodeTicks.like-tick, PastTicks.{TellsNone, past-tick, turns-later, IsPast}, StageOrder.last_of, Takes.tick-had, TickWindows.{IsTickIn, first_of, here-is}}
+use Rattle.rb_laws_events.proofs.{BreakEnters.TickBreaks, BreakSites.{HasClosed, InFrame, acted, closed-arrives, told-on}, BreakTicks.{before-next, closed-goes-on}, FewEntered.act-brings, FewTold.{Few, FewOn}, Invariant.is_good_at, FewOff.{StepsOn, messages_in}, FewSent.{spoken-arrives, CallsAlike, HasSpoken, IsSentThen, SaysAt, said-then, says-some, speaks-once, spoken-kept, spoken-quiet}, NodeActs.HasRoom, NodeTicks.like-tick, PastTicks.{TellsNone, past-tick, turns-later, IsPast}, StageOrder.last_of, Takes.tick-had, TickWindows.{IsTickIn, first_of, here-is}}
 
 -- no window begins after the first tick of one
 pub no-begin : (sizes : Sizes) (plan : Plan) (me : Side) (y : NodeState) (n k : ℕ) → HasRoom plan → n ≤ stages_in sizes → state_at sizes plan me y k ≡ y → IsTickIn sizes plan me y n k
@@ -36,32 +35,15 @@ slot-in-sync sizes plan me y n le small =
     by (suc (suc (suc zero))) lt = ap (λ (w : Window). w.slot) (sync-numbered sizes plan me y 3)
     by (suc (suc (suc (suc q)))) lt = absurd (omega (arith, lt))
 
--- what a node may do yet: r messages, e windows
-abbrev pub MayBreak : Scenario → List HandIn → ℕ → Side → ℕ → ℕ → ℕ → Site → Type 0
-MayBreak sc hands p me i r e s =
-    ((1 ≤ r) × (1 ≤ e)) ⊎ (HasClosed sc hands me i p s × ((1 ≤ r) ⊎ HasSpoken sc.sizes sc.plan me s.core.state s.core.had))
+-- what a node that has told its row may do yet
+abbrev pub ClosedFew : Scenario → Few
+ClosedFew sc hands p me i r e s = HasClosed sc hands me i p s × ((1 ≤ r) ⊎ HasSpoken sc.sizes sc.plan me s.core.state s.core.had)
 
-pub once-more : (e l : ℕ) → 1 ≤ e → l ≤ e * l
-once-more zero l le = absurd (omega (arith, le))
-once-more (suc e) l le = omega arith
-
--- the tick with which a node tells its row goes on within `MayBreak`
-tells-few : (sc : Scenario) → IsListed sc → (hands : List HandIn) (ports : List PortState) (p : ℕ) (me : Side) (i k : ℕ) (s : Site) (r e : ℕ)
-    → HasClosed sc hands me i p (after_act sc ports me i (pass_and_tick sc ports me i k s.core) s) → (pass_and_tick sc ports me i k s.core).message ≡ None → 1 ≤ r → 1 ≤ e
-    → StepsOn sc (MayBreak sc hands p me i) (pass_and_tick sc ports me i k s.core).message s (after_act sc ports me i (pass_and_tick sc ports me i k s.core) s) r e
-tells-few sc listed hands ports p me i k s r e closes quiet some one =
-    let x : Act = pass_and_tick sc ports me i k s.core in
-    let brings : BringsFew sc me x s (after_act sc ports me i x s) = act-brings sc listed ports me i x s in
-    let most = brings.most in
-    let more = once-more e (length sc.says) one in
-    let none : messages_in x.message ≡ 0 = ap messages_in quiet in
-    record { sends = r; enters = 0; may = inr (closes, inl some); sent = omega (arith, none); room = omega (arith, most, more) }
-
--- a tick of a node that has closed its stage goes on within `MayBreak`
+-- a tick of a node that has closed its stage goes on within `ClosedFew`
 closed-few : (sc : Scenario) → IsListed sc → (hands : List HandIn) → IsLawful sc → HasRoom sc.plan → (sent : Side → ℕ → ℕ → Bool) (ports : List PortState) (p q : ℕ) → IsRunning (moment sc hands p) → q < 2
     → (moment sc hands p).window ≡ 3 * sync_slot_of sc.sizes + q → (me : Side) (i : ℕ) (s : Site) (a : Timed) (r e : ℕ) → TickBreaks sc hands sent ports p me i s a → a.tick < 2 ^ 31
     → HasClosed sc hands me i p s → (1 ≤ r) ⊎ HasSpoken sc.sizes sc.plan me s.core.state s.core.had
-    → StepsOn sc (MayBreak sc hands p me i) (pass_and_tick sc ports me i a.tick s.core).message s (after_act sc ports me i (pass_and_tick sc ports me i a.tick s.core) s) r e
+    → StepsOn sc (ClosedFew sc hands p me i) (pass_and_tick sc ports me i a.tick s.core).message s (after_act sc ports me i (pass_and_tick sc ports me i a.tick s.core) s) r e
 unfolding pass_and_tick
 closed-few sc listed hands lawful room sent ports p q running small at me i s a r e t few h once = by x.message refl
   where
@@ -72,7 +54,7 @@ closed-few sc listed hands lawful room sent ports p q running small at me i s a 
     le = omega (arith, at, small)
 
     had : s.core.had ≤ a.tick
-    had = (h.ahead a t.pend).0
+    had = (h.course.ahead a t.pend).0
 
     c : Core
     c = pass_to a.tick s.core
@@ -90,12 +72,12 @@ closed-few sc listed hands lawful room sent ports p q running small at me i s a 
     z = after_act sc ports me i x s
 
     before : a.tick < s.core.state.epoch + last_of sc.sizes sc.plan me s.core.state n
-    before = before-next sc hands lawful room p q running small at me i s h t.you t.j t.yours t.there t.good a (h.ahead a t.pend).1 t.first
+    before = before-next sc hands lawful room p q running small at me i s h t.you t.j t.yours t.there t.good a (h.course.ahead a t.pend).1 t.first
 
     later : IsPast sc.sizes sc.plan me h.st.frame h.st.epoch n c.state c.had
     later =
-        let first = h.past.from in
-        record { in_frame = h.past.in_frame; epoch = h.past.epoch; from = omega (arith, first, c_had, had); next = h.past.next }
+        let first = h.course.past.from in
+        record { in_frame = h.course.past.in_frame; epoch = h.course.past.epoch; from = omega (arith, first, c_had, had); next = h.course.past.next }
 
     none : TellsNone sc.sizes sc.plan me i h.st.frame h.st.epoch n s.core.state x
     none = past-tick sc.sizes sc.plan me i h.st.frame h.st.epoch n c word room.ticks le later (omega (arith, before, c_had))
@@ -104,7 +86,7 @@ closed-few sc listed hands lawful room sent ports p q running small at me i s a 
     in_it = let from = later.from in record { from = from; to = omega (arith, before, c_had) }
 
     now : state_at sc.sizes sc.plan me s.core.state c.had ≡ s.core.state
-    now = turns-later sc.sizes sc.plan me s.core.state n c.had room.ticks h.past.next le in_it
+    now = turns-later sc.sizes sc.plan me s.core.state n c.had room.ticks h.course.past.next le in_it
 
     ticked : x.core.had ≡ c.had + 1
     ticked = tick-had sc.sizes sc.plan me i c word (omega (arith, c_had, few))
@@ -141,11 +123,11 @@ closed-few sc listed hands lawful room sent ports p q running small at me i s a 
     slot : (window_here sc.sizes sc.plan me s.core.state c.had).slot ≡ sync_slot_of sc.sizes
     slot = ap (λ (w : Window). w.slot) (here-is sc.sizes sc.plan me s.core.state n c.had room.ticks le in_it) ∙ slot-in-sync sc.sizes sc.plan me s.core.state n (omega (arith, at)) le
 
-    by : (m : Option Message) → x.message ≡ m → StepsOn sc (MayBreak sc hands p me i) x.message s z r e
+    by : (m : Option Message) → x.message ≡ m → StepsOn sc (ClosedFew sc hands p me i) x.message s z r e
     by None f = record {
       sends = r;
       enters = e;
-      may = inr (
+      may = (
         closes,
         elim once [
           | inl one ↦ inl one
@@ -165,7 +147,7 @@ closed-few sc listed hands lawful room sent ports p q running small at me i s a 
           | inl one ↦ record {
             sends = r - 1;
             enters = e;
-            may = inr (
+            may = (
               closes,
               inr (spoken (spoken-kept sc.sizes sc.plan me s.core.state x.core.state (c.had + 1) x.core.had alike (omega (arith, ticked))
                   (speaks-once sc.sizes sc.plan me i s.core.state n c.had word room (omega (arith, at)) le in_it then_sent))),
@@ -175,18 +157,20 @@ closed-few sc listed hands lawful room sent ports p q running small at me i s a 
           }
         ]
 
--- a due tick goes on within `MayBreak`
-pub breaks-few : (sc : Scenario) → IsListed sc → (hands : List HandIn) → IsLawful sc → HasRoom sc.plan → (sent : Side → ℕ → ℕ → Bool) (now : ℕ) (ports : List PortState) (p q : ℕ) → IsRunning (moment sc hands p) → q < 2
-    → (moment sc hands p).window ≡ 3 * sync_slot_of sc.sizes + q → (me : Side) (i : ℕ) (s : Site) (a : Timed) (r e : ℕ) → TickBreaks sc hands sent ports p me i s a → a.tick < 2 ^ 31
-    → SiteBreaks sc hands sent now p me i s → MayBreak sc hands p me i r e s
-    → StepsOn sc (MayBreak sc hands p me i) (pass_and_tick sc ports me i a.tick s.core).message s (after_act sc ports me i (pass_and_tick sc ports me i a.tick s.core) s) r e
-breaks-few sc listed hands lawful room sent now ports p q running small at me i s a r e t few h (inr told) = closed-few sc listed hands lawful room sent ports p q running small at me i s a r e t few told.0 told.1
-breaks-few sc listed hands lawful room sent now ports p q running small at me i s a r e t few (inl stopped) (inl more) = none_and_some a s.ahead stopped.ahead t.pend
-breaks-few sc listed hands lawful room sent now ports p q running small at me i s a r e t few (inr (inl h)) (inl more) =
-    tells-few sc listed hands ports p me i a.tick s r e (site-ticks sc hands lawful room sent now ports p q running small at me i s a t (inr (inl h)))
-    (hearing-quiet sc hands lawful room sent now ports p q running (omega arith) at me i s a t h) more.0 more.1
-breaks-few sc listed hands lawful room sent now ports p q running small at me i s a r e t few (inr (inr (inl h))) (inl more) =
-    tells-few sc listed hands ports p me i a.tick s r e (site-ticks sc hands lawful room sent now ports p q running small at me i s a t (inr (inr (inl h))))
-    (deaf-quiet sc hands lawful room sent ports p q running (omega arith) at me i s a t h) more.0 more.1
-breaks-few sc listed hands lawful room sent now ports p q running small at me i s a r e t few (inr (inr (inr h))) (inl more) =
-    closed-few sc listed hands lawful room sent ports p q running small at me i s a r e t few h (inl more.0)
+early-arrives : (sc : Scenario) (hands : List HandIn) (p : ℕ) (me : Side) (i r e n : ℕ) (c : Coming) (s : Site) → (is_good_at sc (moment sc hands p) me i ≡ true → Moves (clock_of sc me i))
+    → ((a : Timed) → s.ahead ≡ Some a → c.time ≤ a.time) → ClosedFew sc hands p me i r e s → ClosedFew sc hands p me i r e (after_arrival sc me i n c s)
+unfolding after_arrival
+early-arrives sc hands p me i r e n c s moves before h = (
+  told-on sc hands (InFrame sc) me i p s (after_arrival sc me i n c s) h.0 refl (closed-arrives sc hands me i p n c s h.0.st (moves h.0.good) h.0.course before),
+  elim h.1 [ inl one ↦ inl one | inr g ↦ inr (spoken-arrives sc me i n c s g) ],
+)
+
+pub early-few : (sc : Scenario) → IsListed sc → IsLawful sc → HasRoom sc.plan → (q : ℕ) → q < 2 → FewOn sc q 1 (InFrame sc) (ClosedFew sc)
+early-few sc listed lawful room q early = record {
+  some = omega arith;
+  most = omega arith;
+  starts = λ hands b me i r e s told sends enters. (told, inl sends);
+  ticks = λ hands b off sent ports me i s a r e t small h. closed-few sc listed hands lawful room sent ports b q off.running early off.window me i s a r e t small h.0 h.1;
+  more = λ hands b me i r e s more h. (told-on sc hands (InFrame sc) me i b s (record s { coming = more }) h.0 refl h.0.course, h.1);
+  arrives = early-arrives sc;
+}

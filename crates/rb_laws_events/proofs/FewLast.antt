@@ -1,51 +1,19 @@
 -- For the law that pending events are few if the run breaks off with the last stage of the sync
 -- slot: a node that has told its row sends one message at most in the tail and one in the first
 -- window of the next frame, and enters that window once.
-use Rattle.std.proofs.{Common.{◌≡◌, ℕ, zero, suc, ◌+◌, ◌-◌, ◌*◌, ◌<◌, ◌≤◌, ◌⊎◌, Bool, true, false, List, refl, ap, sym, ◌∙◌, subst, arith, inl, inr, Option, Some, None, length, lit<}, lemmas.Bool.cases_lt}
+use Rattle.std.proofs.{Common.{◌≡◌, ℕ, ◌+◌, ◌-◌, ◌*◌, ◌<◌, ◌≤◌, ◌⊎◌, Bool, true, false, List, refl, ap, sym, ◌∙◌, subst, arith, inl, inr, Option, Some, None, length}, lemmas.Bool.cases_lt}
 use Rattle.rb_base.specs.{Nodes.Side, Sizes.{Sizes, sync_slot_of}}
-use Rattle.rb_base.proofs.Plain.{none_and_some}
-use Rattle.rb_rules.specs.{declared.message.Message.Message, declared.plan.Plan.Plan, declared.plan.Window.Window, Core.{Act, Core, act_at, act_on, is_spent, pass_to, said_at, state_kept, tick, window_here}, Entries.IsListed, Goodness.Scenario, Lawful.IsLawful, Moments.IsRunning, NodeState.NodeState, Plan.tail_start_of, Ports.{HandIn, PortState}, Rounds.moment, WorldStep.{Site, Timed, after_act, pass_and_tick, wants_in, word_of}}
+use Rattle.rb_rules.specs.{declared.message.Message.Message, declared.plan.Plan.Plan, declared.plan.Window.Window, Core.{Act, Core, arrive, act_at, act_on, is_spent, pass_to, said_at, state_kept, tick, window_here}, Entries.IsListed, Goodness.{Scenario, clock_of}, Hearing.Coming, Clock.stamp_of, Lawful.IsLawful, Moments.IsRunning, NodeState.NodeState, Plan.tail_start_of, Ports.{HandIn, PortState}, Rounds.moment, WorldStep.{Site, Timed, after_act, after_arrival, pass_and_tick, wants_in, word_of}}
+use Rattle.rb_rules.proofs.{QuietTicks.arrive-same, Stamps.Moves}
 use Rattle.rb_laws_events.specs.Closing.{stages_in}
-use Rattle.rb_laws_events.proofs.{BreakEvents.TickBreaks, BreakSites.acted, FewBreak.{no-begin, once-more, slot-in-sync}, FewEntered.{BringsFew, act-brings}, FewOff.{StepsOn, messages_in}, FewSent.{CallsAlike, HasSpoken, IsSentThen, SaysAt, said-then, says-some, speaks-once, spoken-kept, spoken-quiet}, FewQuiet.{ahead-quiet, deaf-quiet}, LastEvents.{before-end, last-ticks}, LastSites.{AwaitsNext, HasToldLast, SiteLast}, LastTicks.{told-goes, told-ticks}, NodeActs.HasRoom, NodeTicks.tail-first, StageOrder.{last_of, last-same}, TailTicks.{GoesOn, HasTurned, IsAfter, IsInTail, KeepsMiddles, in-tail, tail-act, turned-epoch}, Takes.tick-had, TickWindows.{IsTickIn, first_of, first-same, here-is}, TurnTicks.{no-next, not-yet}}
+use Rattle.rb_laws_events.proofs.{BreakEnters.TickBreaks, BreakSites.{acted, told-on}, FewBreak.{no-begin, slot-in-sync}, FewTold.{FewOn, one-less}, Invariant.is_good_at, FewEntered.{BringsFew, act-brings}, FewOff.{StepsOn, messages_in}, FewSent.{spoken-arrives, CallsAlike, HasSpoken, IsSentThen, SaysAt, said-then, says-some, speaks-once, spoken-kept, spoken-quiet}, LastEvents.before-end, LastSites.{AwaitsNext, Beyond, HasToldLast, told-arrives}, LastTicks.{told-goes, told-ticks}, NodeActs.HasRoom, NodeTicks.tail-first, StageOrder.{last_of, last-same}, TailTicks.{GoesOn, HasTurned, IsAfter, IsInTail, KeepsMiddles, in-tail, tail-act, turned-epoch}, Takes.tick-had, TickWindows.{IsTickIn, first_of, first-same, here-is}, TurnTicks.{no-next, not-yet}}
 
 -- what a node that has told its row may do yet
 pub record ToldFew (sc : Scenario) (hands : List HandIn) (p : ℕ) (me : Side) (i r e : ℕ) (s : Site) : Type 0 where
   pub told : HasToldLast sc hands me i p s
-  pub enters : s.core.had < told.x → 1 ≤ e
+  pub enters : s.core.had < told.course.x → 1 ≤ e
   pub tail : s.core.state.frame ≡ told.st.frame → (2 ≤ r) ⊎ ((1 ≤ r) × HasSpoken sc.sizes sc.plan me s.core.state s.core.had)
-  pub turned : s.core.state.frame ≡ told.st.frame + 1 → (1 ≤ r) ⊎ (told.x + sc.plan.h < s.core.had)
-
-abbrev pub MayLast : Scenario → List HandIn → ℕ → Side → ℕ → ℕ → ℕ → Site → Type 0
-MayLast sc hands p me i r e s = ((2 ≤ r) × (2 ≤ e)) ⊎ ToldFew sc hands p me i r e s
-
-one-less : (e l : ℕ) → 1 ≤ e → (e - 1) * l + l ≤ e * l
-one-less zero l le = absurd (omega (arith, le))
-one-less (suc e) l le =
-    let is : suc e - 1 ≡ e = omega arith in
-    let same : (suc e - 1) * l ≡ e * l = ap (λ k. k * l) is in
-    omega (arith, same)
-
-two-less : (e l : ℕ) → 2 ≤ e → 1 * l + l ≤ e * l
-two-less zero l le = absurd (omega (arith, le))
-two-less (suc e) l le = let rest = once-more e l (omega (arith, le)) in omega (arith, rest)
-
--- the tick with which a node tells its row goes on within `MayLast`
-tells-few : (sc : Scenario) → IsListed sc → (hands : List HandIn) (ports : List PortState) (p : ℕ) (me : Side) (i k : ℕ) (s : Site) (r e : ℕ)
-    → HasToldLast sc hands me i p (after_act sc ports me i (pass_and_tick sc ports me i k s.core) s) → (pass_and_tick sc ports me i k s.core).message ≡ None → 2 ≤ r → 2 ≤ e
-    → StepsOn sc (MayLast sc hands p me i) (pass_and_tick sc ports me i k s.core).message s (after_act sc ports me i (pass_and_tick sc ports me i k s.core) s) r e
-tells-few sc listed hands ports p me i k s r e tells quiet some two =
-    let x : Act = pass_and_tick sc ports me i k s.core in
-    let brings : BringsFew sc me x s (after_act sc ports me i x s) = act-brings sc listed ports me i x s in
-    let most = brings.most in
-    let more = two-less e (length sc.says) two in
-    let none : messages_in x.message ≡ 0 = ap messages_in quiet in
-    record {
-      sends = r;
-      enters = 1;
-      may = inr (record { told = tells; enters = λ lt. omega arith; tail = λ f. inl some; turned = λ f. inl (omega (arith, some)) });
-      sent = omega (arith, none);
-      room = omega (arith, most, more);
-    }
+  pub turned : s.core.state.frame ≡ told.st.frame + 1 → (1 ≤ r) ⊎ (told.course.x + sc.plan.h < s.core.had)
 
 -- a tick in the tail keeps the ticks of the calls
 tail-alike : (sizes : Sizes) (plan : Plan) (me : Side) (i frame e x : ℕ) (c : Core) (word : ℕ) → HasRoom plan → e + tail_start_of sizes plan ≤ x → IsInTail sizes plan me frame e x c.state c.had → c.had < x
@@ -66,18 +34,18 @@ tail-alike sizes plan me i frame e x c word room low h lt = by (is_spent c)
         act_of : NodeState → Act
         act_of y = act_on sizes plan me i c y (said_at sizes plan me i y word c.had) (state_kept sizes me i y word (said_at sizes plan me i y word c.had))
 
--- a tick of a node that has told its row goes on within `MayLast`
+-- a tick of a node that has told its row goes on within `ToldFew`
 told-few : (sc : Scenario) → IsListed sc → (hands : List HandIn) → IsLawful sc → HasRoom sc.plan → (sent : Side → ℕ → ℕ → Bool) (ports : List PortState) (p : ℕ) → IsRunning (moment sc hands p)
     → (moment sc hands p).window ≡ 3 * sync_slot_of sc.sizes + 2 → (me : Side) (i : ℕ) (s : Site) (a : Timed) (r e : ℕ) → TickBreaks sc hands sent ports p me i s a → ToldFew sc hands p me i r e s
-    → StepsOn sc (MayLast sc hands p me i) (pass_and_tick sc ports me i a.tick s.core).message s (after_act sc ports me i (pass_and_tick sc ports me i a.tick s.core) s) r e
-unfolding pass_and_tick told-ticks
+    → StepsOn sc (ToldFew sc hands p me i) (pass_and_tick sc ports me i a.tick s.core).message s (after_act sc ports me i (pass_and_tick sc ports me i a.tick s.core) s) r e
+unfolding pass_and_tick told-ticks told-on
 told-few sc listed hands lawful room sent ports p running at me i s a r e t g = by next.after
   where
     h : HasToldLast sc hands me i p s
     h = g.told
 
-    next : AwaitsNext sc me i h.st h.x s.core a
-    next = h.ahead a t.pend
+    next : AwaitsNext sc me i h.st h.course.x s.core a
+    next = h.course.ahead a t.pend
 
     had : s.core.had ≤ a.tick
     had = next.had
@@ -97,10 +65,10 @@ told-few sc listed hands lawful room sent ports p running at me i s a r e t g = 
     z : Site
     z = after_act sc ports me i x s
 
-    before : a.tick + 1 < h.x + sc.plan.l
+    before : a.tick + 1 < h.course.x + sc.plan.l
     before = before-end sc hands sent lawful ports p running at me i s a t h
 
-    goes : GoesOn sc.sizes sc.plan me h.st.frame h.st.epoch h.x a.tick x
+    goes : GoesOn sc.sizes sc.plan me h.st.frame h.st.epoch h.course.x a.tick x
     goes = told-goes sc hands ports me i p s a room h t.pend before
 
     tells : HasToldLast sc hands me i p z
@@ -125,19 +93,19 @@ told-few sc listed hands lawful room sent ports p running at me i s a r e t g = 
     frame_is = ap (λ (c : Core). c.state.frame) core
 
     -- the tick is in the tail
-    in-it : IsInTail sc.sizes sc.plan me h.st.frame h.st.epoch h.x s.core.state s.core.had → a.tick < h.x → (o : Option Message) → x.message ≡ o → StepsOn sc (MayLast sc hands p me i) x.message s z r e
-    in-it tail lt o f = entering (cases_lt (a.tick + 1) h.x) (messages o f (g.tail tail.in_frame))
+    in-it : IsInTail sc.sizes sc.plan me h.st.frame h.st.epoch h.course.x s.core.state s.core.had → a.tick < h.course.x → (o : Option Message) → x.message ≡ o → StepsOn sc (ToldFew sc hands p me i) x.message s z r e
+    in-it tail lt o f = entering (cases_lt (a.tick + 1) h.course.x) (messages o f (g.tail tail.in_frame))
       where
-        now_in : IsInTail sc.sizes sc.plan me h.st.frame h.st.epoch h.x c.state c.had
+        now_in : IsInTail sc.sizes sc.plan me h.st.frame h.st.epoch h.course.x c.state c.had
         now_in = let from = tail.from in record { in_frame = tail.in_frame; epoch = tail.epoch; known = tail.known; from = omega (arith, from, had, c_had); keeps = tail.keeps }
 
         alike : CallsAlike s.core.state x.core.state
-        alike = tail-alike sc.sizes sc.plan me i h.st.frame h.st.epoch h.x c word room h.low now_in (omega (arith, c_had, lt))
+        alike = tail-alike sc.sizes sc.plan me i h.st.frame h.st.epoch h.course.x c word room h.course.low now_in (omega (arith, c_had, lt))
 
         in_it : IsTickIn sc.sizes sc.plan me s.core.state (stages_in sc.sizes) c.had
-        in_it = in-tail sc.sizes sc.plan me h.st.frame h.st.epoch h.x c.state c.had h.low now_in (omega (arith, c_had, lt))
+        in_it = in-tail sc.sizes sc.plan me h.st.frame h.st.epoch h.course.x c.state c.had h.course.low now_in (omega (arith, c_had, lt))
 
-        still : IsInTail sc.sizes sc.plan me h.st.frame h.st.epoch h.x x.core.state x.core.had
+        still : IsInTail sc.sizes sc.plan me h.st.frame h.st.epoch h.course.x x.core.state x.core.had
         still = elim goes.after [ inl y ↦ y.0 | inr y ↦ (let begun = y.begun in absurd (omega (arith, begun, ticked, lt))) ]
 
         slot : (window_here sc.sizes sc.plan me s.core.state c.had).slot ≡ sync_slot_of sc.sizes
@@ -164,7 +132,7 @@ told-few sc listed hands lawful room sent ports p running at me i s a r e t g = 
             let one : messages_in x.message ≡ 1 = ap messages_in f in
             let says : SaysAt sc.sizes sc.plan me i c word m x = says-some sc.sizes sc.plan me i c word m f in
             let said : said_at sc.sizes sc.plan me i s.core.state word c.had ≡ Some m =
-            ap (λ y. said_at sc.sizes sc.plan me i y word c.had) (sym (not-yet sc.sizes sc.plan me s.core.state h.x c.had tail.known (omega (arith, c_had, lt)))) ∙ says.said in
+            ap (λ y. said_at sc.sizes sc.plan me i y word c.had) (sym (not-yet sc.sizes sc.plan me s.core.state h.course.x c.had tail.known (omega (arith, c_had, lt)))) ∙ says.said in
             let then_sent : IsSentThen sc.sizes sc.plan me i s.core.state (sync_slot_of sc.sizes) word c.had = said-then sc.sizes sc.plan me i s.core.state (sync_slot_of sc.sizes) word c.had m slot said in
             elim once [
               | inr y ↦ spoken-quiet sc.sizes sc.plan me i s.core.state c.had word then_sent
@@ -182,23 +150,23 @@ told-few sc listed hands lawful room sent ports p running at me i s a r e t g = 
               )
             ]
 
-        may : (n d : ℕ) → (z.core.had < h.x → 1 ≤ d) → (2 ≤ n) ⊎ ((1 ≤ n) × HasSpoken sc.sizes sc.plan me z.core.state z.core.had) → MayLast sc hands p me i n d z
-        may n d enters once = inr (record {
+        may : (n d : ℕ) → (z.core.had < h.course.x → 1 ≤ d) → (2 ≤ n) ⊎ ((1 ≤ n) × HasSpoken sc.sizes sc.plan me z.core.state z.core.had) → ToldFew sc hands p me i n d z
+        may n d enters once = record {
           told = tells;
           enters = enters;
           tail = λ f. once;
           turned = λ f. not-both z.core.state.frame h.st.frame (frame_is ∙ still.in_frame) f;
-        })
+        }
 
-        entering : ((a.tick + 1 < h.x) ⊎ (h.x ≤ a.tick + 1)) → (n : ℕ) × ((n + messages_in x.message ≤ r) × ((2 ≤ n) ⊎ ((1 ≤ n) × HasSpoken sc.sizes sc.plan me z.core.state z.core.had)))
-            → StepsOn sc (MayLast sc hands p me i) x.message s z r e
+        entering : ((a.tick + 1 < h.course.x) ⊎ (h.course.x ≤ a.tick + 1)) → (n : ℕ) × ((n + messages_in x.message ≤ r) × ((2 ≤ n) ⊎ ((1 ≤ n) × HasSpoken sc.sizes sc.plan me z.core.state z.core.had)))
+            → StepsOn sc (ToldFew sc hands p me i) x.message s z r e
         entering (inl inner) y =
-            let e_had : x.core.had < h.x = omega (arith, ticked, inner) in
+            let e_had : x.core.had < h.course.x = omega (arith, ticked, inner) in
             let from = tail.from in
             let first : first_of sc.sizes sc.plan me x.core.state (stages_in sc.sizes) ≡ tail_start_of sc.sizes sc.plan = tail-first sc.sizes sc.plan me x.core.state in
             let epoch : x.core.state.epoch ≡ h.st.epoch = still.epoch in
-            let none = brings.none (no-begin sc.sizes sc.plan me x.core.state (stages_in sc.sizes) x.core.had room (omega arith) (not-yet sc.sizes sc.plan me x.core.state h.x x.core.had still.known e_had)
-            (in-tail sc.sizes sc.plan me h.st.frame h.st.epoch h.x x.core.state x.core.had h.low still e_had) (omega (arith, first, epoch, ticked, from, had))) in
+            let none = brings.none (no-begin sc.sizes sc.plan me x.core.state (stages_in sc.sizes) x.core.had room (omega arith) (not-yet sc.sizes sc.plan me x.core.state h.course.x x.core.had still.known e_had)
+            (in-tail sc.sizes sc.plan me h.st.frame h.st.epoch h.course.x x.core.state x.core.had h.course.low still e_had) (omega (arith, first, epoch, ticked, from, had))) in
             record { sends = y.0; enters = e; may = may y.0 e (λ lt. g.enters (omega (arith, had, lt, inner, z_had))) y.1.1; sent = y.1.0; room = omega (arith, none) }
         entering (inr outer) y =
             let one : 1 ≤ e = g.enters (omega (arith, had, lt)) in
@@ -207,48 +175,48 @@ told-few sc listed hands lawful room sent ports p running at me i s a r e t g = 
             record { sends = y.0; enters = e - 1; may = may y.0 (e - 1) (λ early. absurd (omega (arith, early, z_had, outer))) y.1.1; sent = y.1.0; room = omega (arith, most, less) }
 
     -- the tick is in the next frame
-    beyond : h.x ≤ a.tick → (1 ≤ r) ⊎ (h.x + sc.plan.h < a.tick) → (o : Option Message) → x.message ≡ o → StepsOn sc (MayLast sc hands p me i) x.message s z r e
+    beyond : h.course.x ≤ a.tick → (1 ≤ r) ⊎ (h.course.x + sc.plan.h < a.tick) → (o : Option Message) → x.message ≡ o → StepsOn sc (ToldFew sc hands p me i) x.message s z r e
     beyond late once o f = steps o f once
       where
-        turned : HasTurned h.st.frame h.x x.core.state x.core.had
+        turned : HasTurned h.st.frame h.course.x x.core.state x.core.had
         turned = elim goes.after [ inr y ↦ y | inl y ↦ (let le = y.1 in absurd (omega (arith, le, ticked, late))) ]
 
         at_next : IsTickIn sc.sizes sc.plan me x.core.state 0 x.core.had
         at_next =
             let first : first_of sc.sizes sc.plan me x.core.state 0 ≡ 0 * sc.plan.l = first-same sc.sizes sc.plan me x.core.state 0 (omega arith) in
             let last : last_of sc.sizes sc.plan me x.core.state 0 ≡ 0 * sc.plan.l + sc.plan.l - 1 = last-same sc.sizes sc.plan me x.core.state 0 (omega arith) in
-            let epoch : x.core.state.epoch ≡ h.x = turned.epoch in
+            let epoch : x.core.state.epoch ≡ h.course.x = turned.epoch in
             record { from = omega (arith, first, epoch, ticked, late); to = omega (arith, last, epoch, ticked, before) }
 
         none : length z.coming ≤ length s.coming
         none =
             let first : first_of sc.sizes sc.plan me x.core.state 0 ≡ 0 * sc.plan.l = first-same sc.sizes sc.plan me x.core.state 0 (omega arith) in
-            let epoch : x.core.state.epoch ≡ h.x = turned.epoch in
+            let epoch : x.core.state.epoch ≡ h.course.x = turned.epoch in
             brings.none (no-begin sc.sizes sc.plan me x.core.state 0 x.core.had room (omega arith)
-            (no-next sc.sizes sc.plan me x.core.state x.core.had (turned-epoch sc.plan me h.st.frame h.x x.core.state x.core.had turned)) at_next (omega (arith, first, epoch, ticked, late)))
+            (no-next sc.sizes sc.plan me x.core.state x.core.had (turned-epoch sc.plan me h.st.frame h.course.x x.core.state x.core.had turned)) at_next (omega (arith, first, epoch, ticked, late)))
 
-        may : (n : ℕ) → (1 ≤ n) ⊎ (h.x + sc.plan.h < z.core.had) → MayLast sc hands p me i n e z
-        may n once = inr (record {
+        may : (n : ℕ) → (1 ≤ n) ⊎ (h.course.x + sc.plan.h < z.core.had) → ToldFew sc hands p me i n e z
+        may n once = record {
           told = tells;
           enters = λ lt. absurd (omega (arith, lt, z_had, late));
           tail = λ f. not-both z.core.state.frame h.st.frame f (frame_is ∙ turned.in_frame);
           turned = λ f. once;
-        })
+        }
 
-        steps : (o : Option Message) → x.message ≡ o → (1 ≤ r) ⊎ (h.x + sc.plan.h < a.tick) → StepsOn sc (MayLast sc hands p me i) x.message s z r e
+        steps : (o : Option Message) → x.message ≡ o → (1 ≤ r) ⊎ (h.course.x + sc.plan.h < a.tick) → StepsOn sc (ToldFew sc hands p me i) x.message s z r e
         steps None f once =
             let zero_sent : messages_in x.message ≡ 0 = ap messages_in f in
             record { sends = r; enters = e; may = may r (elim once [ inl one ↦ inl one | inr over ↦ inr (omega (arith, over, z_had)) ]); sent = omega (arith, zero_sent); room = omega (arith, none) }
         steps (Some m) f once =
             let one_sent : messages_in x.message ≡ 1 = ap messages_in f in
-            let tick : h.x + sc.plan.h ≡ a.tick = goes.begun late m f in
+            let tick : h.course.x + sc.plan.h ≡ a.tick = goes.begun late m f in
             elim once [
               | inl one ↦ record { sends = r - 1; enters = e; may = may (r - 1) (inr (omega (arith, tick, z_had))); sent = omega (arith, one_sent, one); room = omega (arith, none) }
               | inr over ↦ absurd (omega (arith, over, tick))
             ]
 
-    by : IsAfter sc.sizes sc.plan me h.st.frame h.st.epoch h.x s.core.state s.core.had a.tick → StepsOn sc (MayLast sc hands p me i) x.message s z r e
-    by (inl y) = elim (cases_lt a.tick h.x) [
+    by : IsAfter sc.sizes sc.plan me h.st.frame h.st.epoch h.course.x s.core.state s.core.had a.tick → StepsOn sc (ToldFew sc hands p me i) x.message s z r e
+    by (inl y) = elim (cases_lt a.tick h.course.x) [
       | inl lt ↦ in-it y.0 lt x.message refl
       | inr late ↦ beyond late (inl (elim (g.tail y.0.in_frame) [ inl two ↦ omega (arith, two) | inr one ↦ one.0 ])) x.message refl
     ]
@@ -256,22 +224,37 @@ told-few sc listed hands lawful room sent ports p running at me i s a r e t g = 
         let begun = y.begun in
         beyond (omega (arith, begun, had)) (elim (g.turned y.in_frame) [ inl one ↦ inl one | inr over ↦ inr (omega (arith, over, had)) ]) x.message refl
 
--- a due tick goes on within `MayLast`
-pub last-few : (sc : Scenario) → IsListed sc → (hands : List HandIn) → IsLawful sc → HasRoom sc.plan → (sent : Side → ℕ → ℕ → Bool) (ports : List PortState) (p : ℕ) → IsRunning (moment sc hands p)
-    → (moment sc hands p).window ≡ 3 * sync_slot_of sc.sizes + 2 → (me : Side) (i : ℕ) (s : Site) (a : Timed) (r e : ℕ) → TickBreaks sc hands sent ports p me i s a
-    → SiteLast sc hands sent p me i s → MayLast sc hands p me i r e s
-    → StepsOn sc (MayLast sc hands p me i) (pass_and_tick sc ports me i a.tick s.core).message s (after_act sc ports me i (pass_and_tick sc ports me i a.tick s.core) s) r e
-last-few sc listed hands lawful room sent ports p running at me i s a r e t h (inr told) = told-few sc listed hands lawful room sent ports p running at me i s a r e t told
-last-few sc listed hands lawful room sent ports p running at me i s a r e t (inl stopped) (inl more) = none_and_some a s.ahead stopped.ahead t.pend
-last-few sc listed hands lawful room sent ports p running at me i s a r e t (inr (inl h)) (inl more) =
-    tells-few sc listed hands ports p me i a.tick s r e (last-ticks sc hands lawful room sent ports p running at me i s a t (inr (inl h))) (ahead-quiet sc hands lawful room sent ports p running at me i s a t h) more.0 more.1
-last-few sc listed hands lawful room sent ports p running at me i s a r e t (inr (inr (inl h))) (inl more) =
-    tells-few sc listed hands ports p me i a.tick s r e (last-ticks sc hands lawful room sent ports p running at me i s a t (inr (inr (inl h))))
-    (deaf-quiet sc hands lawful room sent ports p 2 running (lit< tt) at me i s a t h) more.0 more.1
-last-few sc listed hands lawful room sent ports p running at me i s a r e t (inr (inr (inr h))) (inl more) =
-    told-few sc listed hands lawful room sent ports p running at me i s a r e t (record {
-      told = h;
-      enters = λ lt. let two = more.1 in omega (arith, two);
-      tail = λ f. inl more.0;
-      turned = λ f. inl (let some = more.0 in omega (arith, some));
-    })
+last-arrives : (sc : Scenario) (hands : List HandIn) (p : ℕ) (me : Side) (i r e n : ℕ) (c : Coming) (s : Site) → (is_good_at sc (moment sc hands p) me i ≡ true → Moves (clock_of sc me i))
+    → ((a : Timed) → s.ahead ≡ Some a → c.time ≤ a.time) → ToldFew sc hands p me i r e s → ToldFew sc hands p me i r e (after_arrival sc me i n c s)
+unfolding after_arrival told-arrives told-on
+last-arrives sc hands p me i r e n c s moves before h =
+    let passed : Core = pass_to (stamp_of (clock_of sc me i) c.time) s.core in
+    let same = arrive-same sc.sizes me passed c.from c.bytes in
+    let more : s.core.had ≤ passed.had = omega arith in
+    let frame : (arrive sc.sizes me passed c.from c.bytes).state.frame ≡ s.core.state.frame = ap (λ (y : NodeState). y.frame) same.0 in
+    record {
+      told = told-on sc hands (Beyond sc) me i p s (after_arrival sc me i n c s) h.told refl (told-arrives sc hands me i p n c s h.told.st (moves h.told.good) h.told.course before);
+      enters = λ lt. h.enters (omega (arith, lt, same.1, more));
+      tail = λ f. elim (h.tail (sym frame ∙ f)) [ inl two ↦ inl two | inr g ↦ inr (g.0, spoken-arrives sc me i n c s g.1) ];
+      turned = λ f. elim (h.turned (sym frame ∙ f)) [ inl one ↦ inl one | inr over ↦ inr (omega (arith, over, same.1, more)) ];
+    }
+
+last-more : (sc : Scenario) (hands : List HandIn) (p : ℕ) (me : Side) (i r e : ℕ) (s : Site) (more : List Coming) → ToldFew sc hands p me i r e s → ToldFew sc hands p me i r e (record s { coming = more })
+unfolding told-on
+last-more sc hands p me i r e s more h =
+    record { told = told-on sc hands (Beyond sc) me i p s (record s { coming = more }) h.told refl h.told.course; enters = h.enters; tail = h.tail; turned = h.turned }
+
+pub last-few : (sc : Scenario) → IsListed sc → IsLawful sc → HasRoom sc.plan → FewOn sc 2 2 (Beyond sc) (ToldFew sc)
+last-few sc listed lawful room = record {
+  some = omega arith;
+  most = omega arith;
+  starts = λ hands b me i r e s told sends enters. record {
+    told = told;
+    enters = λ lt. omega (arith, enters);
+    tail = λ f. inl sends;
+    turned = λ f. inl (omega (arith, sends));
+  };
+  ticks = λ hands b off sent ports me i s a r e t small h. told-few sc listed hands lawful room sent ports b off.running off.window me i s a r e t h;
+  more = last-more sc;
+  arrives = last-arrives sc;
+}

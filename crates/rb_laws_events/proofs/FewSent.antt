@@ -4,7 +4,8 @@ use Rattle.std.proofs.{Common.{◌≡◌, ℕ, ◌+◌, ◌-◌, ◌*◌, ◌<�
 use Rattle.std.specs.Option.{option_or}
 use Rattle.rb_base.specs.{Nodes.{Side, other}, Nodes.Side.{Biu, Rmu}, Sizes.{Sizes, sync_slot_of}}
 use Rattle.rb_base.proofs.Plain.{and_first}
-use Rattle.rb_rules.specs.{declared.message.Message.Message, declared.plan.Plan.Plan, declared.role.Role.TheVariants.Sync, Core.{Act, Core, act_at, act_on, epoch_at, if_at, is_last, is_spent, of_source, said_at, state_at, state_kept, tick, window_here}, ExactStage.Outcome, Hearing.{Sending, close_window, sending}, NodeState.NodeState, Plan.f0_of, Slots.listens, SyncStage.call_tick_of}
+use Rattle.rb_rules.specs.{declared.message.Message.Message, declared.plan.Plan.Plan, declared.role.Role.TheVariants.Sync, Clock.stamp_of, Core.{Act, Core, arrive, pass_to, act_at, act_on, epoch_at, if_at, is_last, is_spent, of_source, said_at, state_at, state_kept, tick, window_here}, ExactStage.Outcome, Goodness.{Scenario, clock_of}, Hearing.{Coming, Sending, close_window, sending}, NodeState.NodeState, Plan.f0_of, Slots.listens, SyncStage.call_tick_of, WorldStep.{Site, after_arrival}}
+use Rattle.rb_rules.proofs.QuietTicks.{arrive-same}
 use Rattle.rb_laws_synchrony.proofs.TakenCalls.{call_sent}
 use Rattle.rb_laws_events.specs.Closing.{stages_in}
 use Rattle.rb_laws_events.proofs.{NodeActs.HasRoom, StageOrder.{last_of, last-same}, TickWindows.{IsTickIn, ends-before-later, first_of}}
@@ -162,3 +163,14 @@ spoken-quiet sizes plan me i st k word h spoken =
     let lt : h.x.tick < k = spoken h.stage h.x.tick its.1 its.0 in
     let tick : h.x.tick ≡ k = h.tick in
     absurd (omega (arith, lt, tick))
+
+-- an arrival leaves it said
+pub spoken-arrives : (sc : Scenario) (me : Side) (i n : ℕ) (c : Coming) (s : Site) → HasSpoken sc.sizes sc.plan me s.core.state s.core.had
+    → HasSpoken sc.sizes sc.plan me (after_arrival sc me i n c s).core.state (after_arrival sc me i n c s).core.had
+unfolding after_arrival
+spoken-arrives sc me i n c s g =
+    let passed : Core = pass_to (stamp_of (clock_of sc me i) c.time) s.core in
+    let same = arrive-same sc.sizes me passed c.from c.bytes in
+    let more : s.core.had ≤ passed.had = omega arith in
+    subst (λ y. HasSpoken sc.sizes sc.plan me y (arrive sc.sizes me passed c.from c.bytes).had) (sym same.0)
+    (spoken-kept sc.sizes sc.plan me s.core.state s.core.state s.core.had (arrive sc.sizes me passed c.from c.bytes).had (record { epoch = refl; k1 = refl; k2 = refl }) (omega (arith, same.1, more)) g)

@@ -1,15 +1,14 @@
--- For the law that events are rounds if the premise on faults is broken in a sync slot: a due tick
--- of a node of a world in which the run breaks off with the last stage of the sync slot. After it
--- the node has told its row, and what it says comes to those that listen in the stage after their
--- last tick of it.
-use Rattle.std.proofs.{Common.{◌≡◌, ℕ, ◌+◌, ◌*◌, ◌-◌, ◌<◌, ◌≤◌, ◌==◌, Bool, true, false, List, refl, ap, sym, ◌∙◌, subst, arith, inl, inr, Option, Some, None, slice_get, lit<}, lemmas.Bool.{cases_lt, true≢false}, lemmas.Bool.Decides.nat_tests, lemmas.Option.same_Some}
+-- For the law that events are rounds if the premise on faults is broken in a sync slot: how a node
+-- goes on if the run breaks off with the last stage of the sync slot. After its row it may enter
+-- the next frame, and what it says comes to those that listen in the stage after their last tick
+-- of it.
+use Rattle.std.proofs.{Common.{◌≡◌, ℕ, ◌+◌, ◌*◌, ◌-◌, ◌<◌, ◌≤◌, Bool, true, List, refl, ap, sym, ◌∙◌, subst, arith, inl, inr, Some, slice_get, lit<}, lemmas.Bool.{cases_lt, true≢false}}
 use Rattle.rb_base.specs.{Nodes.{Side, other}, Nodes.Side.{Biu, Rmu}, Sizes.sync_slot_of, declared.values.Place.Place}
-use Rattle.rb_base.proofs.Plain.{none_and_some}
-use Rattle.rb_rules.specs.{declared.message.Message.Message, declared.plan.Window.Window, declared.role.Role.TheVariants.Sync, Book.of_kind, Clock.time_of, Core.if_at, Goodness.{Scenario, clock_of, is_good}, Hearing.{Sending, coming_of}, Lawful.IsLawful, Links.{delay_of, name_of}, Moments.IsRunning, NodeState.NodeState, Plan.tail_start_of, Ports.{HandIn, PortState}, Rounds.{Moment, IsGoodIn, moment, window_in}, Slots.{listens, same_side}, SyncStage.new_epoch_of, WorldStep.{Site, Timed, after_act, pass_and_tick}}
+use Rattle.rb_rules.specs.{declared.message.Message.Message, declared.plan.Window.Window, declared.role.Role.TheVariants.Sync, Book.of_kind, Clock.time_of, Goodness.{Scenario, clock_of, is_good}, Hearing.{coming_of}, Lawful.IsLawful, Links.{delay_of, name_of}, Moments.IsRunning, NodeState.NodeState, Plan.tail_start_of, Ports.{HandIn, PortState}, Rounds.{Moment, IsGoodIn, moment, window_in}, Slots.{listens, same_side}, SyncStage.new_epoch_of, WorldStep.{Site, Timed, pass_and_tick}}
 use Rattle.rb_rules.proofs.Drift.{times_rise_to}
 use Rattle.rb_laws_agreement.proofs.{NodeWindows.{Windows, sync_windows_are}, FrameTimes.good-clock}
 use Rattle.rb_laws_synchrony.proofs.{NextMessages.next_message, Synchrony.{IsSynchronous, synchrony}, TakenCalls.{IsStage, is_set}}
-use Rattle.rb_laws_events.proofs.{BreakEnters.sent-then, BreakEvents.TickBreaks, BreakSites.WaitsDeaf, CloseOrder.{shortest-some, times-apart}, FrameTimes.{BegunWell, begun-well, good-node}, Invariant.{is_good_at, last_tick, word_at}, LastCloses.shows-deaf, LastEnds.{deaf-last, hearing-last, third-stage}, LastSites.{HasToldLast, SiteLast, WaitsAhead}, LastTicks.{told-goes, told-ticks}, NodeActs.HasRoom, NodeSends.sending_at, PlanNumbers.fits, ReceiverHears.way-least, RoundNodes.slot-is, SameHeard.Every, SentChanges.sending-of-is, StageOrder.{Apart, apart-turn, last_of, last-same}, TailTicks.none-some}
+use Rattle.rb_laws_events.proofs.{BreakEnters.TickBreaks, BreakKeeps.TellsOn, BreakSites.WaitsAhead, CloseOrder.{shortest-some, times-apart}, FrameTimes.{BegunWell, begun-well, good-node}, Invariant.{is_good_at, last_tick}, LastEnds.{deaf-last, hearing-last, third-stage}, LastSites.{Beyond, HasToldLast, told-arrives}, LastTicks.{told-goes, told-ticks}, NodeActs.HasRoom, PlanNumbers.fits, ReceiverHears.way-least, RoundNodes.slot-is, StageOrder.{Apart, apart-turn, last_of, last-same}}
 
 -- Times.
 
@@ -67,72 +66,35 @@ comes-later sc hands lawful p running at n yours there2 good2 i st there good x 
 
 -- a node that has told its row ends no stage with its tick
 pub before-end : (sc : Scenario) (hands : List HandIn) (sent : Side → ℕ → ℕ → Bool) → IsLawful sc → (ports : List PortState) (p : ℕ) → IsRunning (moment sc hands p) → (moment sc hands p).window ≡ 3 * sync_slot_of sc.sizes + 2
-    → (me : Side) (i : ℕ) (s : Site) (a : Timed) → TickBreaks sc hands sent ports p me i s a → (h : HasToldLast sc hands me i p s) → a.tick + 1 < h.x + sc.plan.l
+    → (me : Side) (i : ℕ) (s : Site) (a : Timed) → TickBreaks sc hands sent ports p me i s a → (h : HasToldLast sc hands me i p s) → a.tick + 1 < h.course.x + sc.plan.l
 before-end sc hands sent lawful ports p running at me i s a t h =
-    let at_time : a.time ≡ time_of (clock_of sc me i) a.tick = (h.ahead a t.pend).at_time in
+    let at_time : a.time ≡ time_of (clock_of sc me i) a.tick = (h.course.ahead a t.pend).at_time in
     let first : a.time ≤ time_of (clock_of sc t.you t.j) (last_tick sc (moment sc hands p) t.you t.yours) = t.first in
-    closes-later sc hands lawful p running at t.you t.j t.yours t.there t.good me i h.st h.state h.good h.x a.tick h.low (omega (arith, at_time, first))
+    closes-later sc hands lawful p running at t.you t.j t.yours t.there t.good me i h.st h.state h.good h.course.x a.tick h.course.low (omega (arith, at_time, first))
 
--- after its due tick a node has told the row of the last stage
-pub last-ticks : (sc : Scenario) (hands : List HandIn) → IsLawful sc → HasRoom sc.plan → (sent : Side → ℕ → ℕ → Bool) (ports : List PortState) (p : ℕ) → IsRunning (moment sc hands p)
-    → (moment sc hands p).window ≡ 3 * sync_slot_of sc.sizes + 2 → (me : Side) (i : ℕ) (s : Site) (a : Timed) → TickBreaks sc hands sent ports p me i s a → SiteLast sc hands sent p me i s
-    → HasToldLast sc hands me i p (after_act sc ports me i (pass_and_tick sc ports me i a.tick s.core) s)
-last-ticks sc hands lawful room sent ports p running at me i s a t (inl stopped) = none_and_some a s.ahead stopped.ahead t.pend
-last-ticks sc hands lawful room sent ports p running at me i s a t (inr (inl h)) =
-    let same : h.waits.a ≡ a = same_Some h.waits.a a (sym h.waits.stands.receives.pends ∙ t.pend) in
-    subst (λ (b : Timed). HasToldLast sc hands me i p (after_act sc ports me i (pass_and_tick sc ports me i b.tick s.core) s)) same
-    (hearing-last sc hands lawful room sent ports p running at me i s h (t.frame h.waits.st h.waits.stands.state h.waits.stands.good) t.all_sent (t.words h.waits.st h.waits.stands.state)
-    (subst (λ (b : Timed). Every (λ c. b.time < c.time) s.coming) (sym same) t.later))
-last-ticks sc hands lawful room sent ports p running at me i s a t (inr (inr (inl h))) =
-    let same : h.a ≡ a = same_Some h.a a (sym h.pends ∙ t.pend) in
-    subst (λ (b : Timed). HasToldLast sc hands me i p (after_act sc ports me i (pass_and_tick sc ports me i b.tick s.core) s)) same
-    (deaf-last sc hands lawful room ports p running at me i s h (t.words h.st h.state))
-last-ticks sc hands lawful room sent ports p running at me i s a t (inr (inr (inr h))) =
-    told-ticks sc hands ports me i p s a room h t.pend (before-end sc hands sent lawful ports p running at me i s a t h)
-
--- a node that does not listen in the stage has said all of it before its last tick
-deaf-quiet : (sc : Scenario) (hands : List HandIn) → IsLawful sc → HasRoom sc.plan → (sent : Side → ℕ → ℕ → Bool) (ports : List PortState) (p : ℕ) → IsRunning (moment sc hands p)
-    → (moment sc hands p).window ≡ 3 * sync_slot_of sc.sizes + 2 → (me : Side) (i : ℕ) (s : Site) (a : Timed) → TickBreaks sc hands sent ports p me i s a → WaitsDeaf sc hands me i p s
-    → (pass_and_tick sc ports me i a.tick s.core).message ≡ None
-deaf-quiet sc hands lawful room sent ports p running at me i s a t h =
-    let same : h.a ≡ a = same_Some h.a a (sym h.pends ∙ t.pend) in
-    let shows = shows-deaf sc m ports me i s h.st h.a.tick room h.good h.stands h.had h.small (t.words h.st h.state) h.last h.slot h.deaf in
-    let end : time_of (clock_of sc me i) h.a.tick ≡ time_of (clock_of sc me i) (last_tick sc m me h.st) = ap (time_of (clock_of sc me i)) h.last in
-    let none : if_at h.a.tick (sending_at sc.sizes sc.plan me i h.st m.window (word_at sc m me i h.st)) ≡ None =
-    gone h.a.tick (sending_at sc.sizes sc.plan me i h.st m.window (word_at sc m me i h.st))
-    (λ x e. sent-then sc hands lawful p 2 running (lit< tt) at me i h.st h.state h.good me i h.st h.state h.good h.a h.at_time (omega (arith, end, h.at_time)) x
-    (sending-of-is sc m me i h.st h.state ∙ e)) in
-    subst (λ (b : Timed). (pass_and_tick sc ports me i b.tick s.core).message ≡ None) same (shows.act.message ∙ none)
-  where
-    m : Moment
-    m = moment sc hands p
-
-    differs : (a b : ℕ) → a < b → (a == b) ≡ false
-    differs a b h = grind (arith, nat_tests)
-
-    gone : (k : ℕ) (o : Option Sending) → ((x : Sending) → o ≡ Some x → x.tick < k) → if_at k o ≡ None
-    gone k None h = refl
-    gone k (Some x) h = ap (λ b. elim b as (λ _. Option Message) [ true ↦ Some x.message | false ↦ None ]) (differs x.tick k (h x refl))
-
-pub ticks-late : (sc : Scenario) (hands : List HandIn) → IsLawful sc → HasRoom sc.plan → (sent : Side → ℕ → ℕ → Bool) (ports : List PortState) (p : ℕ) → IsRunning (moment sc hands p)
-    → (moment sc hands p).window ≡ 3 * sync_slot_of sc.sizes + 2 → (me : Side) (i : ℕ) (s : Site) (a : Timed) → TickBreaks sc hands sent ports p me i s a → SiteLast sc hands sent p me i s
+told-late : (sc : Scenario) (hands : List HandIn) → IsLawful sc → HasRoom sc.plan → (sent : Side → ℕ → ℕ → Bool) (ports : List PortState) (p : ℕ) → IsRunning (moment sc hands p)
+    → (moment sc hands p).window ≡ 3 * sync_slot_of sc.sizes + 2 → (me : Side) (i : ℕ) (s : Site) (a : Timed) → TickBreaks sc hands sent ports p me i s a → HasToldLast sc hands me i p s
     → (frame : ℕ) (side : Side) (n : ℕ) (z : Site) (w : WaitsAhead sc hands sent side n p z) → same_side side (other me) ≡ true
     → (msg : Message) → (pass_and_tick sc ports me i a.tick s.core).message ≡ Some msg → w.waits.a.time < (coming_of sc side n i frame (record { tick = a.tick; message = msg })).time
-ticks-late sc hands lawful room sent ports p running at Biu i s a t h frame Biu n z w kind msg e = cc
-ticks-late sc hands lawful room sent ports p running at Rmu i s a t h frame Rmu n z w kind msg e = cc
-ticks-late sc hands lawful room sent ports p running at Rmu i s a t h frame Biu n z w kind msg e =
+told-late sc hands lawful room sent ports p running at Biu i s a t h frame Biu n z w kind msg e = cc
+told-late sc hands lawful room sent ports p running at Rmu i s a t h frame Rmu n z w kind msg e = cc
+told-late sc hands lawful room sent ports p running at Rmu i s a t h frame Biu n z w kind msg e =
     absurd (true≢false (sym w.waits.hears ∙ ap (listens Biu Sync) (third-stage sc (moment sc hands p) at Biu w.waits.st)))
-ticks-late sc hands lawful room sent ports p running at Biu i s a t h frame Rmu n z w kind msg e = by h
-  where
-    by : SiteLast sc hands sent p Biu i s → w.waits.a.time < (coming_of sc Rmu n i frame (record { tick = a.tick; message = msg })).time
-    by (inl stopped) = none_and_some a s.ahead stopped.ahead t.pend
-    by (inr (inl b)) = absurd (true≢false (sym b.waits.hears ∙ ap (listens Biu Sync) (third-stage sc (moment sc hands p) at Biu b.waits.st)))
-    by (inr (inr (inl b))) = none-some (pass_and_tick sc ports Biu i a.tick s.core).message msg (deaf-quiet sc hands lawful room sent ports p running at Biu i s a t b) e
-    by (inr (inr (inr b))) =
-        let m : Moment = moment sc hands p in
-        let late : b.x + sc.plan.h ≤ a.tick = (told-goes sc hands ports Biu i p s a room b t.pend (before-end sc hands sent lawful ports p running at Biu i s a t b)).message refl msg e in
-        let comes : time_of (clock_of sc Rmu n) (last_tick sc m Rmu w.waits.st) < (coming_of sc Rmu n i frame (record { tick = a.tick; message = msg })).time =
-        comes-later sc hands lawful p running at n w.waits.st w.waits.stands.state w.waits.stands.good i b.st b.state b.good b.x a.tick frame msg (b.calls refl) late in
-        let at_time : w.waits.a.time ≡ time_of (clock_of sc Rmu n) w.waits.a.tick = w.waits.stands.receives.at_time in
-        let its : time_of (clock_of sc Rmu n) w.waits.a.tick ≡ time_of (clock_of sc Rmu n) (last_tick sc m Rmu w.waits.st) = ap (time_of (clock_of sc Rmu n)) w.waits.last in
-        omega (arith, comes, at_time, its)
+told-late sc hands lawful room sent ports p running at Biu i s a t h frame Rmu n z w kind msg e =
+    let m : Moment = moment sc hands p in
+    let late : h.course.x + sc.plan.h ≤ a.tick = (told-goes sc hands ports Biu i p s a room h t.pend (before-end sc hands sent lawful ports p running at Biu i s a t h)).message refl msg e in
+    let comes : time_of (clock_of sc Rmu n) (last_tick sc m Rmu w.waits.st) < (coming_of sc Rmu n i frame (record { tick = a.tick; message = msg })).time =
+    comes-later sc hands lawful p running at n w.waits.st w.waits.stands.state w.waits.stands.good i h.st h.state h.good h.course.x a.tick frame msg (h.course.calls refl) late in
+    let at_time : w.waits.a.time ≡ time_of (clock_of sc Rmu n) w.waits.a.tick = w.waits.stands.receives.at_time in
+    let its : time_of (clock_of sc Rmu n) w.waits.a.tick ≡ time_of (clock_of sc Rmu n) (last_tick sc m Rmu w.waits.st) = ap (time_of (clock_of sc Rmu n)) w.waits.last in
+    omega (arith, comes, at_time, its)
+
+pub last-tells : (sc : Scenario) → IsLawful sc → HasRoom sc.plan → TellsOn sc 2 (Beyond sc)
+last-tells sc lawful room = record {
+  ahead = λ hands b me i s a h e. let next = h.course.ahead a e in (next.had, next.at_time);
+  arrives = told-arrives sc;
+  hears = λ hands b off sent now ports me i s h frame. hearing-last sc hands lawful room sent now ports b off.running off.window me i s h frame;
+  deaf = λ hands b off ports me i s h. deaf-last sc hands lawful room ports b off.running off.window me i s h;
+  ticks = λ hands b off sent ports me i s a t h. told-ticks sc hands ports me i b s a room h t.pend (before-end sc hands sent lawful ports b off.running off.window me i s a t h);
+  late = λ hands b off sent ports me i s a t h. told-late sc hands lawful room sent ports b off.running off.window me i s a t h;
+}

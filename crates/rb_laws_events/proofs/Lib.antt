@@ -85,9 +85,7 @@ pub mod DeafEnds
 pub mod BreakMessages
 pub mod BreakTicks
 pub mod BreakEvents
-pub mod BreakWorld
 pub mod BreakBegins
-pub mod BreakTells
 pub mod BreakNodes
 pub mod BreakKeeps
 pub mod BreakRooms
@@ -102,6 +100,7 @@ pub mod FewThere
 pub mod FewEntered
 pub mod FewSent
 pub mod FewQuiet
+pub mod FewTold
 pub mod FewBreak
 pub mod TailTicks
 pub mod TurnTicks
@@ -109,8 +108,6 @@ pub mod LastSites
 pub mod LastTicks
 pub mod LastEnds
 pub mod LastEvents
-pub mod LastWorld
-pub mod LastKeeps
 pub mod FewLast
 pub mod FewKeeps
 pub mod FewPending

@@ -28,9 +28,6 @@ Adds sizes frame n before after = (after.given ≡ before.given) ⊎ ((r : Recor
 numbered : (sizes : Sizes) (n : ℕ) → n % 3 + 1 ≡ 3 → slot_numbered sizes n < sync_slot_of sizes → n ≡ 3 * slot_numbered sizes n + 2
 numbered sizes n e lt = omega (arith, e, lt)
 
-adds-nothing : (before given : List Record) → given ≡ [] → before ++ given ≡ before
-adds-nothing before given e = ap (λ l. before ++ l) e ∙ append-nil before
-
 adds-verdict : (sizes : Sizes) (frame n : ℕ) (w : Window) (rows : Each (Option Row)) (stages : List JudgedStage) (b : Book) (v : Option Cause)
     → w.slot ≡ slot_numbered sizes n → w.stage ≡ n % 3 + 1
     → Adds sizes frame n b (after_verdict sizes (record { frame = frame; slot = w.slot; stage = w.stage }) rows stages b v)

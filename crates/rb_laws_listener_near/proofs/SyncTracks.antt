@@ -32,14 +32,6 @@ like_next sc hands n m s q ws c st like i now h =
     alike_turned st from.st now (sym stays.frame ∙ ap (λ x. x.frame) from.is) (sym stays.near ∙ ap (λ x. x.near) from.is) (sym stays.trusted ∙ ap (λ x. x.far.trusted) from.is)
     (sym left.votes ∙ ap (λ x. x.votes) from.is) (sym left.owners ∙ ap (λ x. x.owners) from.is) (like i from.st from.was)
 
--- a listener keeps track over a window that has no tick, as the tail may have none
-pub tracks_over : (sc : Scenario) (hands : List HandIn) (n : ℕ) (m : Moment) (s : Shared) (q : ℕ) (ws : Windows sc m (sync_slot_of sc.sizes) (q + 1)) → SyncSetting sc hands n m s q ws
-    → (st : NodeState) → Tracks sc m st → Tracks sc (next sc m) st
-tracks_over sc hands n m s q ws c st t = record {
-  like = like_next sc hands n m s q ws c st t.like;
-  spares = λ j good. t.spares j (was_good sc m Rmu j good);
-}
-
 -- after the close of a stage of the sync slot a listener is still like the good BIUs
 pub like_sync : (sc : Scenario) (hands : List HandIn) (n : ℕ) (m : Moment) (s : Shared) (q : ℕ) (ws : Windows sc m (sync_slot_of sc.sizes) (q + 1)) → SyncSetting sc hands n m s q ws
     → (st : NodeState) → IsLike sc m st → (first : ℕ) (sense : ℕ → Sense) → IsLike sc (next sc m) (close_sync sc.sizes Biu st (q + 1) first sense).state

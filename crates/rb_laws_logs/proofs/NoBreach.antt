@@ -122,9 +122,6 @@ goes-on sc none (suc p) le =
     differs : (a b : ℕ) → a < b → (a == b) ≡ false
     differs a b h = grind (arith, nat_tests)
 
-pub record IsLastStep (sc : Scenario) : Type 0 where
-  pub given : records_of sc [] ≡ (moment sc [] (last_moment sc)).book.given ++ Ended ∷ []
-
 end-open : (b : Book) → b.ended ≡ false → with_end b ≡ record b { given = b.given ++ Ended ∷ []; ended = true }
 end-open b h = ap (λ e. elim e as (λ _. Book) [ true ↦ b | false ↦ record b { given = b.given ++ Ended ∷ []; ended = true } ]) h
 

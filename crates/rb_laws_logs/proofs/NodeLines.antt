@@ -76,13 +76,6 @@ newest-append newest (Breach place cause ∷ xs) ys = newest-append newest xs ys
 
 -- A slot.
 
--- what another node tells leaves no line of the named one
-other-line : (name : NodeName) (frame slot i : ℕ) → same_node (Biu i) name ≡ false → (o : Option SlotLine) → ((l : SlotLine) → o ≡ Some l → l.receiver ≡ i)
-    → if_there (delivered_by name frame slot) o ≡ []
-other-line name frame slot i other None of = refl
-other-line name frame slot i other (Some l) of =
-    ap (λ b. if b then delivery_text frame slot l.receiver l.sender l.value else []) (ap (λ k. same_node (Biu k) name) (of l refl) ∙ other)
-
 -- the lines of the node among those that all tell of a slot
 pub slot-lines : (sc : Scenario) (m : Moment) (name : NodeName) (st : NodeState) → state_of name m ≡ Some st
     → flat_map (delivered_by name m.frame (slot_numbered sc.sizes m.window)) (filter_map line_in (map_each (λ (me : Side) (i : ℕ) (r : Result). r.row) (results_of sc m)).bius)

@@ -5,7 +5,7 @@ use Rattle.rb_base.specs.{Nodes.{Side, other}, Sizes.Sizes}
 use Rattle.rb_base.proofs.Plain.{option_map-back}
 use Rattle.rb_rules.specs.{declared.message.Message.Message, Book.{Each, of_kind}, Core.Act, Entries.IsListed, Goodness.{Scenario, is_good}, Hearing.{Coming, coming_of}, Lawful.IsLawful, Ports.{HandIn, PortState}, Slots.{count_of, same_side}, WorldStep.{Site, after_act, after_arrival, at_node, pass_and_tick, with_message}, declared.closing.Closed.Closed, declared.record.Epoch.Epoch, Hearing.{Sending, Span}, Book.map_each, WorldStep.{await, enter, proceed, says_in, sent_to, span_from, stop, with_close, with_epoch}}
 use Rattle.rb_laws_events.specs.PendingEvents.{most_coming}
-use Rattle.rb_laws_events.proofs.{BreakBegins.FirstCloses, BreakNodes.KeepsNodes, EventsHold.{keeps, nodes_at}, FewKeeps.{may-arrives, may-reached, may_at, steps-at, sum-same, tick-small}, FewOff.{HaveRooms, messages_in, rooms-change}, PendingLists.{StandsAt, filter-last}, Takes.length-without, WorldStands.{IsDown, IsUp, is_node, node-is, sent_by}, WorldTicks.{after_tick, get-after, length-after, moved}, EachAlike.each-alike}
+use Rattle.rb_laws_events.proofs.{BreakBegins.FirstCloses, BreakNodes.KeepsNodes, EventsHold.{keeps, nodes_at}, FewKeeps.{FewAt, few-on, may-after, may-arrives, may_at, steps-at, sum-same, tick-small}, FewOff.{HaveRooms, messages_in, rooms-change}, PendingLists.{StandsAt, filter-last}, Takes.length-without, WorldStands.{IsDown, IsUp, is_node, node-is, sent_by}, WorldTicks.{after_tick, get-after, length-after, moved}, EachAlike.each-alike}
 use Rattle.rb_rules.proofs.WindowNumbers.{get-each}
 use Rattle.rb_laws_sweeps.proofs.{HadThere.{had-where-it-stands, had_of, is_known}, Settles.each-fuse}
 
@@ -32,8 +32,8 @@ rooms-had sc q hands b sent sites h me i s there =
 
 -- The first close.
 
-begins-had : (sc : Scenario) → IsListed sc → (q : ℕ) (hands : List HandIn) (b now : ℕ) (at : Side → ℕ → ℕ) (sites : Each Site) (t : ℕ) → FirstCloses sc hands now at sites b t → HadOff sc q hands b sites
-begins-had sc listed q hands b now at sites t h = record {
+begins-had : (sc : Scenario) → IsListed sc → (q : ℕ) → FewAt sc q → (hands : List HandIn) (b now : ℕ) (at : Side → ℕ → ℕ) (sites : Each Site) (t : ℕ) → FirstCloses sc hands now at sites b t → HadOff sc q hands b sites
+begins-had sc listed q few hands b now at sites t h = record {
   sends = λ _ _. 2;
   enters = λ _ _. 2;
   rooms = record {
@@ -46,7 +46,7 @@ begins-had sc listed q hands b now at sites t h = record {
         omega (arith, all, few, same, long);
   };
   counts = h.stand.counts;
-  may = λ me i s there. starts q me i s;
+  may = λ me i s there. inl (few.most, few.most);
 }
   where
     here : (me : Side) (i : ℕ) (s : Site) → slice_get (of_kind me sites) i ≡ Some s → (r : Bool) → s.runs ≡ r
@@ -62,13 +62,6 @@ begins-had sc listed q hands b now at sites t h = record {
         let none : length s.coming ≡ 0 = ap length down.coming in
         let had : length (had_of sc.sizes me s) ≡ 0 = ap (λ r. length (elim r as (λ _. List Coming) [ true ↦ filter (is_known sc.sizes me) s.got | false ↦ [] ])) e in
         omega (arith, none, had)
-
-    starts : (q : ℕ) (me : Side) (i : ℕ) (s : Site) → may_at sc q hands b me i 2 2 s
-    starts zero me i s = inl (omega arith, omega arith)
-    starts (suc zero) me i s = inl (omega arith, omega arith)
-    starts (suc (suc q)) me i s = inl (omega arith, omega arith)
-
--- Messages and arrivals.
 
 -- What came to the nodes after one of them changes and a message is on its way.
 
@@ -115,11 +108,11 @@ had-node sizes me i change s sites there =
         ∙ ap (λ k. with_had sizes k n (change z)) (sym is.0)
 
 -- `HadOff` is kept if one node changes and a message is on its way
-changes-had : (sc : Scenario) (q : ℕ) (hands : List HandIn) (b : ℕ) (sites : Each Site) (me : Side) (i frame k : ℕ) (m : Option Message) (change : Site → Site) (s : Site) (r e : ℕ)
+changes-had : (sc : Scenario) (q : ℕ) → FewAt sc q → (hands : List HandIn) (b : ℕ) (sites : Each Site) (me : Side) (i frame k : ℕ) (m : Option Message) (change : Site → Site) (s : Site) (r e : ℕ)
     → (h : HadOff sc q hands b sites) → slice_get (of_kind me sites) i ≡ Some s
     → length (with_had sc.sizes me i (change s)).coming + e * length sc.says ≤ length (with_had sc.sizes me i s).coming + h.enters me i * length sc.says
     → r + messages_in m ≤ h.sends me i → may_at sc q hands b me i r e (change s) → HadOff sc q hands b (with_message sc me i frame k m (at_node me i change sites))
-changes-had sc q hands b sites me i frame k m change s r e h there room sent may = record {
+changes-had sc q few hands b sites me i frame k m change s r e h there room sent may = record {
   sends = moved me i r h.sends;
   enters = moved me i e h.enters;
   rooms = subst (HaveRooms sc (most_coming sc) (moved me i r h.sends) (moved me i e h.enters))
@@ -128,21 +121,8 @@ changes-had sc q hands b sites me i frame k m change s r e h there room sent may
       (let within = slice_get_within (of_kind me sites) i s there in let long = h.counts me in omega (arith, within, long))
       (get-each (with_had sc.sizes) sites me i ∙ ap (option_map (with_had sc.sizes me i)) there) room sent h.rooms);
   counts = λ side. length-after sc me i frame k m change sites side ∙ h.counts side;
-  may = λ side j z f.
-      let was = option_map-back (after_tick sc me i frame k m change side j) (slice_get (of_kind side sites) j) z (sym (get-after sc me i frame k m change sites side j) ∙ f) in
-      subst (may_at sc q hands b side j (moved me i r h.sends side j) (moved me i e h.enters side j)) was.1.1
-      (may-reached sc q hands b me i frame k m side j (moved me i r h.sends side j) (moved me i e h.enters side j) (elim (is_node me i side j) as (λ _. Site) [ true ↦ change was.0 | false ↦ was.0 ])
-      (its side j was.0 was.1.0 (is_node me i side j) refl));
+  may = may-after sc q few hands b sites me i frame k m change s r e h.sends h.enters there h.may may;
 }
-  where
-    its : (side : Side) (j : ℕ) (was : Site) → slice_get (of_kind side sites) j ≡ Some was → (d : Bool) → is_node me i side j ≡ d
-        → may_at sc q hands b side j (elim d as (λ _. ℕ) [ true ↦ r | false ↦ h.sends side j ]) (elim d as (λ _. ℕ) [ true ↦ e | false ↦ h.enters side j ]) (elim d as (λ _. Site) [ true ↦ change was | false ↦ was ])
-    its side j was at true f =
-        let is = node-is me side i j f in
-        let here : slice_get (of_kind me sites) i ≡ Some was = sym (ap (λ y. slice_get (of_kind y sites) j) is.0 ∙ ap (slice_get (of_kind me sites)) is.1) ∙ at in
-        subst (λ was. may_at sc q hands b side j r e (change was)) (same_Some s was (sym there ∙ here))
-        (subst (λ y. may_at sc q hands b y j r e (change s)) (sym is.0) (subst (λ n. may_at sc q hands b me n r e (change s)) (sym is.1) may))
-    its side j was at false f = h.may side j was at
 
 -- What came, after a tick and after an arrival.
 
@@ -201,7 +181,7 @@ arrived-had sc me i n c s h =
 
 pub had-keeps : (sc : Scenario) → IsListed sc → IsLawful sc → (q : ℕ) → q < 3 → KeepsNodes sc q (had_at sc q)
 had-keeps sc listed lawful q small = record {
-  begins = λ hands b off now at sites t first. (its.begins hands b off now at sites t first, begins-had sc listed q hands b now at sites t first);
+  begins = λ hands b off now at sites t first. (its.begins hands b off now at sites t first, begins-had sc listed q few hands b now at sites t first);
   waits = λ hands b off sent sites h. its.waits hands b off sent sites h.0;
   told = λ hands b off sent ports sites h. its.told hands b off sent ports sites h.0;
   tick = λ hands b off sent ports sites h me i frame s a t there.
@@ -213,14 +193,14 @@ had-keeps sc listed lawful q small = record {
       let new = length-append (had_of sc.sizes me z) z.coming in
       let old = length-append (had_of sc.sizes me s) s.coming in (
         its.tick hands b off sent ports sites h.0 me i frame s a t there,
-        changes-had sc q hands b sites me i frame a.tick x.message (after_act sc ports me i x) s step.sends step.enters h.1 there (omega (arith, room, less, new, old)) step.sent step.may,
+        changes-had sc q few hands b sites me i frame a.tick x.message (after_act sc ports me i x) s step.sends step.enters h.1 there (omega (arith, room, less, new, old)) step.sent step.may,
       );
   arrival = λ hands b off sent sites h me i n c s moves there stands due first.
       let none : Option Message = None in
       let less = arrived-had sc me i n c s stands in (
         its.arrival hands b off sent sites h.0 me i n c s moves there stands due first,
-        changes-had sc q hands b sites me i 0 0 none (after_arrival sc me i n c) s (h.1.sends me i) (h.1.enters me i) h.1 there (omega (arith, less)) (omega arith)
-            (may-arrives sc q hands b me i (h.1.sends me i) (h.1.enters me i) n c s moves (λ a e. (due a e).before_tick) (h.1.may me i s there)),
+        changes-had sc q few hands b sites me i 0 0 none (after_arrival sc me i n c) s (h.1.sends me i) (h.1.enters me i) h.1 there (omega (arith, less)) (omega arith)
+            (may-arrives sc q few hands b me i (h.1.sends me i) (h.1.enters me i) n c s moves (λ a e. (due a e).before_tick) (h.1.may me i s there)),
       );
   goes = λ hands b off sent sites h. its.goes hands b off sent sites h.0;
   ahead = λ hands b off sent sites h. its.ahead hands b off sent sites h.0;
@@ -228,3 +208,6 @@ had-keeps sc listed lawful q small = record {
   where
     its : KeepsNodes sc q (nodes_at sc q)
     its = keeps sc lawful q small
+
+    few : FewAt sc q
+    few = few-on sc listed lawful q small

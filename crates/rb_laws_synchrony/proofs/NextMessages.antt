@@ -1,39 +1,13 @@
 -- For the law that events are rounds: what good nodes send for the stage after one in which the run
 -- breaks off.
-use Rattle.std.proofs.{Common.{◌≡◌, ℕ, ◌+◌, ◌-◌, ◌*◌, ◌/◌, ◌%◌, ◌≤◌, ◌<◌, List, Some, option_map, refl, sym, ◌∙◌, ap, subst, arith, inl, inr, lit<}, lemmas.Bool.cases_lt, lemmas.Option.same_Some}
+use Rattle.std.proofs.{Common.{◌≡◌, ℕ, ◌+◌, ◌-◌, ◌*◌, ◌≤◌, ◌<◌, Some, option_map, sym, ◌∙◌, ap, subst, arith}, lemmas.Option.same_Some}
 use Rattle.rb_base.specs.{Nodes.Side.{Biu, Rmu}, Sizes.sync_slot_of}
-use Rattle.rb_rules.specs.{Clock.time_of, Goodness.{Scenario, clock_of}, Lawful.IsLawful, NodeState.NodeState, Plan.{f0_of, shortest_of}, Ports.HandIn, Rounds.{IsTimely, Moment, sent_in, window_in}, SyncStage.new_epoch_of}
-use Rattle.rb_rules.proofs.{Middles.IsBetween, RoundStates.through-stays}
-use Rattle.rb_laws_agreement.proofs.{Goodnesses.slot_last, Invariant.{Agree, IsGoodNode, Shared}, NextMoments.{CameFrom, came_from, next}, NodeWindows.sync_windows_are, SlotRuns.{next-frame, next-window}}
-use Rattle.rb_laws_synchrony.proofs.{PlanNumbers.{drift_of, eps_of}, StageCalls.{Begun, IsAt, clock_now, first_about, first_at, first_calls, third_about, third_at, third_calls}, Synchronous.{Synchronous, from_1, from_3, ticks_on, to_1, to_3}, SyncSteps.begun_next, TimelyMoments.{AllInFrame, timely_exact, timely_stage}, TimelyWindows.IsSet, Times.{Steady, lawful_fits, plan_fits}}
+use Rattle.rb_rules.specs.{Clock.time_of, Goodness.{Scenario, clock_of}, Lawful.IsLawful, NodeState.NodeState, Plan.{f0_of, shortest_of}, Rounds.{Moment}, SyncStage.new_epoch_of}
+use Rattle.rb_rules.proofs.{Middles.IsBetween}
+use Rattle.rb_laws_agreement.proofs.{Invariant.{IsGoodNode, Shared}}
+use Rattle.rb_laws_synchrony.proofs.{PlanNumbers.{drift_of, eps_of}, StageCalls.{IsAt, clock_now, third_about, third_at, third_calls}, Synchronous.{Synchronous, from_3, ticks_on, to_3}, TimelyWindows.IsSet, Times.{Steady, lawful_fits, plan_fits}}
 
 -- ---- windows below the sync slot, and its stage 1
-
--- stage 1 of the sync slot needs no middles
-pub timely_first : (sc : Scenario) (m : Moment) (low : ℕ) → IsLawful sc → AllInFrame sc m → Begun sc m low → m.window ≡ 3 * sync_slot_of sc.sizes + 0 → IsTimely sc m
-timely_first sc m low law frames begun at =
-    let c : IsSet sc m (sync_slot_of sc.sizes) 1 =
-    record { law = law; ws = sync_windows_are sc m 0 (lit< tt) at; slot_is = slot_last sc.sizes m.window 0 at; frames = frames } in
-    timely_stage sc m 0 c Biu (f0_of sc.sizes sc.plan) sc.plan.l (from_1 sc low) (to_1 sc low) refl law.plan.l.0 (first_at sc m c.ws at) (first_calls sc law m low begun)
-    (first_about sc m c at low begun)
-
--- the next window up to that stage is timely whatever the verdict on this one
-pub timely_next : (sc : Scenario) (hands : List HandIn) (n : ℕ) (m : Moment) (s : Shared) (low : ℕ) → IsLawful sc → Agree sc hands n m s → Begun sc m low
-    → m.window < 3 * sync_slot_of sc.sizes → IsTimely sc (next sc m)
-timely_next sc hands n m s low law agree begun below =
-    let window : (next sc m).window ≡ m.window + 1 = next-window sc m in
-    let begun_then : Begun sc (next sc m) low = begun_next sc hands n m s low agree begun in
-    elim (cases_lt (next sc m).window (3 * sync_slot_of sc.sizes)) [
-      | inl exact ↦
-          timely_exact sc (next sc m) ((next sc m).window / 3) ((next sc m).window % 3) low law frames begun_then (omega arith) (omega arith) (omega arith)
-      | inr last ↦ timely_first sc (next sc m) low law frames begun_then (omega arith)
-    ]
-  where
-    frames : AllInFrame sc (next sc m)
-    frames me i now h =
-        let from : CameFrom sc m me i now = came_from sc hands n m s agree me i now h in
-        ap (λ x. x.frame) (sym from.is) ∙ (through-stays sc m (sent_in sc m) me i from.st (window_in sc m me from.st)).frame
-        ∙ (agree.nodes me i from.st from.was).frame ∙ sym (next-frame sc m)
 
 -- ---- the last stage of the frame
 
