@@ -3,7 +3,7 @@
 -- tells nothing up to the last tick of the next window.
 use Rattle.std.proofs.{Common.{◌≡◌, ℕ, ◌+◌, ◌<◌, ◌≤◌, ◌==◌, ◌&&◌, if◌then◌else◌, Bool, true, false, List, [], ◌∷◌, ◌++◌, not, nat_lt, refl, ap, sym, ◌∙◌, subst, arith, inl, inr, Option, Some, None, is_some}, lemmas.Bool.cases_lt, lemmas.Bool.Decides.nat_tests}
 use Rattle.rb_base.specs.{Nodes.{Side, other}, Sizes.Sizes}
-use Rattle.rb_base.proofs.Plain.{less-differs, true-false}
+use Rattle.rb_base.proofs.Plain.{less-differs, true-false, more-differs}
 use Rattle.rb_rules.specs.{declared.message.Message.Message, declared.plan.Plan.Plan, Core.{Act, Core, act_at, act_on, arrive, epoch_at, is_last, is_spent, is_tick, of_source, said_at, state_at, state_kept, tick, window_here}, ExactStage.{Outcome, says}, Hearing.close_window, NodeState.NodeState, NodeSteps.turn_if_known, Plan.tail_start_of, Slots.count_of, SyncStage.new_epoch_of}
 use Rattle.rb_rules.proofs.RoundStates.{HasTicks}
 use Rattle.rb_laws_events.specs.Closing.{stages_in}
@@ -24,12 +24,9 @@ unfolding state_at
 turns-later sizes plan me c n k ticks next le at =
     ap (λ b. elim b as (λ _. NodeState) [ true ↦ turn_if_known sizes plan me c | false ↦ c ]) (no-tick (new_epoch_of plan me c) later)
   where
-    differs : (a b : ℕ) → b < a → (a == b) ≡ false
-    differs a b h = grind (arith, nat_tests)
-
     no-tick : (o : Option ℕ) → ((x : ℕ) → o ≡ Some x → k < x) → is_tick o k ≡ false
     no-tick None h = refl
-    no-tick (Some x) h = differs x k (h x refl)
+    no-tick (Some x) h = more-differs x k (h x refl)
 
     later : (x : ℕ) → new_epoch_of plan me c ≡ Some x → k < x
     later x e =
