@@ -1,8 +1,8 @@
 -- For the law that cores follow the rounds: ports in a run that breaks off. The port of a BIU stays
 -- that of the rounds before the breaking stage until the BIU has had its last tick of the stage.
-use Rattle.std.proofs.{Common.{◌≡◌, ℕ, ◌+◌, ◌<◌, ◌≤◌, ◌==◌, ◌⊎◌, Bool, true, false, refl, ap, sym, ◌∙◌, subst, arith, inl, inr, List, [], Option, Some, None, slice_get, option_and_then}, lemmas.Bool.cases_lt, lemmas.Bool.Decides.nat_tests, lemmas.Option.same_Some}
+use Rattle.std.proofs.{Common.{◌≡◌, ℕ, ◌+◌, ◌<◌, ◌≤◌, ◌==◌, ◌⊎◌, Bool, true, false, refl, ap, sym, ◌∙◌, subst, arith, inl, inr, List, Option, Some, None, slice_get, option_and_then}, lemmas.Bool.cases_lt, lemmas.Bool.Decides.nat_tests, lemmas.Option.same_Some}
 use Rattle.rb_base.specs.{Nodes.Side, Nodes.Side.{Biu, Rmu}, Sizes.sync_slot_of}
-use Rattle.rb_rules.specs.{declared.closing.Closed.Closed, declared.message.Message.Message, declared.plan.Window.Window, Book.{Each, Row, of_kind}, Clock.{Timeline, stamp_of, time_of}, ExactStage.Outcome, Core.{Act, Core, act_at, act_on, epoch_at, is_last, is_spent, of_source, pass_to, said_at, state_at, state_kept, tick, window_here}, Goodness.{Scenario, clock_of}, Hearing.{Coming, close_window, port_at}, Lawful.IsLawful, NodeState.NodeState, Ports.{HandIn, PortState}, Rounds.{Moment, moment}, WorldStep.{Pending, Site, Timed, World, after_act, after_arrival, at_node, pass_and_tick, wants_in, with_act, with_delivery, with_message, with_pending, word_of}, WorldStep.Pending.{Arrival, Tick}}
+use Rattle.rb_rules.specs.{declared.closing.Closed.Closed, declared.message.Message.Message, declared.plan.Window.Window, Book.{Each, Row, of_kind}, Clock.{Timeline, stamp_of, time_of}, Core.{Act, Core, pass_to, said_at, state_at, state_kept, window_here}, Goodness.{Scenario, clock_of}, Hearing.{Coming, port_at}, Lawful.IsLawful, NodeState.NodeState, Ports.{HandIn, PortState}, Rounds.{Moment, moment}, WorldStep.{Pending, Site, Timed, World, after_act, after_arrival, at_node, pass_and_tick, wants_in, with_act, with_delivery, with_message, with_pending, word_of}, WorldStep.Pending.{Arrival, Tick}}
 use Rattle.rb_rules.proofs.{Drift.times_rise_strictly, QuietTicks.arrive-same, Stamps.Moves}
 use Rattle.rb_laws_agreement.proofs.FrameTimes.{good-clock}
 use Rattle.rb_laws_events.specs.Closing.{stages_in}

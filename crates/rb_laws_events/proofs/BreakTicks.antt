@@ -1,9 +1,9 @@
 -- For the law that events are rounds if the premise on faults is broken in a sync slot: as long as
 -- a node waits for the last tick of the stage with which the run breaks off, those that have closed
 -- it do not close the next one, and those of them that are of the kind heard in it say nothing.
-use Rattle.std.proofs.{Common.{◌≡◌, ℕ, suc, ◌+◌, ◌*◌, ◌<◌, ◌≤◌, Bool, true, false, List, [], refl, ap, sym, ◌∙◌, subst, arith, inl, inr, Option, Some, None, slice_get}, lemmas.Bool.cases_lt}
+use Rattle.std.proofs.{Common.{◌≡◌, ℕ, suc, ◌+◌, ◌*◌, ◌<◌, ◌≤◌, true, false, List, refl, ap, sym, ◌∙◌, subst, arith, inl, inr, Option, Some, None, slice_get}, lemmas.Bool.cases_lt}
 use Rattle.rb_base.specs.{Nodes.{Side, other}, Sizes.{Sizes, sync_slot_of}}
-use Rattle.rb_rules.specs.{declared.message.Message.Message, declared.plan.Plan.Plan, declared.role.Role.TheVariants.Sync, Core.{Act, Core, act_at, act_on, epoch_at, is_last, is_spent, of_source, pass_to, said_at, state_at, state_kept, tick, window_here}, ExactStage.Outcome, Book.of_kind, Clock.time_of, Goodness.{Scenario, clock_of}, Hearing.close_window, Lawful.IsLawful, Moments.IsRunning, NodeState.NodeState, Ports.{HandIn, PortState}, Rounds.{Moment, moment, window_in}, Slots.listens, WorldStep.{Site, Timed, after_act, pass_and_tick, wants_in, word_of}}
+use Rattle.rb_rules.specs.{declared.message.Message.Message, declared.plan.Plan.Plan, declared.role.Role.TheVariants.Sync, Core.{Core, pass_to, said_at, state_at, state_kept, tick}, Book.of_kind, Clock.time_of, Goodness.{Scenario, clock_of}, Lawful.IsLawful, Moments.IsRunning, NodeState.NodeState, Ports.{HandIn, PortState}, Rounds.{Moment, moment, window_in}, Slots.listens, WorldStep.{Site, Timed, after_act, pass_and_tick, wants_in, word_of}}
 use Rattle.rb_rules.proofs.{Drift.times_rise_to, RoundStates.Stays}
 use Rattle.rb_laws_events.specs.Closing.{stages_in}
 use Rattle.rb_laws_events.proofs.{ActCases.{act-by, tick-by}, BreachWindows.in-reached, BreakSites.{HasClosed, closed-ticks}, CloseOrder.{IsWindowLater, window-later}, Invariant.{InTime, is_good_at, last_tick, next_stage}, MomentSteps.next-inner, NodeActs.HasRoom, NodeClosing.good-in-sync, NodeMoves.{after-stays, first-alike, get-later, state_after}, PastTicks.turns-later, SilentThere.silent-there, StageOrder.last_of, TickWindows.{IsTickIn, first_of}}

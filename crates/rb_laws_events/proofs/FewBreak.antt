@@ -1,7 +1,7 @@
 -- For the law that pending events are few if the run breaks off with the first or the second stage
 -- of the sync slot: a node that has told its row sends one message at most until all have told, and
 -- enters no window.
-use Rattle.std.proofs.{Common.{◌≡◌, ℕ, zero, suc, ◌+◌, ◌-◌, ◌*◌, ◌^◌, ◌<◌, ◌≤◌, ◌==◌, ◌⊎◌, Bool, true, false, List, refl, ap, sym, ◌∙◌, subst, arith, inl, inr, Option, Some, None, length}, lemmas.Bool.Decides.nat_tests}
+use Rattle.std.proofs.{Common.{◌≡◌, ℕ, zero, suc, ◌+◌, ◌-◌, ◌*◌, ◌^◌, ◌<◌, ◌≤◌, ◌==◌, ◌⊎◌, Bool, true, false, List, refl, ap, sym, ◌∙◌, subst, arith, inl, inr, Option, Some, None, length}}
 use Rattle.rb_base.specs.{Nodes.Side, Sizes.{Sizes, sync_slot_of}}
 use Rattle.rb_base.proofs.Plain.{less-differs}
 use Rattle.rb_rules.specs.{declared.message.Message.Message, declared.plan.Plan.Plan, declared.plan.Window.Window, Core.{Act, Core, pass_to, said_at, state_at, window_here}, Entries.IsListed, Goodness.{Scenario, clock_of}, Hearing.{Coming, Span, span_of, window_numbered}, Lawful.IsLawful, Moments.IsRunning, NodeState.NodeState, Ports.{HandIn, PortState}, Rounds.moment, WorldStep.{Site, Timed, after_act, after_arrival, pass_and_tick, span_from, wants_in, word_of}}

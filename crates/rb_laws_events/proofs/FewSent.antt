@@ -1,10 +1,10 @@
 -- For the law that pending events are few if the run breaks off in a sync slot: in the sync slot,
 -- after its first stage, a node sends one message at most, whatever middles it keeps.
-use Rattle.std.proofs.{Common.{◌≡◌, ℕ, ◌+◌, ◌-◌, ◌*◌, ◌<◌, ◌≤◌, ◌==◌, ◌⊎◌, Bool, true, false, [], refl, ap, sym, ◌∙◌, subst, arith, inl, inr, Option, Some, None, option_map, if◌then◌else◌}, lemmas.Bool.{eqb-true, or_cases}, lemmas.Option.same_Some}
+use Rattle.std.proofs.{Common.{◌≡◌, ℕ, ◌+◌, ◌-◌, ◌*◌, ◌<◌, ◌≤◌, ◌==◌, ◌⊎◌, Bool, true, false, refl, ap, sym, ◌∙◌, subst, arith, inl, inr, Option, Some, None, option_map, if◌then◌else◌}, lemmas.Bool.{eqb-true, or_cases}, lemmas.Option.same_Some}
 use Rattle.std.specs.Option.{option_or}
 use Rattle.rb_base.specs.{Nodes.{Side, other}, Nodes.Side.{Biu, Rmu}, Sizes.{Sizes, sync_slot_of}}
 use Rattle.rb_base.proofs.Plain.{and_first, none_not_some}
-use Rattle.rb_rules.specs.{declared.message.Message.Message, declared.plan.Plan.Plan, declared.role.Role.TheVariants.Sync, Clock.stamp_of, Core.{Act, Core, arrive, pass_to, act_at, act_on, epoch_at, if_at, is_last, is_spent, of_source, said_at, state_at, state_kept, tick, window_here}, ExactStage.Outcome, Goodness.{Scenario, clock_of}, Hearing.{Coming, Sending, close_window, sending}, NodeState.NodeState, Plan.f0_of, Slots.listens, SyncStage.call_tick_of, WorldStep.{Site, after_arrival}}
+use Rattle.rb_rules.specs.{declared.message.Message.Message, declared.plan.Plan.Plan, declared.role.Role.TheVariants.Sync, Clock.stamp_of, Core.{Act, Core, arrive, pass_to, if_at, said_at, state_at, state_kept, tick, window_here}, Goodness.{Scenario, clock_of}, Hearing.{Coming, Sending, sending}, NodeState.NodeState, Plan.f0_of, Slots.listens, SyncStage.call_tick_of, WorldStep.{Site, after_arrival}}
 use Rattle.rb_rules.proofs.QuietTicks.{arrive-same}
 use Rattle.rb_laws_synchrony.proofs.TakenCalls.{call_sent}
 use Rattle.rb_laws_events.specs.Closing.{stages_in}

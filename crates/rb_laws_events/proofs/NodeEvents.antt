@@ -1,6 +1,6 @@
 -- For the law that events are rounds: a node stays where it stands when something comes to it, when
 -- an event happens elsewhere, and at a tick that is not the last of its window.
-use Rattle.std.proofs.{Common.{◌≡◌, ℕ, suc, ◌+◌, ◌^◌, ◌<◌, ◌≤◌, ◌==◌, Bool, true, false, List, [], ◌∷◌, ◌++◌, map, refl, ap, sym, ◌∙◌, subst, arith, Option, Some, None, option_map, option_to_list}, lemmas.Bool.Decides.nat_tests, lemmas.List.append-nil}
+use Rattle.std.proofs.{Common.{◌≡◌, ℕ, suc, ◌+◌, ◌^◌, ◌<◌, ◌≤◌, ◌==◌, Bool, true, false, List, [], ◌∷◌, ◌++◌, map, refl, ap, sym, ◌∙◌, subst, arith, Option, Some, None, option_map, option_to_list}, lemmas.List.append-nil}
 use Rattle.rb_base.specs.{Nodes.Side, Sizes.Sizes}
 use Rattle.rb_base.proofs.Plain.{less-differs}
 use Rattle.rb_rules.specs.{declared.plan.Plan.Plan, declared.record.Epoch.Epoch, Book.Begun, Clock.{Timeline, time_of, stamp_of}, Core.{Core, Act, arrive, next_tick, pass_to, state_at, window_here}, Goodness.{Scenario, clock_of}, Hearing.{Coming, Span, span_of, begun_of, window_numbered}, NodeState.NodeState, Ports.{HandIn, PortState}, Rounds.{Moment, moment}, WorldStep.{Timed, Site, after_act, after_arrival, enter, pass_and_tick, proceed, span_from, times_of, with_close, with_epoch}}

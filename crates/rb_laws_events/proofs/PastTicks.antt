@@ -1,10 +1,10 @@
 -- For the law that events are rounds if the premise on faults is broken in a sync slot: what a node
 -- does after it has closed the stage with which the run breaks off. Whatever middles it keeps, it
 -- tells nothing up to the last tick of the next window.
-use Rattle.std.proofs.{Common.{◌≡◌, ℕ, ◌+◌, ◌<◌, ◌≤◌, ◌==◌, ◌&&◌, if◌then◌else◌, Bool, true, false, List, [], ◌∷◌, ◌++◌, not, nat_lt, refl, ap, sym, ◌∙◌, subst, arith, inl, inr, Option, Some, None, is_some}, lemmas.Bool.cases_lt, lemmas.Bool.Decides.nat_tests}
+use Rattle.std.proofs.{Common.{◌≡◌, ℕ, ◌+◌, ◌<◌, ◌≤◌, ◌==◌, ◌&&◌, if◌then◌else◌, Bool, true, false, List, [], ◌∷◌, ◌++◌, not, nat_lt, refl, ap, sym, ◌∙◌, subst, arith, inl, inr, Option, Some, None, is_some}, lemmas.Bool.cases_lt}
 use Rattle.rb_base.specs.{Nodes.{Side, other}, Sizes.Sizes}
 use Rattle.rb_base.proofs.Plain.{less-differs, true-false, more-differs}
-use Rattle.rb_rules.specs.{declared.message.Message.Message, declared.plan.Plan.Plan, Core.{Act, Core, act_at, act_on, arrive, epoch_at, is_last, is_spent, is_tick, of_source, said_at, state_at, state_kept, tick, window_here}, ExactStage.{Outcome, says}, Hearing.close_window, NodeState.NodeState, NodeSteps.turn_if_known, Plan.tail_start_of, Slots.count_of, SyncStage.new_epoch_of}
+use Rattle.rb_rules.specs.{declared.message.Message.Message, declared.plan.Plan.Plan, Core.{Act, Core, arrive, is_last, is_spent, is_tick, said_at, state_at, state_kept, tick}, ExactStage.{says}, NodeState.NodeState, NodeSteps.turn_if_known, Plan.tail_start_of, Slots.count_of, SyncStage.new_epoch_of}
 use Rattle.rb_rules.proofs.RoundStates.{HasTicks}
 use Rattle.rb_laws_events.specs.Closing.{stages_in}
 use Rattle.rb_laws_events.proofs.{ActCases.{act-by, act_of, tick-by}, NodeTicks.{Like, like-kept, like-itself, past-tail, tail-first}, StageOrder.last_of, TickWindows.{IsTickIn, ends-before-later, first_of, last-is}}

@@ -1,10 +1,10 @@
 -- For the law that events are rounds if the premise on faults is broken in a sync slot: what a node
 -- does after it has closed the last stage of its frame. It goes through the tail and begins the
 -- next frame, and closes no stage before the end of that one's first window.
-use Rattle.std.proofs.{Common.{◌≡◌, ℕ, ◌+◌, ◌*◌, ◌-◌, ◌<◌, ◌≤◌, ◌==◌, ◌&&◌, ◌⊎◌, if◌then◌else◌, Bool, true, false, List, [], refl, ap, sym, ◌∙◌, subst, arith, inl, inr, Option, Some, None, is_some, option_map, unwrap_or, slice_get}, lemmas.Bool.eqb-true, lemmas.Bool.Decides.nat_tests}
+use Rattle.std.proofs.{Common.{◌≡◌, ℕ, ◌+◌, ◌*◌, ◌-◌, ◌<◌, ◌≤◌, ◌==◌, ◌&&◌, ◌⊎◌, if◌then◌else◌, Bool, true, false, List, refl, ap, sym, ◌∙◌, subst, arith, inl, inr, Option, Some, None, is_some, option_map, unwrap_or, slice_get}, lemmas.Bool.eqb-true, lemmas.Bool.Decides.nat_tests}
 use Rattle.rb_base.specs.{Nodes.{Side, other}, Nodes.Side.{Biu, Rmu}, Sizes.{Sizes, sync_slot_of}}
 use Rattle.rb_base.proofs.Plain.{less-differs, none_not_some, true-false}
-use Rattle.rb_rules.specs.{declared.closing.Closed.Closed as Shown, declared.message.Message.Message, declared.plan.Plan.Plan, declared.plan.Window.Window, declared.role.Role.TheVariants.Sync, declared.sense.Sense.Sense, Core.{Act, Core, act_on, epoch_at, if_at, is_last, of_source, said_at, state_kept, window_here}, ExactStage.{Outcome, close_exact, says}, Hearing.{Sending, close_window, window_numbered}, NodeState.NodeState, NodeSteps.expect_of, Plan.tail_start_of, Sense.{Arrival, sense_of}, Slots.listens, Standing.{has_evidence, with_evidence}, SyncStage.{close_sync, expects_call, new_epoch_of}, Windows.{tail_of, windows_of_frame}}
+use Rattle.rb_rules.specs.{declared.closing.Closed.Closed as Shown, declared.message.Message.Message, declared.plan.Plan.Plan, declared.plan.Window.Window, declared.role.Role.TheVariants.Sync, declared.sense.Sense.Sense, Core.{Act, Core, act_on, if_at, is_last, of_source, said_at, state_kept, window_here}, ExactStage.{Outcome, close_exact, says}, Hearing.{Sending, close_window, window_numbered}, NodeState.NodeState, NodeSteps.expect_of, Plan.tail_start_of, Sense.{Arrival, sense_of}, Slots.listens, Standing.{has_evidence, with_evidence}, SyncStage.{close_sync, expects_call, new_epoch_of}, Windows.{tail_of, windows_of_frame}}
 use Rattle.rb_rules.proofs.WindowNumbers.{sync-numbered}
 use Rattle.rb_laws_events.specs.Closing.{stages_in}
 use Rattle.rb_laws_events.proofs.{ActCases.{act-by, closing_act, open_act}, DeafCloses.deaf-state, NodeActs.HasRoom, NodeClosing.closed-stage, NodeSends.{KeepsTime, said-is, sending_at, sent-exactly}, NodeTicks.{tail-first, tail-last}, SilentThere.silent-there, StageOrder.{last_of, last-same}, TickWindows.{IsTickIn, first_of, first-same, here-is, last-is}}
@@ -276,6 +276,7 @@ tail-act sizes plan me i frame e x c word room low h lt = act-by Goes sizes plan
       },
       closes-same,
     )
+
     goes : Goes (open_act sizes me c st m kept)
     goes = (
       record {

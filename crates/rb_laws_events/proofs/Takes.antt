@@ -3,7 +3,7 @@
 use Rattle.std.proofs.{Common.{◌≡◌, ℕ, zero, suc, ◌+◌, ◌-◌, ◌*◌, ◌^◌, ◌<◌, ◌≤◌, ◌==◌, ◌&&◌, Bool, true, false, List, [], ◌∷◌, ◌++◌, length, refl, ap, sym, ◌∙◌, subst, arith, Option, Some, None, option_map, remove, slice_get}, lemmas.Bool.Decides.nat_tests, lemmas.Nat.mul-le}
 use Rattle.rb_base.specs.{Nodes.{Side, other}, Nodes.Side.{Biu, Rmu}, Sizes.Sizes}
 use Rattle.rb_base.proofs.Plain.{true-false}
-use Rattle.rb_rules.specs.{declared.closing.Closed.Closed, declared.message.Message.Message, declared.plan.Plan.Plan, declared.record.Epoch.Epoch, Book.{Each, map_from, of_kind}, Core.{Act, Core, act_at, act_on, busy_among, is_busy, is_last, is_spent, next_tick, pass_to, said_at, state_at, state_kept, tick, window_here, epoch_at, of_source}, Goodness.{Scenario, is_good}, Hearing.{Coming, Sending, Span, close_window, coming_of}, NodeState.NodeState, Ports.PortState, Slots.same_side, WorldStep.{Site, Timed, after_act, after_arrival, at_node, await, enter, pass_and_tick, proceed, says_in, sent_to, span_from, stop, with_close, with_epoch, with_message}}
+use Rattle.rb_rules.specs.{declared.closing.Closed.Closed, declared.message.Message.Message, declared.plan.Plan.Plan, declared.record.Epoch.Epoch, Book.{Each, map_from, of_kind}, Core.{Act, Core, busy_among, is_busy, is_spent, next_tick, pass_to, said_at, state_at, state_kept, tick}, Goodness.{Scenario, is_good}, Hearing.{Coming, Sending, Span, coming_of}, NodeState.NodeState, Ports.PortState, Slots.same_side, WorldStep.{Site, Timed, after_act, after_arrival, at_node, await, enter, pass_and_tick, proceed, says_in, sent_to, span_from, stop, with_close, with_epoch, with_message}}
 use Rattle.rb_laws_events.specs.Laws.{SayAtMost, most_with, nodes_of}
 use Rattle.rb_laws_events.proofs.{ActCases.{act-by, tick-by}, PendingLists.StandsAt}
 

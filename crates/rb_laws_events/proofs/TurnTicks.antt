@@ -4,7 +4,7 @@
 use Rattle.std.proofs.{Common.{◌≡◌, ℕ, zero, suc, ◌+◌, ◌-◌, ◌^◌, ◌<◌, ◌≤◌, ◌==◌, ◌||◌, ◌⊎◌, Bool, true, false, refl, ap, sym, ◌∙◌, subst, arith, inl, inr, Option, Some, None, is_some}, lemmas.Bool.cases_lt, lemmas.Bool.Decides.nat_tests}
 use Rattle.rb_base.specs.{Nodes.Side, Sizes.Sizes}
 use Rattle.rb_base.proofs.Plain.{eq_self, more-differs, none_not_some}
-use Rattle.rb_rules.specs.{declared.plan.Plan.Plan, Conviction.turn, Core.{Act, Core, act_at, act_on, busy_among, is_busy, is_last, is_spent, is_tick, next_tick, said_at, state_at, state_kept, tick}, NodeState.NodeState, NodeSteps.turn_if_known, Plan.tail_start_of, SyncStage.new_epoch_of}
+use Rattle.rb_rules.specs.{declared.plan.Plan.Plan, Conviction.turn, Core.{Core, busy_among, is_busy, is_last, is_tick, next_tick, said_at, state_at, tick}, NodeState.NodeState, NodeSteps.turn_if_known, Plan.tail_start_of, SyncStage.new_epoch_of}
 use Rattle.rb_laws_events.proofs.{ActCases.{act_of, tick-by}, NodeActs.HasRoom, TailTicks.{GoesOn, HasTurned, IsAfter, IsInTail, tail-act, turned-act, turned-epoch}}
 
 -- The state at a tick.
