@@ -3,6 +3,7 @@
 -- that tick they tell what the rounds tell.
 use Rattle.std.proofs.{Common.{◌≡◌, ℕ, ◌+◌, ◌*◌, ◌<◌, ◌≤◌, ◌==◌, ◌⊎◌, Bool, true, false, List, [], refl, ap, sym, ◌∙◌, subst, arith, inl, inr, Some, slice_get}, lemmas.Bool.cases_lt, lemmas.Bool.Decides.nat_tests}
 use Rattle.rb_base.specs.{Nodes.{Side, other}, Sizes.sync_slot_of}
+use Rattle.rb_base.proofs.Plain.{true-false}
 use Rattle.rb_rules.specs.{declared.role.Role.TheVariants.Sync, declared.plan.Window.Window, Book.of_kind, Clock.time_of, Core.{Act, Core}, Goodness.{Scenario, clock_of}, Hearing.Sending, Lawful.IsLawful, Moments.IsRunning, NodeState.NodeState, Ports.{HandIn, PortState}, Rounds.{Moment, go_through, moment, sent_in, window_in}, Slots.listens, WorldStep.{Site, Timed, after_act, pass_and_tick}}
 use Rattle.rb_rules.proofs.{Drift.times_rise_to, RoundStates.Stays}
 use Rattle.rb_laws_agreement.proofs.NodeWindows.{sync_windows_are}
@@ -114,6 +115,3 @@ hearing-closes sc hands lawful room sent now ports p q running small at me i s h
           omega (arith, low, epoch);
     }))
     (λ deaf. absurd (true-false (sym h.hears ∙ deaf)))
-  where
-    true-false : true ≡ false → ⊥
-    true-false e = cc

@@ -5,7 +5,7 @@ use Rattle.std.proofs.Common.{◌≡◌, ℕ, zero, suc, ◌<◌, ◌≤◌, ◌
 use Rattle.rb_base.specs.Nodes.{Side, other}
 use Rattle.rb_rules.specs.{declared.closing.Closed.Closed as Shown, declared.message.Message.Message, declared.record.Epoch.Epoch, Core.{Act}, Goodness.{Scenario, clock_of, is_good}, Hearing.{Coming, Span, coming_of}, Ports.{HandIn, PortState}, Rounds.moment, Slots.same_side, WorldStep.{Site, Timed, after_act, after_arrival, await, enter, proceed, says_in, span_from, stop, with_close, with_epoch}}
 use Rattle.rb_rules.proofs.Stamps.{Moves}
-use Rattle.rb_laws_events.proofs.{BreakSites.{ArrivalsKeep, Course, HasTold, SiteBreaks, WaitsAhead, WaitsDeaf, deaf-arrives, told-on}, Invariant.{is_good_at}, NodeEvents.stands-arrival, PendingLists.{StandsAt, each-append}, Receiving.{ArrivesNow, every-stands}, SameHeard.Every, WorldTicks.reached}
+use Rattle.rb_laws_events.proofs.{BreakSites.{ArrivalsKeep, Course, HasTold, SiteBreaks, WaitsAhead, WaitsDeaf, deaf-arrives, told-on}, Invariant.{is_good_at}, NodeEvents.stands-arrival, OneEvent.none-stands, PendingLists.{StandsAt, each-append}, Receiving.{ArrivesNow, every-stands}, SameHeard.Every, WorldTicks.reached}
 
 -- Arrivals.
 
@@ -50,11 +50,7 @@ ahead-arrives sc hands sent me i p n c s moves h due =
 pub site-comes : (sc : Scenario) (hands : List HandIn) (C : Course) → ArrivalsKeep sc C → (sent : Side → ℕ → ℕ → Bool) (p : ℕ) (me : Side) (i n : ℕ) (c : Coming) (s : Site) → (is_good_at sc (moment sc hands p) me i ≡ true → Moves (clock_of sc me i)) → StandsAt n c s.coming
     → ((a : Timed) → s.ahead ≡ Some a → ArrivesNow n c s a) → SiteBreaks sc hands C sent p me i s → SiteBreaks sc hands C sent p me i (after_arrival sc me i n c s)
 unfolding after_arrival
-site-comes sc hands C its sent p me i n c s moves stands due (inl stopped) = absurd (none-stands s.coming stopped.coming n stands)
-  where
-    none-stands : (cs : List Coming) → cs ≡ [] → (n : ℕ) → StandsAt n c cs → ⊥
-    none-stands [] e n s = s
-    none-stands (x ∷ xs) e n s = cc
+site-comes sc hands C its sent p me i n c s moves stands due (inl stopped) = absurd (none-stands n c s.coming stopped.coming stands)
 site-comes sc hands C its sent p me i n c s moves stands due (inr (inl h)) = inr (inl (ahead-arrives sc hands sent me i p n c s (moves h.waits.stands.good) h (due h.waits.a h.waits.stands.receives.pends)))
 site-comes sc hands C its sent p me i n c s moves stands due (inr (inr (inl h))) = inr (inr (inl (deaf-arrives sc hands me i p n c s (moves h.good) h (due h.a h.pends).before_tick)))
 site-comes sc hands C its sent p me i n c s moves stands due (inr (inr (inr h))) =

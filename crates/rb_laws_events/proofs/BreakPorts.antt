@@ -1,12 +1,12 @@
 -- For the law that cores follow the rounds: ports in a run that breaks off. The port of a BIU stays
 -- that of the rounds before the breaking stage until the BIU has had its last tick of the stage.
-use Rattle.std.proofs.{Common.{◌≡◌, ℕ, ◌+◌, ◌<◌, ◌≤◌, ◌==◌, ◌⊎◌, Bool, true, false, refl, ap, sym, ◌∙◌, subst, arith, inl, inr, List, [], Option, Some, None, slice_get, option_and_then}, lemmas.Bool.cases_lt, lemmas.Bool.Decides.nat_tests, lemmas.Option.same_Some}
+use Rattle.std.proofs.{Common.{◌≡◌, ℕ, ◌+◌, ◌<◌, ◌≤◌, ◌==◌, ◌⊎◌, Bool, true, false, refl, ap, sym, ◌∙◌, subst, arith, inl, inr, List, Option, Some, None, slice_get, option_and_then}, lemmas.Bool.cases_lt, lemmas.Bool.Decides.nat_tests, lemmas.Option.same_Some}
 use Rattle.rb_base.specs.{Nodes.Side, Nodes.Side.{Biu, Rmu}, Sizes.sync_slot_of}
-use Rattle.rb_rules.specs.{declared.closing.Closed.Closed, declared.message.Message.Message, declared.plan.Window.Window, Book.{Each, Row, of_kind}, Clock.{Timeline, stamp_of, time_of}, ExactStage.Outcome, Core.{Act, Core, act_at, act_on, epoch_at, is_last, is_spent, of_source, pass_to, said_at, state_at, state_kept, tick, window_here}, Goodness.{Scenario, clock_of}, Hearing.{Coming, close_window, port_at}, Lawful.IsLawful, NodeState.NodeState, Ports.{HandIn, PortState}, Rounds.{Moment, moment}, WorldStep.{Pending, Site, Timed, World, after_act, after_arrival, at_node, pass_and_tick, wants_in, with_act, with_delivery, with_message, with_pending, word_of}, WorldStep.Pending.{Arrival, Tick}}
+use Rattle.rb_rules.specs.{declared.closing.Closed.Closed, declared.message.Message.Message, declared.plan.Window.Window, Book.{Each, Row, of_kind}, Clock.{Timeline, stamp_of, time_of}, Core.{Act, Core, pass_to, said_at, state_at, state_kept, window_here}, Goodness.{Scenario, clock_of}, Hearing.{Coming, port_at}, Lawful.IsLawful, NodeState.NodeState, Ports.{HandIn, PortState}, Rounds.{Moment, moment}, WorldStep.{Pending, Site, Timed, World, after_act, after_arrival, at_node, pass_and_tick, wants_in, with_act, with_delivery, with_message, with_pending, word_of}, WorldStep.Pending.{Arrival, Tick}}
 use Rattle.rb_rules.proofs.{Drift.times_rise_strictly, QuietTicks.arrive-same, Stamps.Moves}
 use Rattle.rb_laws_agreement.proofs.FrameTimes.{good-clock}
 use Rattle.rb_laws_events.specs.Closing.{stages_in}
-use Rattle.rb_laws_events.proofs.{BreakNodes.{BreaksAt, FirstOf, KeepsNodes, TellsStage, WaitsLast}, BreakRooms.{acted-had, has-later}, BreakRuns.{NodesOff, reached-core}, DueEvents.IsReady, Invariant.{is_good_at, last_tick}, OneEvent.moves-of, PortMoments.port-kept, PortsInRounds.rmu-none, RoundNodes.slot_numbered, Telling.reached-tells, ToldInOrder.{number_at, number-is, one-changes}, ToldSoFar.arrival-keeps, UpToThere.breaks-later, WorldStands.is_node, WorldTicks.reached}
+use Rattle.rb_laws_events.proofs.{ActCases.{act-by, tick-by}, BreakNodes.{BreaksAt, FirstOf, KeepsNodes, TellsStage, WaitsLast}, BreakRooms.{acted-had, has-later}, BreakRuns.{NodesOff, reached-core}, DueEvents.IsReady, Invariant.{is_good_at, last_tick}, OneEvent.moves-of, PortMoments.port-kept, PortsInRounds.rmu-none, RoundNodes.slot_numbered, Telling.reached-tells, ToldInOrder.{number_at, number-is, one-changes}, ToldSoFar.arrival-keeps, UpToThere.breaks-later, WorldStands.is_node, WorldTicks.reached}
 
 -- What is kept of a port.
 
@@ -74,56 +74,18 @@ changes-ports sc hands b ports more sites me i frame k m change s there same own
 -- A tick.
 
 -- an RMU delivers nothing at a close
-rmu-closes : (sc : Scenario) (i : ℕ) (c : Core) (st : NodeState) (message : Option Message) (kept : NodeState)
-    → option_and_then (λ (c : Closed). c.delivered) (act_on sc.sizes sc.plan Rmu i c st message kept).closed ≡ None
-unfolding act_on
-rmu-closes sc i c st message kept = by (is_last sc.sizes sc.plan Rmu st c.had)
-  where
-    w : Window
-    w = window_here sc.sizes sc.plan Rmu st c.had
-
-    closing : Outcome
-    closing = close_window sc.sizes sc.plan Rmu i kept w (of_source c.inbox)
-
-    by : (b : Bool) → option_and_then (λ (c : Closed). c.delivered) (elim b as (λ _. Act) [
-      | true ↦ record {
-        core = record { state = closing.state; had = c.had + 1; inbox = [] };
-        epoch = epoch_at sc.sizes Rmu st c.had;
-        message = message;
-        closed = Some closing.closed;
-      }
-      | false ↦ record {
-        core = record { state = kept; had = c.had + 1; inbox = c.inbox };
-        epoch = epoch_at sc.sizes Rmu st c.had;
-        message = message;
-        closed = None;
-      }
-    ]).closed ≡ None
-    by true = rmu-none sc i kept w.slot w.stage (kept.epoch + w.first) _ (w.slot == sync_slot_of sc.sizes)
-    by false = refl
-
 rmu-ticks : (sc : Scenario) (ports : List PortState) (i k : ℕ) (c : Core) → option_and_then (λ (c : Closed). c.delivered) (pass_and_tick sc ports Rmu i k c).closed ≡ None
-unfolding pass_and_tick tick act_at
-rmu-ticks sc ports i k c = by (is_spent ready)
-  where
-    ready : Core
-    ready = pass_to k c
-
-    word : ℕ
-    word = word_of sc ports i (wants_in sc Rmu i ready)
-
-    st : NodeState
-    st = state_at sc.sizes sc.plan Rmu ready.state ready.had
-
-    message : Option Message
-    message = said_at sc.sizes sc.plan Rmu i st word ready.had
-
-    by : (b : Bool) → option_and_then (λ (c : Closed). c.delivered) (elim b as (λ _. Act) [
-      | true ↦ record { core = ready; epoch = None; message = None; closed = None }
-      | false ↦ act_on sc.sizes sc.plan Rmu i ready st message (state_kept sc.sizes Rmu i st word message)
-    ]).closed ≡ None
-    by true = refl
-    by false = rmu-closes sc i ready st message (state_kept sc.sizes Rmu i st word message)
+unfolding pass_and_tick
+rmu-ticks sc ports i k c =
+    let ready : Core = pass_to k c in
+    let word : ℕ = word_of sc ports i (wants_in sc Rmu i ready) in
+    let st : NodeState = state_at sc.sizes sc.plan Rmu ready.state ready.had in
+    let m : Option Message = said_at sc.sizes sc.plan Rmu i st word ready.had in
+    let kept : NodeState = state_kept sc.sizes Rmu i st word m in
+    let w : Window = window_here sc.sizes sc.plan Rmu st ready.had in
+    let Gives : Act → Type 0 = λ x. option_and_then (λ (c : Closed). c.delivered) x.closed ≡ None in
+    tick-by Gives sc.sizes sc.plan Rmu i ready word (λ _. refl)
+    (λ _. act-by Gives sc.sizes sc.plan Rmu i ready st m kept (λ _. rmu-none sc i kept w.slot w.stage (kept.epoch + w.first) _ (w.slot == sync_slot_of sc.sizes)) (λ _. refl))
 
 -- a tick leaves the ports of all other nodes
 others-stay : (sc : Scenario) (ports : List PortState) (me : Side) (i k : ℕ) (c : Core) (j : ℕ) → is_node me i Biu j ≡ false

@@ -4,9 +4,9 @@
 use Rattle.std.proofs.{Common.{◌≡◌, ℕ, ◌^◌, ◌<◌, ◌≤◌, ◌&&◌, ◌⊎◌, Bool, true, false, List, [], ◌∷◌, ◌++◌, length, refl, ap, sym, ◌∙◌, subst, arith, inl, inr, Option, Some, None, is_some, slice_get}, lemmas.Option.same_Some}
 use Rattle.rb_base.specs.{Nodes.{Side, other}, declared.values.Place.Place}
 use Rattle.rb_base.proofs.Plain.{true-false}
-use Rattle.rb_rules.specs.{declared.message.Message.Message, Book.{Each, Row, of_kind}, Book.Milestone.Stage, Clock.time_of, Core.{Act, Core}, Goodness.{Scenario, clock_of}, Hearing.{Coming, coming_of}, Lawful.IsLawful, Ports.HandIn, Rounds.{Moment, moment}, Slots.{count_of, same_side}, WorldStep.{Pending, Site, Timed, World, after_act, after_arrival, at_node, is_complete, pass_and_tick, row_for, same_place, times_of, with_act, with_message, with_pending}, WorldStep.Pending.{Tick, Arrival}}
+use Rattle.rb_rules.specs.{declared.message.Message.Message, Book.{Each, Row, of_kind}, Book.Milestone.Stage, Clock.time_of, Core.{Act, Core}, Goodness.{Scenario, clock_of}, Hearing.{coming_of}, Lawful.IsLawful, Ports.HandIn, Rounds.{Moment, moment}, Slots.{count_of, same_side}, WorldStep.{Pending, Site, Timed, World, after_act, after_arrival, at_node, is_complete, pass_and_tick, row_for, same_place, times_of, with_act, with_message, with_pending}, WorldStep.Pending.{Tick, Arrival}}
 use Rattle.rb_laws_agreement.proofs.FrameTimes.{good-clock}
-use Rattle.rb_laws_events.proofs.{Behind.{pend-of, place-same}, BreakEnters.TickBreaks, BreakSites.HasStopped, BreakRooms.{acted-small, arrived-small, has-later}, PendingLists.StandsAt, BreakNodes.{BreaksAt, FirstOf, KeepsNodes, TellsStage, WaitsLast}, DueEvents.IsReady, Invariant.{entry_of, is_good_at}, MomentBooks.place_at, NodeActs.HasRoom, NodeEvents.{all-after, tick-after}, OneEvent.moves-of, PortsKept.sync-word, RoundNodes.{moments-stand, slot_numbered}, SameHeard.Every, Settling.{RowOfRounds, RowsOfRounds}, Telling.reached-tells, ToldInOrder.one-changes, ToldSoFar.arrival-keeps, Untold.{HasNotTold, not-told}, WorldStands.AllPend, WorldTicks.{length-after, reached, reached-same}}
+use Rattle.rb_laws_events.proofs.{Behind.{pend-of, place-same}, BreakEnters.TickBreaks, BreakSites.HasStopped, BreakRooms.{acted-small, arrived-small, has-later}, PendingLists.StandsAt, BreakNodes.{BreaksAt, FirstOf, KeepsNodes, TellsStage, WaitsLast}, DueEvents.IsReady, Invariant.{entry_of, is_good_at}, MomentBooks.place_at, NodeActs.HasRoom, NodeEvents.{all-after, tick-after}, OneEvent.{moves-of, none-stands}, PortsKept.sync-word, RoundNodes.{moments-stand, slot_numbered}, SameHeard.Every, Settling.{RowOfRounds, RowsOfRounds}, Telling.reached-tells, ToldInOrder.one-changes, ToldSoFar.arrival-keeps, Untold.{HasNotTold, not-told}, WorldStands.AllPend, WorldTicks.{length-after, reached, reached-same}}
 
 -- Nodes.
 
@@ -170,12 +170,8 @@ pending-off sc N b q sent w me i t s (Arrival n c) lawful room keeps off all_sen
       refl,
     )
   where
-    none-stands : (cs : List Coming) → cs ≡ [] → (n : ℕ) → StandsAt n c cs → ⊥
-    none-stands [] e n s = s
-    none-stands (x ∷ xs) e n s = cc
-
     small : StandsAt n c s.coming → FirstOf sc w.hands b c.time → HasStopped s ⊎ (is_good_at sc (moment sc w.hands b) me i ≡ true) → (after_arrival sc me i n c s).core.had < 2 ^ 31
-    small at first (inl stopped) = absurd (none-stands s.coming stopped.coming n at)
+    small at first (inl stopped) = absurd (none-stands n c s.coming stopped.coming at)
     small at first (inr good) =
         let m : Moment = moment sc w.hands b in
         arrived-small sc me i n c s (moves-of sc lawful me i (good-clock sc lawful me i m.frame (slot_numbered sc.sizes m.window) good))

@@ -1,12 +1,12 @@
 -- For the law that events are rounds if the premise on faults is broken in a sync slot: as long as
 -- a node waits for the last tick of the stage with which the run breaks off, those that have closed
 -- it do not close the next one, and those of them that are of the kind heard in it say nothing.
-use Rattle.std.proofs.{Common.{◌≡◌, ℕ, suc, ◌+◌, ◌*◌, ◌<◌, ◌≤◌, Bool, true, false, List, [], refl, ap, sym, ◌∙◌, subst, arith, inl, inr, Option, Some, None, slice_get}, lemmas.Bool.cases_lt}
+use Rattle.std.proofs.{Common.{◌≡◌, ℕ, suc, ◌+◌, ◌*◌, ◌<◌, ◌≤◌, true, false, List, refl, ap, sym, ◌∙◌, subst, arith, inl, inr, Option, Some, None, slice_get}, lemmas.Bool.cases_lt}
 use Rattle.rb_base.specs.{Nodes.{Side, other}, Sizes.{Sizes, sync_slot_of}}
-use Rattle.rb_rules.specs.{declared.message.Message.Message, declared.plan.Plan.Plan, declared.role.Role.TheVariants.Sync, Core.{Act, Core, act_at, act_on, epoch_at, is_last, is_spent, of_source, pass_to, said_at, state_at, state_kept, tick, window_here}, ExactStage.Outcome, Book.of_kind, Clock.time_of, Goodness.{Scenario, clock_of}, Hearing.close_window, Lawful.IsLawful, Moments.IsRunning, NodeState.NodeState, Ports.{HandIn, PortState}, Rounds.{Moment, moment, window_in}, Slots.listens, WorldStep.{Site, Timed, after_act, pass_and_tick, wants_in, word_of}}
+use Rattle.rb_rules.specs.{declared.message.Message.Message, declared.plan.Plan.Plan, declared.role.Role.TheVariants.Sync, Core.{Core, pass_to, said_at, state_at, state_kept, tick}, Book.of_kind, Clock.time_of, Goodness.{Scenario, clock_of}, Lawful.IsLawful, Moments.IsRunning, NodeState.NodeState, Ports.{HandIn, PortState}, Rounds.{Moment, moment, window_in}, Slots.listens, WorldStep.{Site, Timed, after_act, pass_and_tick, wants_in, word_of}}
 use Rattle.rb_rules.proofs.{Drift.times_rise_to, RoundStates.Stays}
 use Rattle.rb_laws_events.specs.Closing.{stages_in}
-use Rattle.rb_laws_events.proofs.{BreachWindows.in-reached, BreakSites.{HasClosed, closed-ticks}, CloseOrder.{IsWindowLater, window-later}, Invariant.{InTime, is_good_at, last_tick, next_stage}, MomentSteps.next-inner, NodeActs.HasRoom, NodeClosing.good-in-sync, NodeMoves.{after-stays, first-alike, get-later, state_after}, PastTicks.turns-later, SilentThere.silent-there, StageOrder.last_of, TickWindows.{IsTickIn, first_of}}
+use Rattle.rb_laws_events.proofs.{ActCases.{act-by, tick-by}, BreachWindows.in-reached, BreakSites.{HasClosed, closed-ticks}, CloseOrder.{IsWindowLater, window-later}, Invariant.{InTime, is_good_at, last_tick, next_stage}, MomentSteps.next-inner, NodeActs.HasRoom, NodeClosing.good-in-sync, NodeMoves.{after-stays, first-alike, get-later, state_after}, PastTicks.turns-later, SilentThere.silent-there, StageOrder.last_of, TickWindows.{IsTickIn, first_of}}
 
 -- up to the last tick of a stage at any good node, no good node has the last tick of the next stage
 pub before-next : (sc : Scenario) (hands : List HandIn) → IsLawful sc → HasRoom sc.plan → (p q : ℕ) → IsRunning (moment sc hands p) → q < 2 → (moment sc hands p).window ≡ 3 * sync_slot_of sc.sizes + q
@@ -59,47 +59,10 @@ closed-goes-on sc hands lawful room ports p q running small at me i s h you j yo
 -- a core that says nothing at a tick sends nothing with it
 pub says-none : (sizes : Sizes) (plan : Plan) (me : Side) (i : ℕ) (c : Core) (word : ℕ) → said_at sizes plan me i (state_at sizes plan me c.state c.had) word c.had ≡ None
     → (tick sizes plan me i c word).message ≡ None
-unfolding tick act_at act_on
-says-none sizes plan me i c word none = by (is_spent c)
-  where
-    st : NodeState
-    st = state_at sizes plan me c.state c.had
-
-    m : Option Message
-    m = said_at sizes plan me i st word c.had
-
-    kept : NodeState
-    kept = state_kept sizes me i st word m
-
-    closing : Outcome
-    closing = close_window sizes plan me i kept (window_here sizes plan me st c.had) (of_source c.inbox)
-
-    acts : Bool → Act
-    acts b = elim b as (λ _. Act) [
-      | true ↦ record {
-        core = record { state = closing.state; had = c.had + 1; inbox = [] };
-        epoch = epoch_at sizes me st c.had;
-        message = m;
-        closed = Some closing.closed;
-      }
-      | false ↦ record {
-        core = record { state = kept; had = c.had + 1; inbox = c.inbox };
-        epoch = epoch_at sizes me st c.had;
-        message = m;
-        closed = None;
-      }
-    ]
-
-    go : (b : Bool) → (acts b).message ≡ None
-    go true = none
-    go false = none
-
-    by : (b : Bool) → (elim b as (λ _. Act) [
-      | true ↦ record { core = c; epoch = None; message = None; closed = None }
-      | false ↦ acts (is_last sizes plan me st c.had)
-    ]).message ≡ None
-    by true = refl
-    by false = go (is_last sizes plan me st c.had)
+says-none sizes plan me i c word none =
+    let st : NodeState = state_at sizes plan me c.state c.had in
+    let m : Option Message = said_at sizes plan me i st word c.had in
+    tick-by (λ x. x.message ≡ None) sizes plan me i c word (λ _. refl) (λ _. act-by (λ x. x.message ≡ None) sizes plan me i c st m (state_kept sizes me i st word m) (λ _. none) (λ _. none))
 
 -- a node of the kind that is heard in the stage says nothing from its row of that stage up to the
 -- last tick of the next window

@@ -1,8 +1,9 @@
 -- For the law that pending events are few if the run breaks off with the first or the second stage
 -- of the sync slot: a node that has told its row sends one message at most until all have told, and
 -- enters no window.
-use Rattle.std.proofs.{Common.{◌≡◌, ℕ, zero, suc, ◌+◌, ◌-◌, ◌*◌, ◌^◌, ◌<◌, ◌≤◌, ◌==◌, ◌⊎◌, Bool, true, false, List, refl, ap, sym, ◌∙◌, subst, arith, inl, inr, Option, Some, None, length}, lemmas.Bool.Decides.nat_tests}
+use Rattle.std.proofs.{Common.{◌≡◌, ℕ, zero, suc, ◌+◌, ◌-◌, ◌*◌, ◌^◌, ◌<◌, ◌≤◌, ◌==◌, ◌⊎◌, Bool, true, false, List, refl, ap, sym, ◌∙◌, subst, arith, inl, inr, Option, Some, None, length}}
 use Rattle.rb_base.specs.{Nodes.Side, Sizes.{Sizes, sync_slot_of}}
+use Rattle.rb_base.proofs.Plain.{less-differs}
 use Rattle.rb_rules.specs.{declared.message.Message.Message, declared.plan.Plan.Plan, declared.plan.Window.Window, Core.{Act, Core, pass_to, said_at, state_at, window_here}, Entries.IsListed, Goodness.{Scenario, clock_of}, Hearing.{Coming, Span, span_of, window_numbered}, Lawful.IsLawful, Moments.IsRunning, NodeState.NodeState, Ports.{HandIn, PortState}, Rounds.moment, WorldStep.{Site, Timed, after_act, after_arrival, pass_and_tick, span_from, wants_in, word_of}}
 use Rattle.rb_rules.proofs.{Stamps.Moves, WindowNumbers.sync-numbered}
 use Rattle.rb_laws_events.specs.Closing.{stages_in}
@@ -13,13 +14,10 @@ pub no-begin : (sizes : Sizes) (plan : Plan) (me : Side) (y : NodeState) (n k : 
     → y.epoch + first_of sizes plan me y n < k → span_from sizes plan me y k ≡ None
 no-begin sizes plan me y n k room le now at after =
     let here : window_here sizes plan me y k ≡ window_numbered sizes plan me y n = here-is sizes plan me y n k room.ticks le at in
-    let test : (y.epoch + first_of sizes plan me y n == k) ≡ false = below (y.epoch + first_of sizes plan me y n) k after in
+    let test : (y.epoch + first_of sizes plan me y n == k) ≡ false = less-differs (y.epoch + first_of sizes plan me y n) k after in
     ap (λ z. elim ((span_of z (window_here sizes plan me z k)).first == k) as (λ _. Option Span) [ true ↦ Some (span_of z (window_here sizes plan me z k)) | false ↦ None ]) now
     ∙ ap (λ w. elim ((span_of y w).first == k) as (λ _. Option Span) [ true ↦ Some (span_of y w) | false ↦ None ]) here
     ∙ ap (λ b. elim b as (λ _. Option Span) [ true ↦ Some (span_of y (window_numbered sizes plan me y n)) | false ↦ None ]) test
-  where
-    below : (a b : ℕ) → a < b → (a == b) ≡ false
-    below a b h = grind (arith, nat_tests)
 
 -- a window from the sync slot's first on is in the sync slot
 pub slot-in-sync : (sizes : Sizes) (plan : Plan) (me : Side) (y : NodeState) (n : ℕ) → 3 * sync_slot_of sizes ≤ n → n ≤ stages_in sizes → (window_numbered sizes plan me y n).slot ≡ sync_slot_of sizes

@@ -1,12 +1,12 @@
 -- For the law that pending events are few if the run breaks off with the last stage of the sync
 -- slot: a node that has told its row sends one message at most in the tail and one in the first
 -- window of the next frame, and enters that window once.
-use Rattle.std.proofs.{Common.{◌≡◌, ℕ, ◌+◌, ◌-◌, ◌*◌, ◌<◌, ◌≤◌, ◌⊎◌, Bool, true, false, List, refl, ap, sym, ◌∙◌, subst, arith, inl, inr, Option, Some, None, length}, lemmas.Bool.cases_lt}
+use Rattle.std.proofs.{Common.{◌≡◌, ℕ, ◌+◌, ◌-◌, ◌*◌, ◌<◌, ◌≤◌, ◌⊎◌, Bool, true, List, refl, ap, sym, ◌∙◌, subst, arith, inl, inr, Option, Some, None, length}, lemmas.Bool.cases_lt}
 use Rattle.rb_base.specs.{Nodes.Side, Sizes.{Sizes, sync_slot_of}}
-use Rattle.rb_rules.specs.{declared.message.Message.Message, declared.plan.Plan.Plan, declared.plan.Window.Window, Core.{Act, Core, arrive, act_at, act_on, is_spent, pass_to, said_at, state_kept, tick, window_here}, Entries.IsListed, Goodness.{Scenario, clock_of}, Hearing.Coming, Clock.stamp_of, Lawful.IsLawful, Moments.IsRunning, NodeState.NodeState, Plan.tail_start_of, Ports.{HandIn, PortState}, Rounds.moment, WorldStep.{Site, Timed, after_act, after_arrival, pass_and_tick, wants_in, word_of}}
+use Rattle.rb_rules.specs.{declared.message.Message.Message, declared.plan.Plan.Plan, declared.plan.Window.Window, Core.{Act, Core, arrive, pass_to, said_at, state_at, tick, window_here}, Entries.IsListed, Goodness.{Scenario, clock_of}, Hearing.Coming, Clock.stamp_of, Lawful.IsLawful, Moments.IsRunning, NodeState.NodeState, Plan.tail_start_of, Ports.{HandIn, PortState}, Rounds.moment, WorldStep.{Site, Timed, after_act, after_arrival, pass_and_tick, wants_in, word_of}}
 use Rattle.rb_rules.proofs.{QuietTicks.arrive-same, Stamps.Moves}
 use Rattle.rb_laws_events.specs.Closing.{stages_in}
-use Rattle.rb_laws_events.proofs.{BreakEnters.TickBreaks, BreakSites.{acted, told-on}, FewBreak.{no-begin, slot-in-sync}, FewTold.{FewOn, one-less}, Invariant.is_good_at, FewEntered.{BringsFew, act-brings}, FewOff.{StepsOn, messages_in}, FewSent.{spoken-arrives, CallsAlike, HasSpoken, IsSentThen, SaysAt, said-then, says-some, speaks-once, spoken-kept, spoken-quiet}, LastEvents.before-end, LastSites.{AwaitsNext, Beyond, HasToldLast, told-arrives}, LastTicks.{told-goes, told-ticks}, NodeActs.HasRoom, NodeTicks.tail-first, StageOrder.{last_of, last-same}, TailTicks.{GoesOn, HasTurned, IsAfter, IsInTail, KeepsMiddles, in-tail, tail-act, turned-epoch}, Takes.tick-had, TickWindows.{IsTickIn, first_of, first-same, here-is}, TurnTicks.{no-next, not-yet}}
+use Rattle.rb_laws_events.proofs.{ActCases.{act_of, tick-by}, BreakEnters.TickBreaks, BreakSites.{acted, told-on}, FewBreak.{no-begin, slot-in-sync}, FewTold.{FewOn, one-less}, Invariant.is_good_at, FewEntered.{BringsFew, act-brings}, FewOff.{StepsOn, messages_in}, FewSent.{spoken-arrives, CallsAlike, HasSpoken, IsSentThen, SaysAt, said-then, says-some, speaks-once, spoken-kept, spoken-quiet}, LastEvents.before-end, LastSites.{AwaitsNext, Beyond, HasToldLast, told-arrives}, LastTicks.{told-goes, told-ticks}, NodeActs.HasRoom, NodeTicks.tail-first, StageOrder.{last_of, last-same}, TailTicks.{GoesOn, HasTurned, IsAfter, IsInTail, KeepsMiddles, in-tail, tail-act, turned-epoch}, Takes.tick-had, TickWindows.{IsTickIn, first_of, first-same, here-is}, TurnTicks.{no-next, not-yet}}
 
 -- what a node that has told its row may do yet
 pub record ToldFew (sc : Scenario) (hands : List HandIn) (p : ℕ) (me : Side) (i r e : ℕ) (s : Site) : Type 0 where
@@ -18,21 +18,11 @@ pub record ToldFew (sc : Scenario) (hands : List HandIn) (p : ℕ) (me : Side) (
 -- a tick in the tail keeps the ticks of the calls
 tail-alike : (sizes : Sizes) (plan : Plan) (me : Side) (i frame e x : ℕ) (c : Core) (word : ℕ) → HasRoom plan → e + tail_start_of sizes plan ≤ x → IsInTail sizes plan me frame e x c.state c.had → c.had < x
     → CallsAlike c.state (tick sizes plan me i c word).core.state
-unfolding tick act_at
-tail-alike sizes plan me i frame e x c word room low h lt = by (is_spent c)
-  where
-    by : (b : Bool) → CallsAlike c.state (elim b as (λ _. Act) [
-      | true ↦ record { core = c; epoch = None; message = None; closed = None }
-      | false ↦ act_at sizes plan me i c word
-    ]).core.state
-    by true = record { epoch = refl; k1 = refl; k2 = refl }
-    by false =
-        let same : KeepsMiddles c.state (act_at sizes plan me i c word).core.state =
-        subst (λ y. KeepsMiddles c.state (act_of y).core.state) (sym (not-yet sizes plan me c.state x c.had h.known lt)) (tail-act sizes plan me i frame e x c word room low h lt).1 in
-        record { epoch = same.epoch; k1 = same.k1; k2 = same.k2 }
-      where
-        act_of : NodeState → Act
-        act_of y = act_on sizes plan me i c y (said_at sizes plan me i y word c.had) (state_kept sizes me i y word (said_at sizes plan me i y word c.had))
+tail-alike sizes plan me i frame e x c word room low h lt =
+    tick-by (λ a. CallsAlike c.state a.core.state) sizes plan me i c word (λ _. record { epoch = refl; k1 = refl; k2 = refl }) (λ _.
+    let same : KeepsMiddles c.state (act_of sizes plan me i c word (state_at sizes plan me c.state c.had)).core.state =
+    subst (λ y. KeepsMiddles c.state (act_of sizes plan me i c word y).core.state) (sym (not-yet sizes plan me c.state x c.had h.known lt)) (tail-act sizes plan me i frame e x c word room low h lt).1 in
+    record { epoch = same.epoch; k1 = same.k1; k2 = same.k2 })
 
 -- a tick of a node that has told its row goes on within `ToldFew`
 told-few : (sc : Scenario) → IsListed sc → (hands : List HandIn) → IsLawful sc → HasRoom sc.plan → (sent : Side → ℕ → ℕ → Bool) (ports : List PortState) (p : ℕ) → IsRunning (moment sc hands p)

@@ -1,14 +1,14 @@
 -- For the law that pending events are few if the run breaks off in a sync slot: in the sync slot,
 -- after its first stage, a node sends one message at most, whatever middles it keeps.
-use Rattle.std.proofs.{Common.{◌≡◌, ℕ, ◌+◌, ◌-◌, ◌*◌, ◌<◌, ◌≤◌, ◌==◌, ◌⊎◌, Bool, true, false, [], refl, ap, sym, ◌∙◌, subst, arith, inl, inr, Option, Some, None, option_map, if◌then◌else◌}, lemmas.Bool.{eqb-true, or_cases}, lemmas.Option.same_Some}
+use Rattle.std.proofs.{Common.{◌≡◌, ℕ, ◌+◌, ◌-◌, ◌*◌, ◌<◌, ◌≤◌, ◌==◌, ◌⊎◌, Bool, true, false, refl, ap, sym, ◌∙◌, subst, arith, inl, inr, Option, Some, None, option_map, if◌then◌else◌}, lemmas.Bool.{eqb-true, or_cases}, lemmas.Option.same_Some}
 use Rattle.std.specs.Option.{option_or}
 use Rattle.rb_base.specs.{Nodes.{Side, other}, Nodes.Side.{Biu, Rmu}, Sizes.{Sizes, sync_slot_of}}
-use Rattle.rb_base.proofs.Plain.{and_first}
-use Rattle.rb_rules.specs.{declared.message.Message.Message, declared.plan.Plan.Plan, declared.role.Role.TheVariants.Sync, Clock.stamp_of, Core.{Act, Core, arrive, pass_to, act_at, act_on, epoch_at, if_at, is_last, is_spent, of_source, said_at, state_at, state_kept, tick, window_here}, ExactStage.Outcome, Goodness.{Scenario, clock_of}, Hearing.{Coming, Sending, close_window, sending}, NodeState.NodeState, Plan.f0_of, Slots.listens, SyncStage.call_tick_of, WorldStep.{Site, after_arrival}}
+use Rattle.rb_base.proofs.Plain.{and_first, none_not_some}
+use Rattle.rb_rules.specs.{declared.message.Message.Message, declared.plan.Plan.Plan, declared.role.Role.TheVariants.Sync, Clock.stamp_of, Core.{Act, Core, arrive, pass_to, if_at, said_at, state_at, state_kept, tick, window_here}, Goodness.{Scenario, clock_of}, Hearing.{Coming, Sending, sending}, NodeState.NodeState, Plan.f0_of, Slots.listens, SyncStage.call_tick_of, WorldStep.{Site, after_arrival}}
 use Rattle.rb_rules.proofs.QuietTicks.{arrive-same}
 use Rattle.rb_laws_synchrony.proofs.TakenCalls.{call_sent}
 use Rattle.rb_laws_events.specs.Closing.{stages_in}
-use Rattle.rb_laws_events.proofs.{NodeActs.HasRoom, StageOrder.{last_of, last-same}, TickWindows.{IsTickIn, ends-before-later, first_of}}
+use Rattle.rb_laws_events.proofs.{ActCases.{act-by, tick-by}, NodeActs.HasRoom, StageOrder.{last_of, last-same}, TickWindows.{IsTickIn, ends-before-later, first_of}}
 
 -- each call of the node in the sync slot has gone out before tick `had`
 abbrev pub HasSpoken : Sizes → Plan → Side → NodeState → ℕ → Type 0
@@ -76,48 +76,12 @@ pub record SaysAt (sizes : Sizes) (plan : Plan) (me : Side) (i : ℕ) (c : Core)
 
 pub says-some : (sizes : Sizes) (plan : Plan) (me : Side) (i : ℕ) (c : Core) (word : ℕ) (m : Message) → (tick sizes plan me i c word).message ≡ Some m
     → SaysAt sizes plan me i c word m (tick sizes plan me i c word)
-unfolding tick act_at act_on
-says-some sizes plan me i c word m = by (is_spent c)
-  where
-    st : NodeState
-    st = state_at sizes plan me c.state c.had
-
-    o : Option Message
-    o = said_at sizes plan me i st word c.had
-
-    kept : NodeState
-    kept = state_kept sizes me i st word o
-
-    closing : Outcome
-    closing = close_window sizes plan me i kept (window_here sizes plan me st c.had) (of_source c.inbox)
-
-    acts : Bool → Act
-    acts b = elim b as (λ _. Act) [
-      | true ↦ record {
-        core = record { state = closing.state; had = c.had + 1; inbox = [] };
-        epoch = epoch_at sizes me st c.had;
-        message = o;
-        closed = Some closing.closed;
-      }
-      | false ↦ record {
-        core = record { state = kept; had = c.had + 1; inbox = c.inbox };
-        epoch = epoch_at sizes me st c.had;
-        message = o;
-        closed = None;
-      }
-    ]
-
-    go : (b : Bool) → (acts b).message ≡ Some m → SaysAt sizes plan me i c word m (acts b)
-    go true e = record { said = e; had = refl }
-    go false e = record { said = e; had = refl }
-
-    still : Act
-    still = record { core = c; epoch = None; message = None; closed = None }
-
-    by : (b : Bool) → (elim b as (λ _. Act) [ true ↦ still | false ↦ acts (is_last sizes plan me st c.had) ]).message ≡ Some m
-        → SaysAt sizes plan me i c word m (elim b as (λ _. Act) [ true ↦ still | false ↦ acts (is_last sizes plan me st c.had) ])
-    by true e = absurd (cc)
-    by false e = go (is_last sizes plan me st c.had) e
+says-some sizes plan me i c word m =
+    let st : NodeState = state_at sizes plan me c.state c.had in
+    let o : Option Message = said_at sizes plan me i st word c.had in
+    let Says : Act → Type 0 = λ x. x.message ≡ Some m → SaysAt sizes plan me i c word m x in
+    tick-by Says sizes plan me i c word (λ _ e. none_not_some m e)
+    (λ _. act-by Says sizes plan me i c st o (state_kept sizes me i st word o) (λ _ e. record { said = e; had = refl }) (λ _ e. record { said = e; had = refl }))
 
 -- One message.
 

@@ -1,6 +1,7 @@
 -- For the law that events are rounds: in the first world all nodes stand in the first moment.
 use Rattle.std.proofs.{Common.{◌≡◌, ℕ, zero, suc, ◌+◌, ◌*◌, ◌<◌, ◌≤◌, ◌⊎◌, Bool, true, false, List, [], ◌∷◌, ◌++◌, length, refl, ap, sym, ◌∙◌, subst, arith, inl, inr, Option, Some, None, slice_get, option_and_then}, lemmas.Bool.cases_lt, lemmas.Option.same_Some}
 use Rattle.rb_base.specs.{Nodes.{Side, other}, Nodes.Side.{Biu, Rmu}, Sizes.Sizes}
+use Rattle.rb_base.proofs.Plain.{true-false}
 use Rattle.rb_rules.specs.{declared.plan.Plan.Plan, Book.{Each, each_of, of_kind}, Clock.{Timeline, time_of}, declared.plan.Window.Window, Core.{state_at, window_here}, Goodness.{Scenario, clock_of, is_good}, Hearing.{Coming, Span, said_by, span_of}, NodeState.{NodeState, first_state}, Ports.HandIn, Rounds.{Moment, begin_frame, moment, window_in}, Slots.count_of, WorldStep.{Site, await, enter, first_world, fresh_site, proceed, says_in, span_from, stop}}
 use Rattle.rb_rules.proofs.WindowNumbers.{get-made}
 use Rattle.rb_laws_agreement.proofs.Goodnesses.{good_counts}
@@ -184,9 +185,6 @@ first-stands sc hands room times =
       record { passed = λ me i q st before. absurd (omega (arith, before)) },
     )
   where
-    true-false : true ≡ false → ⊥
-    true-false e = cc
-
     get-within : {X : Type 0} (xs : List X) (n : ℕ) (x : X) → slice_get xs n ≡ Some x → n < length xs
     get-within [] n x e = cc
     get-within (y ∷ ys) zero x e = omega arith

@@ -75,6 +75,7 @@ pub mod BreachTimes
 pub mod BreachEpochs
 pub mod BreachSends
 pub mod SentAlready
+pub mod ActCases
 pub mod PastTicks
 pub mod BreachMiddles
 pub mod SilentThere

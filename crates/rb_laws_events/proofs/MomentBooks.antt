@@ -2,7 +2,7 @@
 use Rattle.std.proofs.{Common.{◌≡◌, ℕ, zero, suc, ◌+◌, ◌*◌, ◌-◌, ◌%◌, ◌<◌, ◌≤◌, ◌==◌, nat_lt, Bool, true, false, refl, ap, sym, ◌∙◌, subst, arith, inl, inr, List, [], ◌∷◌, ◌++◌, Option, Some, None, slice_get, if◌then◌else◌}, lemmas.Bool.{cases_lt, lt-ltb, le-ltb}, lemmas.Bool.Decides.nat_tests, lemmas.Option.slice_get_past}
 use Rattle.rb_base.specs.{Sizes.{Sizes, sync_slot_of}, declared.values.Place.Place, Nodes.Side, Nodes.Side.Biu}
 use Rattle.rb_rules.specs.{declared.cause.Cause.Cause, declared.plan.Plan.Plan, declared.plan.Window.Window, Book.{Begun, Book, Each, Milestone, Row, after_stage, after_verdict, fresh_book, frame_records, judged_of, with_frame, with_stage}, Book.Milestone.{Begin, Stage, End}, Goodness.Scenario, Judging.{JudgedStage, verdict_of}, NodeState.{NodeState, first_state}, Ports.HandIn, Rounds.{Moment, after_window, begin_frame, book_after, moment, step, windows_in}, Windows.windows_of_frame, Hearing.window_numbered}
-use Rattle.rb_base.proofs.Plain.{true-false}
+use Rattle.rb_base.proofs.Plain.{true-false, less-differs}
 use Rattle.rb_rules.proofs.{Books.stepped, WindowNumbers.{exact-numbered, sync-numbered}}
 use Rattle.rb_laws_agreement.proofs.Agreement.{ended-end}
 use Rattle.rb_laws_events.specs.Closing.{stages_in}
@@ -151,7 +151,7 @@ stage-next sc frame n below not_last =
           else (if slot_numbered sc.sizes n == sync_slot_of sc.sizes then Begin (frame + 1) else Stage (record { frame = frame; slot = slot_numbered sc.sizes n + 1; stage = 1 }))) (le-ltb (n % 3 + 1) 3 late)
           ∙ elim (cases_lt (n + 1) (stages_in sc.sizes)) [
             | inl inner ↦
-                let differ : (slot_numbered sc.sizes n == sync_slot_of sc.sizes) ≡ false = below-differs (slot_numbered sc.sizes n) (sync_slot_of sc.sizes) (omega arith) in
+                let differ : (slot_numbered sc.sizes n == sync_slot_of sc.sizes) ≡ false = less-differs (slot_numbered sc.sizes n) (sync_slot_of sc.sizes) (omega arith) in
                 let slot : slot_numbered sc.sizes n + 1 ≡ slot_numbered sc.sizes (n + 1) = omega arith in
                 let stage : 1 ≡ (n + 1) % 3 + 1 = omega arith in
                 ap (λ b. if b then Begin (frame + 1) else Stage (record { frame = frame; slot = slot_numbered sc.sizes n + 1; stage = 1 })) differ
@@ -166,9 +166,6 @@ stage-next sc frame n below not_last =
           ]
     ]
   where
-    below-differs : (a b : ℕ) → a < b → (a == b) ≡ false
-    below-differs a b h = grind (arith, nat_tests)
-
     same-is : (a b : ℕ) → a ≡ b → (a == b) ≡ true
     same-is a b h = grind (arith, nat_tests)
 

@@ -2,6 +2,7 @@
 -- tick.
 use Rattle.std.proofs.{Common.{◌≡◌, ℕ, ◌+◌, ◌^◌, ◌<◌, ◌≤◌, ◌==◌, nat_lt, Bool, true, false, refl, ap, sym, ◌∙◌, subst, arith, List, [], Option, Some, None}, lemmas.Bool.Decides.nat_tests}
 use Rattle.rb_base.specs.{Nodes.Side, Sizes.{Sizes, sync_slot_of}}
+use Rattle.rb_base.proofs.Plain.{less-differs}
 use Rattle.rb_rules.specs.{declared.message.Message.Message, declared.plan.Plan.Plan, declared.plan.Window.Window, declared.record.Epoch.Epoch, Core.{Core, Act, if_at, is_last, is_tick, of_source, said_at, state_at, state_kept, tick, wants, window_here, act_at, act_on, epoch_at}, ExactStage.Outcome, Goodness.Scenario, Hearing.{Sending, sending, window_numbered, word_for, close_window}, NodeState.NodeState, NodeSteps.message_said, Ports.PortState, Slots.role_of, SyncStage.send_tick_of, WorldStep.{word_of, wants_in}}
 use Rattle.rb_rules.proofs.{Lawfulness.SendsInside, QuietTicks.not-spent, RoundStates.HasTicks}
 use Rattle.rb_laws_events.specs.Closing.{stages_in}
@@ -205,7 +206,7 @@ acts-open sc ports me i st n word c room stands below words before =
     let same_last : last_of sizes plan me y n ≡ last_of sizes plan me st n = ap (λ (w : Window). w.last) (like.windows n) in
     let not_last : is_last sizes plan me y c.had ≡ false =
     last-is sizes plan me y n c.had room.ticks stands.window (like-tick sizes plan me i st y n c.had like stands.at)
-    ∙ below-differs c.had (y.epoch + last_of sizes plan me y n) (omega arith) in
+    ∙ less-differs c.had (y.epoch + last_of sizes plan me y n) (omega arith) in
     let is : tick sizes plan me i c given ≡ open_act kept c.had c (epoch_at sizes me y c.had) m =
     tick-by sizes plan me i c y given below stands.now ∙ act-open sizes plan me i c y m kept not_last in
     record {
@@ -216,9 +217,6 @@ acts-open sc ports me i st n word c room stands below words before =
       closed = ap (λ (x : Act). x.closed) is;
       epoch = ap (λ (x : Act). x.epoch) is;
     }
-  where
-    below-differs : (a b : ℕ) → a < b → (a == b) ≡ false
-    below-differs a b h = grind (arith, nat_tests)
 
 -- at the window's last tick the node closes the window
 pub acts-close : (sc : Scenario) (ports : List PortState) (me : Side) (i : ℕ) (st : NodeState) (n word : ℕ) (c : Core) → HasRoom sc.plan

@@ -1,7 +1,8 @@
 -- For the law that events are rounds: a node stays where it stands when something comes to it, when
 -- an event happens elsewhere, and at a tick that is not the last of its window.
-use Rattle.std.proofs.{Common.{◌≡◌, ℕ, suc, ◌+◌, ◌^◌, ◌<◌, ◌≤◌, ◌==◌, Bool, true, false, List, [], ◌∷◌, ◌++◌, map, refl, ap, sym, ◌∙◌, subst, arith, Option, Some, None, option_map, option_to_list}, lemmas.Bool.Decides.nat_tests, lemmas.List.append-nil}
+use Rattle.std.proofs.{Common.{◌≡◌, ℕ, suc, ◌+◌, ◌^◌, ◌<◌, ◌≤◌, ◌==◌, Bool, true, false, List, [], ◌∷◌, ◌++◌, map, refl, ap, sym, ◌∙◌, subst, arith, Option, Some, None, option_map, option_to_list}, lemmas.List.append-nil}
 use Rattle.rb_base.specs.{Nodes.Side, Sizes.Sizes}
+use Rattle.rb_base.proofs.Plain.{less-differs}
 use Rattle.rb_rules.specs.{declared.plan.Plan.Plan, declared.record.Epoch.Epoch, Book.Begun, Clock.{Timeline, time_of, stamp_of}, Core.{Core, Act, arrive, next_tick, pass_to, state_at, window_here}, Goodness.{Scenario, clock_of}, Hearing.{Coming, Span, span_of, begun_of, window_numbered}, NodeState.NodeState, Ports.{HandIn, PortState}, Rounds.{Moment, moment}, WorldStep.{Timed, Site, after_act, after_arrival, enter, pass_and_tick, proceed, span_from, times_of, with_close, with_epoch}}
 use Rattle.rb_rules.proofs.{Drift.times_rise_to, QuietTicks.arrive-same, Stamps.Moves}
 use Rattle.rb_laws_events.proofs.{Invariant.{NodeStands, last_tick, word_at}, NodeActs.{ActsOpen, HasRoom, HasWord, IsInWindow, acts-open}, NodeNext.{NextIn, next-found, next-in}, NodeSends.sending_at, NodeTicks.{Like, gone, like-in, like-keeps, like-tick, no-turn, state_in}, Receiving.{ArrivesNow, Receives, arrival-received}, SameHeard.Every, SayLists.every-to, TickWindows.{IsTickIn, first_of, here-is}}
@@ -111,13 +112,10 @@ no-span sizes plan me i st n word k c room stands after =
     let here : window_here sizes plan me y k ≡ window_numbered sizes plan me st n =
     here-is sizes plan me y n k room.ticks stands.window (like-tick sizes plan me i st y n k like stands.at) ∙ like.windows n in
     let epoch : y.epoch ≡ st.epoch = like.epoch in
-    let test : (y.epoch + first_of sizes plan me st n == k) ≡ false = below (y.epoch + first_of sizes plan me st n) k (omega arith) in
+    let test : (y.epoch + first_of sizes plan me st n == k) ≡ false = less-differs (y.epoch + first_of sizes plan me st n) k (omega arith) in
     ap (λ z. elim ((span_of z (window_here sizes plan me z k)).first == k) as (λ _. Option Span) [ true ↦ Some (span_of z (window_here sizes plan me z k)) | false ↦ None ]) stands.now
     ∙ ap (λ w. elim ((span_of y w).first == k) as (λ _. Option Span) [ true ↦ Some (span_of y w) | false ↦ None ]) here
     ∙ ap (λ b. elim b as (λ _. Option Span) [ true ↦ Some (span_of y (window_numbered sizes plan me st n)) | false ↦ None ]) test
-  where
-    below : (a b : ℕ) → a < b → (a == b) ≡ false
-    below a b h = grind (arith, nat_tests)
 
 -- after a tick that is not the last of its window a node stays in the window
 pub record StaysOpen (sc : Scenario) (hands : List HandIn) (sent : Side → ℕ → ℕ → Bool) (t : ℕ) (ports : List PortState) (me : Side) (i p : ℕ) (s : Site) (st : NodeState) (k : ℕ) (x : Act) : Type 0 where
@@ -134,7 +132,7 @@ pub stays-open : (sc : Scenario) (hands : List HandIn) (sent : Side → ℕ → 
     → Every (λ c. a.time < c.time) s.coming → a.tick < last_tick sc (moment sc hands p) me st → NodeStands sc hands sent now me i p s st a
     → StaysOpen sc hands sent a.time ports me i p s st a.tick (pass_and_tick sc ports me i a.tick s.core)
 unfolding pass_and_tick
-stays-open sc hands sent now ports me i p s st a room below words later before h =
+stays-open sc hands sent now ports me i p s st a room less-differs words later before h =
     let m : Moment = moment sc hands p in
     let n : ℕ = m.window in
     let word : ℕ = word_at sc m me i st in
@@ -164,7 +162,7 @@ stays-open sc hands sent now ports me i p s st a room below words later before h
     } in
     let in_x : IsInWindow sc.sizes sc.plan me i st n word x.core.had x.core.state =
     subst (λ k. IsInWindow sc.sizes sc.plan me i st n word k x.core.state) (sym xhad) now_in in
-    let next = next-found sc.sizes sc.plan me i st n word x.core room in_x below in
+    let next = next-found sc.sizes sc.plan me i st n word x.core room in_x less-differs in
     let k : ℕ = next.0 in
     let lands : NextIn sc.sizes sc.plan me i st n word x.core.had k x.core.state = next-in sc.sizes sc.plan me i st n word x.core.had k x.core.state room in_x next.1.1 in
     let none : span_from sc.sizes sc.plan me x.core.state x.core.had ≡ None =

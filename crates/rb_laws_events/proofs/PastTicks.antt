@@ -1,12 +1,13 @@
 -- For the law that events are rounds if the premise on faults is broken in a sync slot: what a node
 -- does after it has closed the stage with which the run breaks off. Whatever middles it keeps, it
 -- tells nothing up to the last tick of the next window.
-use Rattle.std.proofs.{Common.{◌≡◌, ℕ, ◌+◌, ◌<◌, ◌≤◌, ◌==◌, ◌&&◌, if◌then◌else◌, Bool, true, false, List, [], ◌∷◌, ◌++◌, not, nat_lt, refl, ap, sym, ◌∙◌, subst, arith, inl, inr, Option, Some, None, is_some}, lemmas.Bool.cases_lt, lemmas.Bool.Decides.nat_tests}
+use Rattle.std.proofs.{Common.{◌≡◌, ℕ, ◌+◌, ◌<◌, ◌≤◌, ◌==◌, ◌&&◌, if◌then◌else◌, Bool, true, false, List, [], ◌∷◌, ◌++◌, not, nat_lt, refl, ap, sym, ◌∙◌, subst, arith, inl, inr, Option, Some, None, is_some}, lemmas.Bool.cases_lt}
 use Rattle.rb_base.specs.{Nodes.{Side, other}, Sizes.Sizes}
-use Rattle.rb_rules.specs.{declared.message.Message.Message, declared.plan.Plan.Plan, Core.{Act, Core, act_at, act_on, arrive, epoch_at, is_last, is_spent, is_tick, of_source, said_at, state_at, state_kept, tick, window_here}, ExactStage.{Outcome, says}, Hearing.close_window, NodeState.NodeState, NodeSteps.turn_if_known, Plan.tail_start_of, Slots.count_of, SyncStage.new_epoch_of}
+use Rattle.rb_base.proofs.Plain.{less-differs, true-false, more-differs}
+use Rattle.rb_rules.specs.{declared.message.Message.Message, declared.plan.Plan.Plan, Core.{Act, Core, arrive, is_last, is_spent, is_tick, said_at, state_at, state_kept, tick}, ExactStage.{says}, NodeState.NodeState, NodeSteps.turn_if_known, Plan.tail_start_of, Slots.count_of, SyncStage.new_epoch_of}
 use Rattle.rb_rules.proofs.RoundStates.{HasTicks}
 use Rattle.rb_laws_events.specs.Closing.{stages_in}
-use Rattle.rb_laws_events.proofs.{NodeTicks.{Like, like-kept, like-itself, past-tail, tail-first}, StageOrder.last_of, TickWindows.{IsTickIn, ends-before-later, first_of, last-is}}
+use Rattle.rb_laws_events.proofs.{ActCases.{act-by, act_of, tick-by}, NodeTicks.{Like, like-kept, like-itself, past-tail, tail-first}, StageOrder.last_of, TickWindows.{IsTickIn, ends-before-later, first_of, last-is}}
 
 -- a node of a frame that began at tick e stands in window n or beyond, and its next frame begins
 -- after all stages of this one
@@ -23,12 +24,9 @@ unfolding state_at
 turns-later sizes plan me c n k ticks next le at =
     ap (λ b. elim b as (λ _. NodeState) [ true ↦ turn_if_known sizes plan me c | false ↦ c ]) (no-tick (new_epoch_of plan me c) later)
   where
-    differs : (a b : ℕ) → b < a → (a == b) ≡ false
-    differs a b h = grind (arith, nat_tests)
-
     no-tick : (o : Option ℕ) → ((x : ℕ) → o ≡ Some x → k < x) → is_tick o k ≡ false
     no-tick None h = refl
-    no-tick (Some x) h = differs x k (h x refl)
+    no-tick (Some x) h = more-differs x k (h x refl)
 
     later : (x : ℕ) → new_epoch_of plan me c ≡ Some x → k < x
     later x e =
@@ -75,63 +73,34 @@ pub record TellsNone (sizes : Sizes) (plan : Plan) (me : Side) (i frame e n : �
 -- a tick of a window before its last closes no window
 pub past-tick : (sizes : Sizes) (plan : Plan) (me : Side) (i frame e n : ℕ) (c : Core) (word : ℕ) → HasTicks plan → n ≤ stages_in sizes → IsPast sizes plan me frame e n c.state c.had
     → c.had < c.state.epoch + last_of sizes plan me c.state n → TellsNone sizes plan me i frame e n c.state (tick sizes plan me i c word)
-unfolding tick act_at act_on
-past-tick sizes plan me i frame e n c word ticks le h before = by (is_spent c)
+past-tick sizes plan me i frame e n c word ticks le h before =
+    tick-by Tells sizes plan me i c word (λ _. record { closed = refl; like = like-itself sizes plan me i c.state; past = h })
+    (λ _. subst (λ z. Tells (act_of sizes plan me i c word z)) (sym now) (act-by Tells sizes plan me i c c.state m kept (λ last. true-false (sym last ∙ not-last)) (λ _. record {
+      closed = refl;
+      like = like.0;
+      past = past-kept sizes plan me i frame e n c.state kept c.had (c.had + 1) like.0 like.1 (omega arith) h;
+    })))
   where
-    st : NodeState
-    st = c.state
+    Tells : Act → Type 0
+    Tells x = TellsNone sizes plan me i frame e n c.state x
 
-    at : IsTickIn sizes plan me st n c.had
+    at : IsTickIn sizes plan me c.state n c.had
     at = record { from = h.from; to = omega (arith, before) }
 
-    now : state_at sizes plan me st c.had ≡ st
-    now = turns-later sizes plan me st n c.had ticks h.next le at
+    now : state_at sizes plan me c.state c.had ≡ c.state
+    now = turns-later sizes plan me c.state n c.had ticks h.next le at
 
-    differs : (a b : ℕ) → a < b → (a == b) ≡ false
-    differs a b h = grind (arith, nat_tests)
+    not-last : is_last sizes plan me c.state c.had ≡ false
+    not-last = last-is sizes plan me c.state n c.had ticks le at ∙ less-differs c.had (c.state.epoch + last_of sizes plan me c.state n) before
 
-    not-last : is_last sizes plan me st c.had ≡ false
-    not-last = last-is sizes plan me st n c.had ticks le at ∙ differs c.had (st.epoch + last_of sizes plan me st n) before
+    m : Option Message
+    m = said_at sizes plan me i c.state word c.had
 
-    act : (m : Option Message) → TellsNone sizes plan me i frame e n c.state (act_on sizes plan me i c st m (state_kept sizes me i st word m))
-    act m = go (is_last sizes plan me st c.had) not-last
-      where
-        kept : NodeState
-        kept = state_kept sizes me i st word m
+    kept : NodeState
+    kept = state_kept sizes me i c.state word m
 
-        closing : Outcome
-        closing = close_window sizes plan me i kept (window_here sizes plan me st c.had) (of_source c.inbox)
-
-        acts : Bool → Act
-        acts b = elim b as (λ _. Act) [
-          | true ↦ record {
-            core = record { state = closing.state; had = c.had + 1; inbox = [] };
-            epoch = epoch_at sizes me st c.had;
-            message = m;
-            closed = Some closing.closed;
-          }
-          | false ↦ record {
-            core = record { state = kept; had = c.had + 1; inbox = c.inbox };
-            epoch = epoch_at sizes me st c.had;
-            message = m;
-            closed = None;
-          }
-        ]
-
-        go : (b : Bool) → b ≡ false → TellsNone sizes plan me i frame e n c.state (acts b)
-        go true e = cc
-        go false _ =
-            let like = kept-like sizes plan me i st word m in
-            record { closed = refl; like = like.0; past = past-kept sizes plan me i frame e n st kept c.had (c.had + 1) like.0 like.1 (omega arith) h }
-
-    by : (b : Bool) → TellsNone sizes plan me i frame e n c.state (elim b as (λ _. Act) [
-      | true ↦ record { core = c; epoch = None; message = None; closed = None }
-      | false ↦ act_at sizes plan me i c word
-    ])
-    by true = record { closed = refl; like = like-itself sizes plan me i c.state; past = h }
-    by false =
-        subst (λ z. TellsNone sizes plan me i frame e n c.state (act_on sizes plan me i c z (said_at sizes plan me i z word c.had) (state_kept sizes me i z word (said_at sizes plan me i z word c.had))))
-        (sym now) (act (said_at sizes plan me i st word c.had))
+    like : Like sizes plan me i c.state kept × (kept.frame ≡ c.state.frame)
+    like = kept-like sizes plan me i c.state word m
 
 pub past-arrival : (sizes : Sizes) (plan : Plan) (me : Side) (frame e n : ℕ) (c : Core) (j : ℕ) (bytes : List ℕ) → IsPast sizes plan me frame e n c.state c.had
     → IsPast sizes plan me frame e n (arrive sizes me c j bytes).state (arrive sizes me c j bytes).had

@@ -2,6 +2,7 @@
 -- rounds, and what is handed in is of frames that all good nodes have begun.
 use Rattle.std.proofs.{Common.{◌≡◌, ℕ, zero, suc, ◌+◌, ◌*◌, ◌<◌, ◌≤◌, ◌==◌, ◌&&◌, ◌⊎◌, nat_le, Bool, true, false, List, [], ◌∷◌, length, refl, ap, sym, ◌∙◌, subst, arith, inl, inr, Option, Some, None, slice_get, option_and_then, option_map}, lemmas.Bool.{cases_lt, eqb-true}, lemmas.Bool.Decides.nat_tests, lemmas.Nat.mul-le, lemmas.Option.same_Some}
 use Rattle.rb_base.specs.{Nodes.Side, Nodes.Side.{Biu, Rmu}, Sizes.sync_slot_of, declared.values.Delivery.Delivery}
+use Rattle.rb_base.proofs.Plain.{true-false}
 use Rattle.rb_rules.specs.{declared.closing.Closed.Closed, declared.message.Message.Message, declared.plan.Window.Window, declared.record.Epoch.Epoch, declared.record.SlotLine.SlotLine, declared.sense.Sense.Sense, Book.{Begun, Each, line_in, of_kind}, Core.Act, ExactStage.{Outcome, close_exact, keep_sent, outcome_of}, Goodness.{Scenario, is_good}, Hearing.{Coming, begun_of, port_at, port_line, row_of}, NodeState.NodeState, Ports.{HandIn, PortState}, Rounds.{Moment, Result, begin_frame, close_on, go_through, heard_at, moment, sent_in, window_in, windows_in, word_for_window}, SyncStage.{close_sync, sync_outcome_of}, WorldStep.{Site, Timed, after_act, at_node, with_delivery, with_message}}
 use Rattle.rb_rules.proofs.RoundStates.{HasTicks}
 use Rattle.rb_laws_agreement.proofs.Goodnesses.{good_counts}
@@ -174,9 +175,6 @@ own-port sc hands at sites ports i s a x ticks many all told there after runs sa
           (none-entered sc hands sites Biu i p q s all there (told Biu i s there) later good) after.there c.told.1.0 c.told.1.1 same
           ∙ ap (λ n. port_at sc (moment sc hands n).ports i) closes.1.1.0
     ]
-  where
-    true-false : true ≡ false → ⊥
-    true-false e = cc
 
 own-if-biu : (sc : Scenario) (hands : List HandIn) (at : Side → ℕ → ℕ) (sites : Each Site) (ports : List PortState) (me : Side) (i : ℕ) (s : Site) (a : Timed) (x : Act) → HasTicks sc.plan
     → length ports ≡ sc.sizes.bius → AllHanded sc sites hands → AllTold sc hands at sites → slice_get (of_kind me sites) i ≡ Some s → s.runs ≡ true → PortsStand sc hands at sites ports

@@ -2,6 +2,7 @@
 -- has sent what it sends in a window has nothing left to do in it but to close it.
 use Rattle.std.proofs.{Common.{◌≡◌, ℕ, ◌+◌, ◌<◌, ◌≤◌, ◌==◌, ◌||◌, Bool, true, false, refl, ap, sym, ◌∙◌, arith, Option, Some, None, is_some}, lemmas.Bool.Decides.nat_tests}
 use Rattle.rb_base.specs.{Nodes.Side, Sizes.Sizes}
+use Rattle.rb_base.proofs.Plain.{less-differs}
 use Rattle.rb_rules.specs.{declared.message.Message.Message, declared.plan.Plan.Plan, declared.plan.Window.Window, Core.{if_at, is_busy, is_last, is_tick, said_at, state_at}, Hearing.{Sending, sending, window_numbered}, NodeState.NodeState, NodeSteps.message_said, SyncStage.send_tick_of}
 use Rattle.rb_laws_events.specs.Closing.{stages_in}
 use Rattle.rb_laws_events.proofs.{NodeActs.{HasRoom, IsInWindow, said-form}, NodeSends.sending_at, NodeTicks.{Like, like-in, like-tick, state_in}, NodeWords.{at_its_tick, none-message, said-at-tick}, StageOrder.last_of, TickWindows.last-is}
@@ -19,12 +20,9 @@ said-nothing sizes plan me i st y n word k room le stands z like gone =
     stage : ℕ
     stage = (window_numbered sizes plan me st n).stage
 
-    not-at : (a b : ℕ) → a < b → (a == b) ≡ false
-    not-at a b h = grind (arith, nat_tests)
-
     none : (o : Option Sending) → ((s : Sending) → o ≡ Some s → s.tick < k) → if_at k o ≡ None
     none None h = refl
-    none (Some s) h = ap (λ b. elim b as (λ _. Option Message) [ true ↦ Some s.message | false ↦ None ]) (not-at s.tick k (h s refl))
+    none (Some s) h = ap (λ b. elim b as (λ _. Option Message) [ true ↦ Some s.message | false ↦ None ]) (less-differs s.tick k (h s refl))
 
     by : (b : Bool) → at_its_tick b (message_said sizes me i z slot stage word) ≡ None → at_its_tick b (message_said sizes me i z slot stage 0) ≡ None
     by true e = none-message sizes me i z slot stage word 0 e
@@ -48,14 +46,11 @@ waits-for-last sizes plan me i st c n word k room stands busy begun gone =
         ≡ ((y.epoch == k) || is_last sizes plan me y k || is_some (said_at sizes plan me i y 0 k))
     now = ap (λ z. (z.epoch == k) || is_last sizes plan me z k || is_some (said_at sizes plan me i z 0 k)) stands.now
 
-    differs : (a b : ℕ) → a < b → (a == b) ≡ false
-    differs a b h = grind (arith, nat_tests)
-
     same : (a b : ℕ) → (a == b) ≡ true → a ≡ b
     same a b h = grind (arith, nat_tests)
 
     no-begin : (y.epoch == k) ≡ false
-    no-begin = ap (λ e. e == k) like.epoch ∙ differs st.epoch k begun
+    no-begin = ap (λ e. e == k) like.epoch ∙ less-differs st.epoch k begun
 
     no-message : is_some (said_at sizes plan me i y 0 k) ≡ false
     no-message = ap is_some (said-nothing sizes plan me i st c n word k room stands.window stands y like gone)

@@ -1,8 +1,9 @@
 -- For the law that events are rounds if the premise on faults is broken in a sync slot: nodes of
 -- the kind that is heard in a stage of the sync slot do not listen in it, so whatever came to them
 -- they say nothing in the next one, and in the tail.
-use Rattle.std.proofs.Common.{◌≡◌, ℕ, zero, suc, ◌+◌, ◌*◌, ◌<◌, true, false, refl, ap, sym, ◌∙◌, subst, arith, Option, Some, None}
+use Rattle.std.proofs.Common.{◌≡◌, ℕ, zero, suc, ◌+◌, ◌*◌, ◌<◌, false, refl, ap, sym, ◌∙◌, subst, arith, Option, Some, None}
 use Rattle.rb_base.specs.{Nodes.{Side, other}, Nodes.Side.{Biu, Rmu}, Sizes.{Sizes, sync_slot_of}}
+use Rattle.rb_base.proofs.Plain.{true-false}
 use Rattle.rb_rules.specs.{declared.plan.Plan.Plan, declared.plan.Window.Window, declared.role.Role.TheVariants.Sync, declared.sense.Sense.Sense, Core.{if_at, said_at}, Hearing.{Sending, sending}, NodeState.NodeState, Slots.listens, Standing.{has_evidence, with_evidence}, SyncStage.{close_sync, expects_call}}
 use Rattle.rb_rules.proofs.WindowNumbers.{sync-numbered}
 use Rattle.rb_laws_synchrony.proofs.TakenCalls.{call_sent}
@@ -34,9 +35,6 @@ none-called : (sizes : Sizes) (plan : Plan) (me : Side) (i : ℕ) (c : NodeState
     → sending sizes plan me i c (sync_slot_of sizes) stage word ≡ None
 none-called sizes plan me i c stage word unheard = by (sending sizes plan me i c (sync_slot_of sizes) stage word) refl
   where
-    true-false : true ≡ false → ⊥
-    true-false e = cc
-
     by : (o : Option Sending) → sending sizes plan me i c (sync_slot_of sizes) stage word ≡ o → o ≡ None
     by None e = refl
     by (Some s) e = absurd (true-false (sym (call_sent sizes plan me i c stage word s e).1 ∙ unheard))

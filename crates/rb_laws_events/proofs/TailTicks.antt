@@ -1,13 +1,13 @@
 -- For the law that events are rounds if the premise on faults is broken in a sync slot: what a node
 -- does after it has closed the last stage of its frame. It goes through the tail and begins the
 -- next frame, and closes no stage before the end of that one's first window.
-use Rattle.std.proofs.{Common.{◌≡◌, ℕ, ◌+◌, ◌*◌, ◌-◌, ◌<◌, ◌≤◌, ◌==◌, ◌&&◌, ◌⊎◌, if◌then◌else◌, Bool, true, false, List, [], refl, ap, sym, ◌∙◌, subst, arith, inl, inr, Option, Some, None, is_some, option_map, unwrap_or, slice_get}, lemmas.Bool.eqb-true, lemmas.Bool.Decides.nat_tests}
+use Rattle.std.proofs.{Common.{◌≡◌, ℕ, ◌+◌, ◌*◌, ◌-◌, ◌<◌, ◌≤◌, ◌==◌, ◌&&◌, ◌⊎◌, if◌then◌else◌, Bool, true, false, List, refl, ap, sym, ◌∙◌, subst, arith, inl, inr, Option, Some, None, is_some, option_map, unwrap_or, slice_get}, lemmas.Bool.eqb-true, lemmas.Bool.Decides.nat_tests}
 use Rattle.rb_base.specs.{Nodes.{Side, other}, Nodes.Side.{Biu, Rmu}, Sizes.{Sizes, sync_slot_of}}
-use Rattle.rb_base.proofs.Plain.{less-differs}
-use Rattle.rb_rules.specs.{declared.closing.Closed.Closed as Shown, declared.message.Message.Message, declared.plan.Plan.Plan, declared.plan.Window.Window, declared.role.Role.TheVariants.Sync, declared.sense.Sense.Sense, Core.{Act, Core, act_on, epoch_at, if_at, is_last, of_source, said_at, state_kept, window_here}, ExactStage.{Outcome, close_exact, says}, Hearing.{Sending, close_window, window_numbered}, NodeState.NodeState, NodeSteps.expect_of, Plan.tail_start_of, Sense.{Arrival, sense_of}, Slots.listens, Standing.{has_evidence, with_evidence}, SyncStage.{close_sync, expects_call, new_epoch_of}, Windows.{tail_of, windows_of_frame}}
+use Rattle.rb_base.proofs.Plain.{less-differs, none_not_some, true-false}
+use Rattle.rb_rules.specs.{declared.closing.Closed.Closed as Shown, declared.message.Message.Message, declared.plan.Plan.Plan, declared.plan.Window.Window, declared.role.Role.TheVariants.Sync, declared.sense.Sense.Sense, Core.{Act, Core, act_on, if_at, is_last, of_source, said_at, state_kept, window_here}, ExactStage.{Outcome, close_exact, says}, Hearing.{Sending, close_window, window_numbered}, NodeState.NodeState, NodeSteps.expect_of, Plan.tail_start_of, Sense.{Arrival, sense_of}, Slots.listens, Standing.{has_evidence, with_evidence}, SyncStage.{close_sync, expects_call, new_epoch_of}, Windows.{tail_of, windows_of_frame}}
 use Rattle.rb_rules.proofs.WindowNumbers.{sync-numbered}
 use Rattle.rb_laws_events.specs.Closing.{stages_in}
-use Rattle.rb_laws_events.proofs.{DeafCloses.deaf-state, NodeActs.HasRoom, NodeClosing.closed-stage, NodeSends.{KeepsTime, said-is, sending_at, sent-exactly}, NodeTicks.{tail-first, tail-last}, SilentThere.silent-there, StageOrder.{last_of, last-same}, TickWindows.{IsTickIn, first_of, first-same, here-is, last-is}}
+use Rattle.rb_laws_events.proofs.{ActCases.{act-by, closing_act, open_act}, DeafCloses.deaf-state, NodeActs.HasRoom, NodeClosing.closed-stage, NodeSends.{KeepsTime, said-is, sending_at, sent-exactly}, NodeTicks.{tail-first, tail-last}, SilentThere.silent-there, StageOrder.{last_of, last-same}, TickWindows.{IsTickIn, first_of, first-same, here-is, last-is}}
 
 -- What stays.
 
@@ -165,8 +165,20 @@ turned-says sizes plan me i y frame x word k room h from before m e =
 
 pub turned-act : (sizes : Sizes) (plan : Plan) (me : Side) (i frame e x : ℕ) (c : Core) (y : NodeState) (word : ℕ) → HasRoom plan → HasTurned frame x y (c.had + 1) → c.had + 1 < x + plan.l
     → GoesOn sizes plan me frame e x c.had (act_on sizes plan me i c y (said_at sizes plan me i y word c.had) (state_kept sizes me i y word (said_at sizes plan me i y word c.had)))
-unfolding act_on
-turned-act sizes plan me i frame e x c y word room h before = go (is_last sizes plan me y c.had) (turned-last sizes plan me y x c.had room h.epoch from before)
+turned-act sizes plan me i frame e x c y word room h before =
+    act-by (GoesOn sizes plan me frame e x c.had) sizes plan me i c y m kept (λ last. true-false (sym last ∙ turned-last sizes plan me y x c.had room h.epoch from before)) (λ _. record {
+      closed = λ s f. none_not_some s f;
+      after = inr (record {
+        in_frame = same.frame ∙ h.in_frame;
+        epoch = same.epoch ∙ h.epoch;
+        k1 = same.k1 ∙ h.k1;
+        k2 = same.k2 ∙ h.k2;
+        k3 = same.k3 ∙ h.k3;
+        begun = h.begun;
+      });
+      message = λ deaf msg f. let at = turned-says sizes plan me i y frame x word c.had room h from before msg f in omega (arith, at);
+      begun = λ le msg f. turned-says sizes plan me i y frame x word c.had room h from before msg f;
+    })
   where
     from : x ≤ c.had
     from = let begun = h.begun in omega (arith, begun)
@@ -177,45 +189,8 @@ turned-act sizes plan me i frame e x c y word room h before = go (is_last sizes 
     kept : NodeState
     kept = state_kept sizes me i y word m
 
-    closing : Outcome
-    closing = close_window sizes plan me i kept (window_here sizes plan me y c.had) (of_source c.inbox)
-
-    acts : Bool → Act
-    acts b = elim b as (λ _. Act) [
-      | true ↦ record {
-        core = record { state = closing.state; had = c.had + 1; inbox = [] };
-        epoch = epoch_at sizes me y c.had;
-        message = m;
-        closed = Some closing.closed;
-      }
-      | false ↦ record {
-        core = record { state = kept; had = c.had + 1; inbox = c.inbox };
-        epoch = epoch_at sizes me y c.had;
-        message = m;
-        closed = None;
-      }
-    ]
-
-    go : (b : Bool) → b ≡ false → GoesOn sizes plan me frame e x c.had (acts b)
-    go true f = cc
-    go false _ =
-        let same : KeepsMiddles y kept = said-same sizes me i y word m in
-        record {
-          closed = λ s f. absurd (none-closed s f);
-          after = inr (record {
-            in_frame = same.frame ∙ h.in_frame;
-            epoch = same.epoch ∙ h.epoch;
-            k1 = same.k1 ∙ h.k1;
-            k2 = same.k2 ∙ h.k2;
-            k3 = same.k3 ∙ h.k3;
-            begun = h.begun;
-          });
-          message = λ deaf msg f. let at = turned-says sizes plan me i y frame x word c.had room h from before msg f in omega (arith, at);
-          begun = λ le msg f. turned-says sizes plan me i y frame x word c.had room h from before msg f;
-        }
-      where
-        none-closed : (s : Shown) → None ≡ Some s → ⊥
-        none-closed s f = cc
+    same : KeepsMiddles y kept
+    same = said-same sizes me i y word m
 
 -- The tail.
 
@@ -231,8 +206,7 @@ in-tail sizes plan me frame e x c k low h lt =
 pub tail-act : (sizes : Sizes) (plan : Plan) (me : Side) (i frame e x : ℕ) (c : Core) (word : ℕ) → HasRoom plan → e + tail_start_of sizes plan ≤ x → IsInTail sizes plan me frame e x c.state c.had → c.had < x
     → GoesOn sizes plan me frame e x c.had (act_on sizes plan me i c c.state (said_at sizes plan me i c.state word c.had) (state_kept sizes me i c.state word (said_at sizes plan me i c.state word c.had)))
     × KeepsMiddles c.state (act_on sizes plan me i c c.state (said_at sizes plan me i c.state word c.had) (state_kept sizes me i c.state word (said_at sizes plan me i c.state word c.had))).core.state
-unfolding act_on
-tail-act sizes plan me i frame e x c word room low h lt = go (is_last sizes plan me st c.had)
+tail-act sizes plan me i frame e x c word room low h lt = act-by Goes sizes plan me i c st m kept (λ _. closes) (λ _. goes)
   where
     st : NodeState
     st = c.state
@@ -257,22 +231,6 @@ tail-act sizes plan me i frame e x c word room low h lt = go (is_last sizes plan
 
     closing : Outcome
     closing = close_window sizes plan me i kept w (of_source c.inbox)
-
-    acts : Bool → Act
-    acts b = elim b as (λ _. Act) [
-      | true ↦ record {
-        core = record { state = closing.state; had = c.had + 1; inbox = [] };
-        epoch = epoch_at sizes me st c.had;
-        message = m;
-        closed = Some closing.closed;
-      }
-      | false ↦ record {
-        core = record { state = kept; had = c.had + 1; inbox = c.inbox };
-        epoch = epoch_at sizes me st c.had;
-        message = m;
-        closed = None;
-      }
-    ]
 
     silent : listens me Sync 3 ≡ false → m ≡ None
     silent deaf = silent-there sizes plan me i st 3 word c.had room (omega arith) (h.keeps deaf) (in-tail sizes plan me frame e x st c.had low h lt) (unheard me)
@@ -302,14 +260,14 @@ tail-act sizes plan me i frame e x c word room low h lt = go (is_last sizes plan
         some-same : (a b : Shown) → Some a ≡ Some b → a ≡ b
         some-same a b e = cc
 
-    none-closed : (s : Shown) → None ≡ Some s → ⊥
-    none-closed s f = cc
-
     closes-same : KeepsMiddles st closing.state
     closes-same = and-so st kept closing.state kept-same (closed-same sizes plan me i kept w (of_source c.inbox) slot (ap (listens me Sync) stage ∙ deaf-tail me))
 
-    go : (b : Bool) → GoesOn sizes plan me frame e x c.had (acts b) × KeepsMiddles st (acts b).core.state
-    go true = (
+    Goes : Act → Type 0
+    Goes a = GoesOn sizes plan me frame e x c.had a × KeepsMiddles st a.core.state
+
+    closes : Goes (closing_act sizes plan me i c st m kept)
+    closes = (
       record {
         closed = stage-of;
         after = inl (still closing.state closes-same, omega (arith, lt));
@@ -318,9 +276,11 @@ tail-act sizes plan me i frame e x c word room low h lt = go (is_last sizes plan
       },
       closes-same,
     )
-    go false = (
+
+    goes : Goes (open_act sizes me c st m kept)
+    goes = (
       record {
-        closed = λ s f. absurd (none-closed s f);
+        closed = λ s f. none_not_some s f;
         after = inl (still kept kept-same, omega (arith, lt));
         message = λ deaf msg f. none-some m msg (silent deaf) f;
         begun = λ le msg f. absurd (omega (arith, le, lt));

@@ -2,9 +2,10 @@
 -- fewer messages on their way, so their number is bounded.
 use Rattle.std.proofs.{Common.{◌≡◌, ℕ, zero, suc, ◌+◌, ◌-◌, ◌*◌, ◌^◌, ◌<◌, ◌≤◌, ◌==◌, ◌&&◌, Bool, true, false, List, [], ◌∷◌, ◌++◌, length, refl, ap, sym, ◌∙◌, subst, arith, Option, Some, None, option_map, remove, slice_get}, lemmas.Bool.Decides.nat_tests, lemmas.Nat.mul-le}
 use Rattle.rb_base.specs.{Nodes.{Side, other}, Nodes.Side.{Biu, Rmu}, Sizes.Sizes}
-use Rattle.rb_rules.specs.{declared.closing.Closed.Closed, declared.message.Message.Message, declared.plan.Plan.Plan, declared.record.Epoch.Epoch, Book.{Each, map_from, of_kind}, Core.{Act, Core, act_at, act_on, busy_among, is_busy, is_last, is_spent, next_tick, pass_to, said_at, state_at, state_kept, tick, window_here, epoch_at, of_source}, Goodness.{Scenario, is_good}, Hearing.{Coming, Sending, Span, close_window, coming_of}, NodeState.NodeState, Ports.PortState, Slots.same_side, WorldStep.{Site, Timed, after_act, after_arrival, at_node, await, enter, pass_and_tick, proceed, says_in, sent_to, span_from, stop, with_close, with_epoch, with_message}}
+use Rattle.rb_base.proofs.Plain.{true-false}
+use Rattle.rb_rules.specs.{declared.closing.Closed.Closed, declared.message.Message.Message, declared.plan.Plan.Plan, declared.record.Epoch.Epoch, Book.{Each, map_from, of_kind}, Core.{Act, Core, busy_among, is_busy, is_spent, next_tick, pass_to, said_at, state_at, state_kept, tick}, Goodness.{Scenario, is_good}, Hearing.{Coming, Sending, Span, coming_of}, NodeState.NodeState, Ports.PortState, Slots.same_side, WorldStep.{Site, Timed, after_act, after_arrival, at_node, await, enter, pass_and_tick, proceed, says_in, sent_to, span_from, stop, with_close, with_epoch, with_message}}
 use Rattle.rb_laws_events.specs.Laws.{SayAtMost, most_with, nodes_of}
-use Rattle.rb_laws_events.proofs.PendingLists.{StandsAt}
+use Rattle.rb_laws_events.proofs.{ActCases.{act-by, tick-by}, PendingLists.StandsAt}
 
 -- What is left of a node: its ticks, each with all that it may make pending, and what is on its way
 -- to it.
@@ -125,32 +126,14 @@ busy-later sizes plan me i st (suc n) k x e = by (is_busy sizes plan me i st k) 
     by false rest h = let le : suc k ≤ x = rest h in omega (arith, le)
 
 pub tick-had : (sizes : Sizes) (plan : Plan) (me : Side) (i : ℕ) (c : Core) (word : ℕ) → c.had < 2 ^ 31 → (tick sizes plan me i c word).core.had ≡ c.had + 1
-unfolding tick act_at act_on
 tick-had sizes plan me i c word small =
     let st : NodeState = state_at sizes plan me c.state c.had in
     let m : Option Message = said_at sizes plan me i st word c.had in
-    ap (λ b. (elim b as (λ _. Act) [ true ↦ record { core = c; epoch = None; message = None; closed = None } | false ↦ act_at sizes plan me i c word ]).core.had) (not-spent c small)
-    ∙ by st m (state_kept sizes me i st word m) (is_last sizes plan me st c.had)
+    let Had : Act → Type 0 = λ x. x.core.had ≡ c.had + 1 in
+    tick-by Had sizes plan me i c word (λ spent. true-false (sym spent ∙ not-spent c small)) (λ _. act-by Had sizes plan me i c st m (state_kept sizes me i st word m) (λ _. refl) (λ _. refl))
   where
     not-spent : (c : Core) → c.had < 2 ^ 31 → is_spent c ≡ false
     not-spent c h = grind (arith, nat_tests)
-
-    by : (st : NodeState) (m : Option Message) (kept : NodeState) (b : Bool) → (elim b as (λ _. Act) [
-      | true ↦ record {
-        core = record { state = (close_window sizes plan me i kept (window_here sizes plan me st c.had) (of_source c.inbox)).state; had = c.had + 1; inbox = [] };
-        epoch = epoch_at sizes me st c.had;
-        message = m;
-        closed = Some (close_window sizes plan me i kept (window_here sizes plan me st c.had) (of_source c.inbox)).closed;
-      }
-      | false ↦ record {
-        core = record { state = kept; had = c.had + 1; inbox = c.inbox };
-        epoch = epoch_at sizes me st c.had;
-        message = m;
-        closed = None;
-      }
-    ]).core.had ≡ c.had + 1
-    by st m kept true = refl
-    by st m kept false = refl
 
 next-left : (had : ℕ) (f : ℕ → Timed) → ((k : ℕ) → (f k).tick ≡ k) → (o : Option ℕ) → ((k : ℕ) → o ≡ Some k → had ≤ k) → ticks_left (option_map f o) ≤ 2 ^ 31 - had
 next-left had f its None later = omega arith

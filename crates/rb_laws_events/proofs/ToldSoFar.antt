@@ -2,7 +2,7 @@
 -- for a first tick that pends, of the start of its frame.
 use Rattle.std.proofs.{Common.{◌≡◌, ℕ, ◌+◌, ◌*◌, ◌<◌, ◌≤◌, ◌==◌, ◌%◌, ◌⊎◌, Bool, true, false, List, [], ◌∷◌, ◌++◌, length, refl, ap, sym, ◌∙◌, subst, arith, inl, inr, Option, Some, None, slice_get}, lemmas.Bool.{cases_lt, eq-eqb, eqb-true}, lemmas.Bool.Decides.nat_tests, lemmas.Option.{same_Some, slice_get_within}}
 use Rattle.rb_base.specs.{Nodes.Side, Sizes.Sizes}
-use Rattle.rb_base.proofs.Plain.{option_map-back}
+use Rattle.rb_base.proofs.Plain.{option_map-back, true-false}
 use Rattle.rb_rules.specs.{declared.message.Message.Message, declared.plan.Plan.Plan, declared.record.Epoch.Epoch, Book.{Begun, Each, Row, each_of, of_kind}, Conviction.turn, Core.{Act, Core, epoch_at, is_tick, state_at}, Goodness.{Scenario, is_good}, Hearing.{Coming, Span, begun_of, epoch_of}, NodeState.NodeState, Ports.{HandIn, PortState}, Rounds.{Moment, go_through, moment, sent_in, window_in, windows_in}, SyncStage.new_epoch_of, WorldStep.{Site, Timed, after_act, after_arrival, at_node, await, enter, first_world, fresh_site, proceed, says_in, span_from, stop, with_message}, Slots.count_of}
 use Rattle.rb_rules.proofs.{WindowNumbers.get-made, QuietTicks.{IsNext, IsQuiet, quiet-from}}
 use Rattle.rb_laws_events.proofs.{FirstWorld.at_begin, HandedIn.AreEarly, HandedMoments.{Alike, handed-alike}, WorldNodes.first-counts, Invariant.{NodeStands, next_stage, word_at}, MomentBooks.{place_at, stage-is-of}, MomentSteps.{NextIsStage, next-is-stage}, NodeClosing.ClosesWindow, NodeEvents.{StaysOpen, begun_after}, NodeTicks.{Like, like-in, state_in}, Telling.{place-is, reached-tells, row-place, tail-stage}, TickWindows.{first-same, first_of}, ToldInOrder.one-changes, WorldEvents.{AfterTick, state-frame}, WorldStands.{IsUp, SitesStand, get-at, is_node, sent_by}, WorldTicks.{moved, reached, reached-same}}
@@ -99,9 +99,6 @@ first-pends sc hands sent now me i p s st a h had =
           ]
     ] in
     record { a = a; st = st; ahead = h.receives.pends; state = h.state; first = first }
-  where
-    true-false : true ≡ false → ⊥
-    true-false e = cc
 
 -- A tick.
 
@@ -185,9 +182,6 @@ told-closed sc hands sent ports me i p s st a x within frame closes later h =
       ];
     }
   where
-    true-false : true ≡ false → ⊥
-    true-false e = cc
-
     first-zero : (sizes : Sizes) (plan : Plan) (me : Side) (st : NodeState) (n : ℕ) → n ≡ 0 → first_of sizes plan me st n ≡ 0
     first-zero sizes plan me st n e =
         let z : first_of sizes plan me st 0 ≡ 0 * plan.l = first-same sizes plan me st 0 (omega arith) in

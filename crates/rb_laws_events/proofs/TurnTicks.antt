@@ -3,9 +3,9 @@
 -- and which of its ticks comes next.
 use Rattle.std.proofs.{Common.{◌≡◌, ℕ, zero, suc, ◌+◌, ◌-◌, ◌^◌, ◌<◌, ◌≤◌, ◌==◌, ◌||◌, ◌⊎◌, Bool, true, false, refl, ap, sym, ◌∙◌, subst, arith, inl, inr, Option, Some, None, is_some}, lemmas.Bool.cases_lt, lemmas.Bool.Decides.nat_tests}
 use Rattle.rb_base.specs.{Nodes.Side, Sizes.Sizes}
-use Rattle.rb_base.proofs.Plain.{eq_self, more-differs}
-use Rattle.rb_rules.specs.{declared.plan.Plan.Plan, Conviction.turn, Core.{Act, Core, act_at, act_on, busy_among, is_busy, is_last, is_spent, is_tick, next_tick, said_at, state_at, state_kept, tick}, NodeState.NodeState, NodeSteps.turn_if_known, Plan.tail_start_of, SyncStage.new_epoch_of}
-use Rattle.rb_laws_events.proofs.{NodeActs.HasRoom, TailTicks.{GoesOn, HasTurned, IsAfter, IsInTail, tail-act, turned-act, turned-epoch}}
+use Rattle.rb_base.proofs.Plain.{eq_self, more-differs, none_not_some}
+use Rattle.rb_rules.specs.{declared.plan.Plan.Plan, Conviction.turn, Core.{Core, busy_among, is_busy, is_last, is_tick, next_tick, said_at, state_at, tick}, NodeState.NodeState, NodeSteps.turn_if_known, Plan.tail_start_of, SyncStage.new_epoch_of}
+use Rattle.rb_laws_events.proofs.{ActCases.{act_of, tick-by}, NodeActs.HasRoom, TailTicks.{GoesOn, HasTurned, IsAfter, IsInTail, tail-act, turned-act, turned-epoch}}
 
 -- The state at a tick.
 
@@ -33,16 +33,13 @@ no-next sizes plan me st k none = ap (λ o. elim (is_tick o k) as (λ _. NodeSta
 
 pub next-tick : (sizes : Sizes) (plan : Plan) (me : Side) (i frame e x : ℕ) (c : Core) (word : ℕ) → HasRoom plan → e + tail_start_of sizes plan ≤ x → IsAfter sizes plan me frame e x c.state c.had c.had
     → c.had + 1 < x + plan.l → GoesOn sizes plan me frame e x c.had (tick sizes plan me i c word)
-unfolding tick act_at
-next-tick sizes plan me i frame e x c word room low h before = by (is_spent c)
+next-tick sizes plan me i frame e x c word room low h before = tick-by (GoesOn sizes plan me frame e x c.had) sizes plan me i c word (λ _. still) (λ _. now h)
   where
-    act : NodeState → Act
-    act y = act_on sizes plan me i c y (said_at sizes plan me i y word c.had) (state_kept sizes me i y word (said_at sizes plan me i y word c.had))
+    in_state : (y : NodeState) → state_at sizes plan me c.state c.had ≡ y → GoesOn sizes plan me frame e x c.had (act_of sizes plan me i c word y)
+        → GoesOn sizes plan me frame e x c.had (act_of sizes plan me i c word (state_at sizes plan me c.state c.had))
+    in_state y is goes = subst (λ y. GoesOn sizes plan me frame e x c.had (act_of sizes plan me i c word y)) (sym is) goes
 
-    in_state : (y : NodeState) → state_at sizes plan me c.state c.had ≡ y → GoesOn sizes plan me frame e x c.had (act y) → GoesOn sizes plan me frame e x c.had (act_at sizes plan me i c word)
-    in_state y is goes = subst (λ y. GoesOn sizes plan me frame e x c.had (act y)) (sym is) goes
-
-    now : IsAfter sizes plan me frame e x c.state c.had c.had → GoesOn sizes plan me frame e x c.had (act_at sizes plan me i c word)
+    now : IsAfter sizes plan me frame e x c.state c.had c.had → GoesOn sizes plan me frame e x c.had (act_of sizes plan me i c word (state_at sizes plan me c.state c.had))
     now (inl t) =
         elim (cases_lt c.had x) [
           | inl lt ↦ in_state c.state (not-yet sizes plan me c.state x c.had t.0.known lt) (tail-act sizes plan me i frame e x c word room low t.0 lt).0
@@ -60,18 +57,8 @@ next-tick sizes plan me i frame e x c word room low h before = by (is_spent c)
         in_state c.state (no-next sizes plan me c.state c.had (turned-epoch plan me frame x c.state c.had t))
         (turned-act sizes plan me i frame e x c c.state word room (record { in_frame = t.in_frame; epoch = t.epoch; k1 = t.k1; k2 = t.k2; k3 = t.k3; begun = omega (arith, begun) }) before)
 
-    still : IsAfter sizes plan me frame e x c.state c.had c.had → GoesOn sizes plan me frame e x c.had (record { core = c; epoch = None; message = None; closed = None })
-    still h = record { closed = λ s f. absurd (none-is f); after = h; message = λ deaf m f. absurd (none-is f); begun = λ le m f. absurd (none-is f) }
-      where
-        none-is : {X : Type 0} {y : X} → None ≡ Some y → ⊥
-        none-is f = cc
-
-    by : (b : Bool) → GoesOn sizes plan me frame e x c.had (elim b as (λ _. Act) [
-      | true ↦ record { core = c; epoch = None; message = None; closed = None }
-      | false ↦ act_at sizes plan me i c word
-    ])
-    by true = still h
-    by false = now h
+    still : GoesOn sizes plan me frame e x c.had (record { core = c; epoch = None; message = None; closed = None })
+    still = record { closed = λ s f. none_not_some s f; after = h; message = λ deaf m f. none_not_some m f; begun = λ le m f. none_not_some m f }
 
 -- ticks in which there is nothing to do keep `IsAfter`
 pub after-later : (sizes : Sizes) (plan : Plan) (me : Side) (frame e x : ℕ) (c : NodeState) (had more k : ℕ) → had ≤ more → IsAfter sizes plan me frame e x c had k → IsAfter sizes plan me frame e x c more k

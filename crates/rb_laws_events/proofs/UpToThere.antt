@@ -2,6 +2,7 @@
 -- waits.
 use Rattle.std.proofs.{Common.{◌≡◌, ℕ, suc, ◌+◌, ◌*◌, ◌-◌, ◌<◌, ◌≤◌, ◌==◌, ◌⊎◌, nat_lt, Bool, true, false, List, refl, ap, sym, ◌∙◌, subst, arith, inl, inr}, lemmas.Bool.{cases_lt, eqb-true, le-ltb}}
 use Rattle.rb_base.specs.Sizes.{sync_slot_of}
+use Rattle.rb_base.proofs.Plain.{true-false}
 use Rattle.rb_rules.specs.{Goodness.Scenario, Lawful.IsLawful, Moments.IsRunning, Ports.HandIn, Rounds.{Moment, begin_frame, moment, step, windows_in}}
 use Rattle.rb_rules.proofs.Books.{begun-open, stepped}
 use Rattle.rb_laws_agreement.proofs.{Places.running_earlier, FrameBegins.reached}
@@ -102,9 +103,6 @@ breaks-later sc hands b q n off running = elim (cases_lt b n) [
       let on : IsRunning (moment sc hands (suc b)) = running_earlier sc hands (suc b) n (omega arith) running in
       absurd (true-false (sym off.ends ∙ on))
 ]
-  where
-    true-false : true ≡ false → ⊥
-    true-false e = cc
 
 -- up to a stage after one at which the run has not ended nodes are in time, and no sync slot before
 -- it breaks the run off

@@ -2,7 +2,7 @@
 -- One arrival, and one tick of a node that goes on or stops, keep it.
 use Rattle.std.proofs.{Common.{◌≡◌, ℕ, ◌≤◌, ◌==◌, ◌&&◌, Bool, true, false, List, [], length, refl, ap, sym, ◌∙◌, subst, Option, Some, None, slice_get, option_and_then, option_map}, lemmas.Bool.{and_parts, eqb-true}, lemmas.Option.same_Some, Math.Path.fun_ext}
 use Rattle.rb_base.specs.Nodes.{Side, other}
-use Rattle.rb_base.proofs.Plain.{eq_self, option_map-back}
+use Rattle.rb_base.proofs.Plain.{eq_self, option_map-back, true-false}
 use Rattle.rb_rules.specs.{Book.{Each, of_kind}, Goodness.{Scenario, clock_of}, Hearing.Coming, NodeState.NodeState, Ports.HandIn, Rounds.moment, Slots.{count_of, same_side}, WorldStep.{Timed, Site, after_arrival, at_node, times_of}}
 use Rattle.rb_rules.proofs.{Slots.{same_side-is, same_side_other, same_side_self}, Stamps.Moves, WindowNumbers.{get-each, length-each}}
 use Rattle.rb_laws_events.specs.OwnMoments.{StandsWhereNotGood}
@@ -146,6 +146,3 @@ arrival-keeps-world sc hands now at sites me i n c s moves there runs later pend
           go (is_node me i side j) refl was.1.1;
       counts = λ side. length-each (λ side n s. elim (is_node me i side n) as (λ _. Site) [ true ↦ change s | false ↦ s ]) sites side ∙ h.counts side;
     }
-  where
-    true-false : true ≡ false → ⊥
-    true-false e = cc
