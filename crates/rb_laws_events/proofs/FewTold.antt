@@ -1,6 +1,6 @@
--- For the law that pending events are few if the run breaks off in a sync slot: until all have told
--- their rows, a node may send r messages and enter e windows at most, and a due tick keeps it
--- within these bounds.
+-- For the law that pending events are few if the run breaks off in a sync slot: a due tick keeps a
+-- node within the messages that it may send, and the windows that it may enter, until all have told
+-- their rows. It is so for any course of a node that has told its row.
 use Rattle.std.proofs.Common.{◌≡◌, ℕ, zero, suc, ◌+◌, ◌-◌, ◌*◌, ◌^◌, ◌<◌, ◌≤◌, ◌⊎◌, Bool, true, List, ap, arith, inl, inr, Some, None, length}
 use Rattle.rb_base.specs.Nodes.{Side}
 use Rattle.rb_base.proofs.Plain.{none_and_some}

@@ -1,7 +1,6 @@
 -- For the law that events are rounds if the premise on faults is broken in a sync slot: how a node
--- goes on if the run breaks off with the last stage of the sync slot. After its row it may enter
--- the next frame, and what it says comes to those that listen in the stage after their last tick
--- of it.
+-- goes on if the run breaks off with the last stage of the sync slot. After its row the node may
+-- enter the next frame, and what it says comes to those that listen after their last tick.
 use Rattle.std.proofs.{Common.{◌≡◌, ℕ, ◌+◌, ◌*◌, ◌-◌, ◌<◌, ◌≤◌, Bool, true, List, refl, ap, sym, ◌∙◌, subst, arith, inl, inr, Some, slice_get, lit<}, lemmas.Bool.{cases_lt, true≢false}}
 use Rattle.rb_base.specs.{Nodes.{Side, other}, Nodes.Side.{Biu, Rmu}, Sizes.sync_slot_of, declared.values.Place.Place}
 use Rattle.rb_rules.specs.{declared.message.Message.Message, declared.plan.Window.Window, declared.role.Role.TheVariants.Sync, Book.of_kind, Clock.time_of, Goodness.{Scenario, clock_of, is_good}, Hearing.{coming_of}, Lawful.IsLawful, Links.{delay_of, name_of}, Moments.IsRunning, NodeState.NodeState, Plan.tail_start_of, Ports.{HandIn, PortState}, Rounds.{Moment, IsGoodIn, moment, window_in}, Slots.{listens, same_side}, SyncStage.new_epoch_of, WorldStep.{Site, Timed, pass_and_tick}}

@@ -1,11 +1,11 @@
 -- For the law that what is pending behind is few: if the run breaks off in a sync slot the nodes
 -- keep room for what came to them, too.
-use Rattle.std.proofs.{Common.{◌≡◌, ℕ, zero, suc, ◌+◌, ◌*◌, ◌<◌, ◌≤◌, ◌&&◌, Bool, true, false, List, [], ◌∷◌, ◌++◌, append_assoc, cond, filter, length, length-append, refl, remove, ap, sym, ◌∙◌, subst, arith, inl, Option, Some, None, option_map, slice_get}, lemmas.Option.{same_Some, slice_get_within}}
+use Rattle.std.proofs.{Common.{◌≡◌, ℕ, ◌+◌, ◌*◌, ◌<◌, ◌≤◌, ◌&&◌, Bool, true, false, List, [], ◌∷◌, ◌++◌, append_assoc, cond, filter, length, length-append, refl, remove, ap, sym, ◌∙◌, subst, arith, inl, Option, Some, None, option_map, slice_get}, lemmas.Option.{same_Some, slice_get_within}}
 use Rattle.rb_base.specs.{Nodes.{Side, other}, Sizes.Sizes}
 use Rattle.rb_base.proofs.Plain.{option_map-back}
 use Rattle.rb_rules.specs.{declared.message.Message.Message, Book.{Each, of_kind}, Core.Act, Entries.IsListed, Goodness.{Scenario, is_good}, Hearing.{Coming, coming_of}, Lawful.IsLawful, Ports.{HandIn, PortState}, Slots.{count_of, same_side}, WorldStep.{Site, after_act, after_arrival, at_node, pass_and_tick, with_message}, declared.closing.Closed.Closed, declared.record.Epoch.Epoch, Hearing.{Sending, Span}, Book.map_each, WorldStep.{await, enter, proceed, says_in, sent_to, span_from, stop, with_close, with_epoch}}
 use Rattle.rb_laws_events.specs.PendingEvents.{most_coming}
-use Rattle.rb_laws_events.proofs.{BreakBegins.FirstCloses, BreakNodes.KeepsNodes, EventsHold.{keeps, nodes_at}, FewKeeps.{FewAt, few-on, may-after, may-arrives, may_at, steps-at, sum-same, tick-small}, FewOff.{HaveRooms, messages_in, rooms-change}, PendingLists.{StandsAt, filter-last}, Takes.length-without, WorldStands.{IsDown, IsUp, is_node, node-is, sent_by}, WorldTicks.{after_tick, get-after, length-after, moved}, EachAlike.each-alike}
+use Rattle.rb_laws_events.proofs.{BreakBegins.FirstCloses, BreakNodes.KeepsNodes, EventsHold.{keeps, nodes_at}, FewKeeps.{FewAt, few-on, may-after, may-arrives, may_at, steps-at, sum-same, tick-small}, FewOff.{HaveRooms, messages_in, rooms-change}, PendingLists.{StandsAt, filter-last}, Takes.length-without, WorldStands.{IsDown, IsUp, is_node, node-is, sent_by}, WorldTicks.{length-after, moved}, EachAlike.each-alike}
 use Rattle.rb_rules.proofs.WindowNumbers.{get-each}
 use Rattle.rb_laws_sweeps.proofs.{HadThere.{had-where-it-stands, had_of, is_known}, Settles.each-fuse}
 
