@@ -101,7 +101,7 @@ breach-crossed b bank frame handed is_plain told since k turns t break within su
         let upto : AreUpTo sc.frames frame (records_in turns ++ r ∷ []) =
         breach-upto sc handed turns first.0 frame r going breach (first.1 ∙ ap (λ l. l ++ first.0) are ∙ append_assoc (records_in turns) (r ∷ []) first.0) in
         let crossed : AreFirstOf given (records_on b (hands_of b) bank) =
-        first-crossed b bank frame given within (subst (λ hs. IsPrefix given (records_of sc hs)) handed_is first) (subst (AreUpTo sc.frames frame) (sym are) upto) in
+        first-crossed b bank within (subst (λ hs. IsPrefix given (records_of sc hs)) handed_is first) (subst (AreUpTo sc.frames frame) (sym are) upto) in
         let last : is_last (record_of t) ≡ true = ap is_last is-r ∙ ap (λ r. is_last (Some r)) breach.is in
         record {
           first = crossed.first;
@@ -161,7 +161,7 @@ before-crossed b bank frame both is_plain told since s within two sure is =
         let all : reached s.terms.frames (records_in is.turns) ≡ reached sc.frames (records_in is.turns) =
         ap (λ n. reached n (records_in is.turns)) (ap (λ (t : Terms). t.frames) is.side.terms_are) in
         let upto : AreUpTo sc.frames frame given = subst (AreUpTo sc.frames frame) (sym are) (upto-reached sc.frames frame (records_in is.turns) (omega (arith, far, all))) in
-        (first-crossed b bank frame given within first upto).first
+        (first-crossed b bank within first upto).first
 
 -- After a frame.
 
@@ -255,7 +255,7 @@ after-crossed b bank frame both is_plain told since s bridge below two sure is =
         let first : IsPrefix given (records_on b (hands_up_to b (frame + 1)) bank) =
         next-first b bank frame is.handed is_plain told since s.world (is.before ++ s.turn ∷ []) (is_last (record_of s.turn)) some.0 is.passed.given handed_is begins
         (is.passed.given.frame ∙ ap frame_in (latest-more is.before s.turn ∙ some.1)) in
-        (first-crossed b bank (frame + 1) given (omega (arith, below)) first upto).first
+        (first-crossed b bank (omega (arith, below)) first upto).first
 
     by : (o : Option Break) → break_by bank frame (record_of s.turn) ≡ o → IsPrefix given (records_on b (hands_of b) bank)
     by None e = going e

@@ -163,7 +163,7 @@ promised b run is =
           all-first (IsRight run.scenario run.hands) run.given first.0
           (subst (All (IsRight run.scenario run.hands)) first.1 k.records);
       keeps = k;
-      words = held-delivered run.scenario run.hands lawful k.headline.words;
+      words = held-delivered lawful k.headline.words;
     }
   where
     records-are : records_of b.world.bus is.world.hands ≡ records_in run

@@ -3,7 +3,7 @@ use Rattle.std.proofs.{Common.{◌≡◌, ℕ, zero, suc, ◌+◌, ◌-◌, ◌*
 use Rattle.rb_base.specs.Sizes.{sync_slot_of}
 use Rattle.rb_rules.specs.{Book.{Book, with_end}, Book.Record.Ended, Goodness.Scenario, Lawful.IsLawful, Moments.IsRunning, Ports.HandIn, Rounds.{Moment, next_frame, step, moment, windows_in}}
 use Rattle.rb_rules.proofs.Books.{step-on, stepped}
-use Rattle.rb_laws_agreement.proofs.{Invariant.{Shared, Agree}, ExactAgrees.{with_value, agree_1, agree_2, agree_3}, FrameAgrees.{first_shared, shared_next, agree_first, agree_frame}, JudgedWindows.{rows_of, IsPassed, passed}, NodeWindows.{sync_windows_are, tail_windows}, NextMoments.{next, book_exact}, Settings.Setting, SyncAgrees.{agree_sync, book_sync, stage_setting, tail_setting}, ThirdStages.voted}
+use Rattle.rb_laws_agreement.proofs.{Invariant.{Shared, Agree}, ExactAgrees.{agree_1, agree_2, agree_3}, FrameAgrees.{first_shared, agree_first, agree_frame}, JudgedWindows.{rows_of, IsPassed, passed}, NextMoments.{next, book_exact}, Settings.Setting, SyncAgrees.{agree_sync, book_sync, stage_setting, tail_setting}}
 
 -- What a step is while the run goes on.
 
@@ -45,13 +45,13 @@ pub record IsAgreed (sc : Scenario) (hands : List HandIn) (n : ℕ) : Type 0 whe
   pub shared : Shared
   pub agree : Agree sc hands n (moment sc hands n) shared
 
-agreed : (sc : Scenario) (hands : List HandIn) (n : ℕ) (m : Moment) (s : Shared) → m ≡ moment sc hands n → Agree sc hands n m s → IsAgreed sc hands n
-agreed sc hands n m s is agree = record { shared = s; agree = subst (λ m. Agree sc hands n m s) is agree }
+agreed : {sc hands n m s : _} → m ≡ moment sc hands n → Agree sc hands n m s → IsAgreed sc hands n
+agreed {sc} {hands} {n} {m} {s} is agree = record { shared = s; agree = subst (λ m. Agree sc hands n m s) is agree }
 
 -- if the run does not end with stage q + 1 of a slot below the sync slot, its window is a setting
-pub exact-setting : (sc : Scenario) (hands : List HandIn) (n : ℕ) (m : Moment) (s : Shared) (slot q : ℕ) → IsLawful sc → Agree sc hands n m s
+pub exact-setting : {sc hands n m s : _} (slot q : ℕ) → IsLawful sc → Agree sc hands n m s
     → slot < sync_slot_of sc.sizes → q < 3 → m.window ≡ 3 * slot + q → (next sc m).book.ended ≡ false → Setting sc hands n m s slot q
-exact-setting sc hands n m s slot q law agree below small at running = record {
+exact-setting {sc} {m} slot q law agree below small at running = record {
   law = law;
   agree = agree;
   below = below;
@@ -61,62 +61,62 @@ exact-setting sc hands n m s slot q law agree below small at running = record {
       (ap (λ b. b.ended) (sym (book_exact sc m slot q below small at)) ∙ running);
 }
 
-exact-step : (sc : Scenario) (hands : List HandIn) (n : ℕ) (m : Moment) (s : Shared) (slot q : ℕ) → Setting sc hands n m s slot q
+exact-step : {sc hands n m s slot : _} (q : ℕ) → Setting sc hands n m s slot q
     → next sc m ≡ moment sc hands (suc n) → IsAgreed sc hands (suc n)
-exact-step sc hands n m s slot zero c is = agreed sc hands (suc n) (next sc m) s is (agree_1 sc hands n m s slot c is)
-exact-step sc hands n m s slot (suc zero) c is = agreed sc hands (suc n) (next sc m) s is (agree_2 sc hands n m s slot c is)
-exact-step sc hands n m s slot (suc (suc zero)) c is =
-    agreed sc hands (suc n) (next sc m) (with_value sc s slot (voted sc hands n m s slot c).value) is (agree_3 sc hands n m s slot c is)
-exact-step sc hands n m s slot (suc (suc (suc q))) c is = let small : suc (suc (suc q)) < 3 = c.small in absurd (omega arith)
+exact-step zero c is = agreed is (agree_1 c is)
+exact-step (suc zero) c is = agreed is (agree_2 c is)
+exact-step (suc (suc zero)) c is =
+    agreed is (agree_3 c is)
+exact-step (suc (suc (suc q))) c is = let small : suc (suc (suc q)) < 3 = c.small in absurd (omega arith)
 
 -- all good nodes agree after a window of the sync slot that does not end the run
-sync-step : (sc : Scenario) (hands : List HandIn) (n : ℕ) (m : Moment) (s : Shared) (q : ℕ) → IsLawful sc → Agree sc hands n m s
+sync-step : {sc hands n m s : _} (q : ℕ) → IsLawful sc → Agree sc hands n m s
     → q < 4 → m.window ≡ 3 * sync_slot_of sc.sizes + q → (next sc m).book.ended ≡ false → next sc m ≡ moment sc hands (suc n) → IsAgreed sc hands (suc n)
-sync-step sc hands n m s q law agree small at running is =
+sync-step {sc} {m} q law agree small at running is =
     elim (cases_lt q 3) [
       | inl stage ↦
           let through : IsPassed sc (record { frame = m.frame; slot = sync_slot_of sc.sizes; stage = q + 1 }) (rows_of sc m) m.book =
           passed sc (record { frame = m.frame; slot = sync_slot_of sc.sizes; stage = q + 1 }) (rows_of sc m) m.book
           (ap (λ b. b.ended) (sym (book_sync sc m q stage at)) ∙ running) in
-          agreed sc hands (suc n) (next sc m) s is
-          (agree_sync sc hands n m s q (sync_windows_are sc m q stage at) (stage_setting sc hands n m s q stage at law agree through) is)
+          agreed is
+          (agree_sync (stage_setting q stage at law agree through) is)
       | inr tail ↦
           let e : m.window ≡ 3 * sync_slot_of sc.sizes + 3 = omega arith in
-          agreed sc hands (suc n) (next sc m) s is (agree_sync sc hands n m s 3 (tail_windows sc m e) (tail_setting sc hands n m s e law agree) is)
+          agreed is (agree_sync (tail_setting e law agree) is)
     ]
 
-window-step : (sc : Scenario) (hands : List HandIn) (n : ℕ) (m : Moment) (s : Shared) → IsLawful sc → Agree sc hands n m s
+window-step : {sc hands n m s : _} → IsLawful sc → Agree sc hands n m s
     → m.window < windows_in sc.sizes → (next sc m).book.ended ≡ false → next sc m ≡ moment sc hands (suc n) → IsAgreed sc hands (suc n)
-window-step sc hands n m s law agree below running is =
+window-step {sc} {m} law agree below running is =
     elim (cases_lt m.window (3 * sync_slot_of sc.sizes)) [
       | inl exact ↦
           let slot : ℕ = m.window / 3 in
           let q : ℕ = m.window % 3 in
-          exact-step sc hands n m s slot q (exact-setting sc hands n m s slot q law agree (omega arith) (omega arith) (omega arith) running) is
+          exact-step q (exact-setting slot q law agree (omega arith) (omega arith) (omega arith) running) is
       | inr late ↦
           let q : ℕ = m.window - 3 * sync_slot_of sc.sizes in
-          sync-step sc hands n m s q law agree (omega arith) (omega arith) running is
+          sync-step q law agree (omega arith) (omega arith) running is
     ]
 
-step-agrees : (sc : Scenario) (hands : List HandIn) (n : ℕ) (m : Moment) (s : Shared) → IsLawful sc → m ≡ moment sc hands n → Agree sc hands n m s
+step-agrees : {sc hands n m s : _} → IsLawful sc → m ≡ moment sc hands n → Agree sc hands n m s
     → (step sc hands m).book.ended ≡ false → IsAgreed sc hands (suc n)
-step-agrees sc hands n m s law is agree running =
+step-agrees {sc} {hands} {n} {m} law is agree running =
     elim (step_is sc hands m running) [
       | inl window ↦
-          window-step sc hands n m s law agree window.0 (ap (λ x. x.book.ended) (sym window.1) ∙ running)
+          window-step law agree window.0 (ap (λ x. x.book.ended) (sym window.1) ∙ running)
           (sym window.1 ∙ ap (step sc hands) is)
       | inr turn ↦
           let bound : m.window ≤ windows_in sc.sizes = agree.window in
           let over : windows_in sc.sizes ≤ m.window = turn.0 in
           let full : m.window ≡ windows_in sc.sizes = omega arith in
           let then : next_frame sc hands m ≡ moment sc hands (suc n) = sym turn.1 ∙ ap (step sc hands) is in
-          agreed sc hands (suc n) (next_frame sc hands m) (shared_next sc.sizes s) then
-          (agree_frame sc hands n m s (record { law = law; agree = agree; at = full }) then)
+          agreed then
+          (agree_frame (record { law = law; agree = agree; at = full }) then)
     ]
 
 -- in every moment up to the first breach all good nodes agree
-pub agreement : (sc : Scenario) (hands : List HandIn) → IsLawful sc → (n : ℕ) → IsRunning (moment sc hands n) → IsAgreed sc hands n
-agreement sc hands law zero running = record { shared = first_shared sc; agree = agree_first sc hands law }
-agreement sc hands law (suc n) running =
-    let before : IsAgreed sc hands n = agreement sc hands law n (running_before sc hands (moment sc hands n) running) in
-    step-agrees sc hands n (moment sc hands n) before.shared law refl before.agree running
+pub agreement : {sc : _} (hands : List HandIn) → IsLawful sc → (n : ℕ) → IsRunning (moment sc hands n) → IsAgreed sc hands n
+agreement {sc} hands law zero running = record { shared = first_shared sc; agree = agree_first hands law }
+agreement {sc} hands law (suc n) running =
+    let before : IsAgreed sc hands n = agreement hands law n (running_before sc hands (moment sc hands n) running) in
+    step-agrees law refl before.agree running

@@ -7,17 +7,17 @@ use Rattle.rb_laws_agreement.proofs.{Tests.Present, Invariant.{sender_of, is_goo
 
 -- Before a slot.
 
-pub bus-before : (sc : Scenario) (hands : List HandIn) → IsLawful sc → (low : ℕ → ℕ) (frame slot : ℕ) → slot ≤ sync_slot_of sc.sizes → IsSettled sc hands frame slot
+pub bus-before : {sc hands : _} → IsLawful sc → (low : ℕ → ℕ) (frame slot : ℕ) → slot ≤ sync_slot_of sc.sizes → IsSettled sc hands frame slot
     → IsBusBefore sc hands frame slot (bus_before sc hands low frame slot)
-bus-before sc hands law low frame slot le settled =
-    let h : IsHeld sc hands (low frame) frame slot (bus_before sc hands low frame slot) = held_at sc hands law low frame slot le (settled_before sc hands law frame slot settled) in
-    let p : IsPlaced sc hands frame slot 1 = as_placed sc hands (low frame) frame slot (bus_before sc hands low frame slot) h in
+bus-before {sc} {hands} law low frame slot le settled =
+    let h : IsHeld sc hands (low frame) frame slot (bus_before sc hands low frame slot) = held_at hands law low frame slot le (settled_before hands law frame slot settled) in
+    let p : IsPlaced sc hands frame slot 1 = as_placed h in
     let m : Moment = before_slot sc hands frame slot in
     record {
       frame_is = h.bus_is.frame_is;
       slot_is = h.bus_is.slot_is;
       good_nodes = λ me i st g.
-          let holds : Holds sc m h.shared me st = h.agree.nodes me i st (good_before_slot sc hands frame slot le p me i st g) in
+          let holds : Holds sc m h.shared me st = h.agree.nodes me i st (good_before_slot le p g) in
           record {
             trusted = record { bius = holds.trusted Biu ∙ h.bus_is.trusted Biu; rmus = holds.trusted Rmu ∙ h.bus_is.trusted Rmu };
             owners = λ late. holds.owners ∙ h.bus_is.owners;
@@ -33,13 +33,13 @@ bus-before sc hands law low frame slot le settled =
 -- The value of a slot.
 
 -- a good sender's value is what it may be
-of-good : (sc : Scenario) (m : Moment) (bus : AbstractBus) (offered : ℕ → ℕ) (role : Role) (i word : ℕ) (st : NodeState) (value : Heard)
+of-good : (sc : Scenario) (m : Moment) (bus : AbstractBus) (offered : ℕ → ℕ) (role : Role) (i word : ℕ) (st : NodeState) {value : _}
     → sender_in bus.bius bus.rmus bus.owners role ≡ Node i → value ≡ own_value st role word
     → (is_diagnosis role ≡ true → IsVector sc m (other (sender_kind role)) value)
     → ((kind : Side) (j : ℕ) → is_good sc kind j bus.frame bus.slot ≡ true → is_good_now sc m kind j ≡ true)
     → ((j : ℕ) → role ≡ Schedule j → word ≡ get_or sc.requests i 0) → ((n : ℕ) → role ≡ Data n → word ≡ offered i)
     → IsOfGood sc bus (offered i) role value
-of-good sc m bus offered (Schedule j) i word st value sender is vector good request offer =
+of-good sc m bus offered (Schedule j) i word st sender is vector good request offer =
     is ∙ ap Word (request j refl) ∙ ap (λ k. Word (get_or sc.requests k 0)) (sym (own-slot bus.bius j i sender))
   where
     own-slot : (trusted j i : ℕ) → if_trusted trusted j ≡ Node i → j ≡ i
@@ -48,22 +48,22 @@ of-good sc m bus offered (Schedule j) i word st value sender is vector good requ
         go : (b : Bool) → (if b then Node j else Nobody) ≡ Node i → j ≡ i
         go true h = same_node j i h
         go false h = cc
-of-good sc m bus offered (Data n) i word st value sender is vector good request offer = is ∙ ap Word (offer n refl)
-of-good sc m bus offered (DiagBiu k) i word st value sender is vector good request offer =
+of-good sc m bus offered (Data n) i word st sender is vector good request offer = is ∙ ap Word (offer n refl)
+of-good sc m bus offered (DiagBiu k) i word st {value} sender is vector good request offer =
     let v : IsVector sc m Rmu value = vector refl in record { valid = v.valid; spared = λ j g. v.spared j (good Rmu j g) }
-of-good sc m bus offered (DiagRmu k) i word st value sender is vector good request offer =
+of-good sc m bus offered (DiagRmu k) i word st {value} sender is vector good request offer =
     let v : IsVector sc m Biu value = vector refl in record { valid = v.valid; spared = λ j g. v.spared j (good Biu j g) }
-of-good sc m bus offered Sync i word st value sender is vector good request offer = tt
+of-good sc m bus offered Sync i word st sender is vector good request offer = tt
 
-may-have : (sc : Scenario) (hands : List HandIn) (frame slot : ℕ) (bus : AbstractBus) (r : IsSlot sc hands frame slot) → IsBusOf r.shared frame slot bus
-    → (value : Heard) → value ≡ value_of_slot sc hands frame slot r
+may-have : {sc hands frame slot bus : _} (r : IsSlot sc hands frame slot) → IsBusOf r.shared frame slot bus
+    → {value : _} → value ≡ value_of_slot r
     → MayHave sc bus (offered_in sc hands frame slot) (role_of sc.sizes bus.slot) (sender_on sc.sizes bus) value
-may-have sc hands frame slot bus r b value is =
+may-have {sc} {hands} {frame} {slot} {bus} r b {value} is =
     subst (λ k. MayHave sc bus (offered_in sc hands frame slot) (role_of sc.sizes k) (sender_in bus.bius bus.rmus bus.owners (role_of sc.sizes k)) value) (sym b.slot_is)
     (go (sender_in bus.bius bus.rmus bus.owners (role_of sc.sizes slot)) refl)
   where
     sender-is : sender_of sc.sizes r.shared slot ≡ sender_in bus.bius bus.rmus bus.owners (role_of sc.sizes slot)
-    sender-is = bus-sender sc.sizes r.shared frame slot bus b ∙ ap (λ k. sender_in bus.bius bus.rmus bus.owners (role_of sc.sizes k)) b.slot_is
+    sender-is = bus-sender sc.sizes b ∙ ap (λ k. sender_in bus.bius bus.rmus bus.owners (role_of sc.sizes k)) b.slot_is
 
     go : (sender : Sender) → sender_in bus.bius bus.rmus bus.owners (role_of sc.sizes slot) ≡ sender
         → MayHave sc bus (offered_in sc hands frame slot) (role_of sc.sizes slot) sender value
@@ -79,20 +79,20 @@ may-have sc hands frame slot bus r b value is =
         let k : Side = kind_in sc slot in
         let n : ℕ = suc (suc r.steps) in
         let v : HasVoted sc hands m3 r.shared slot = voted sc hands n m3 r.shared slot r.third in
-        let frame_is : m3.frame ≡ frame = third_frame sc hands frame slot r in
+        let frame_is : m3.frame ≡ frame = third_frame r in
         let place : (kind : Side) (j : ℕ) → is_good sc kind j bus.frame bus.slot ≡ true → is_good sc kind j frame slot ≡ true =
         λ kind j g. ap (λ f. is_good sc kind j f slot) (sym b.frame_is) ∙ ap (is_good sc kind j bus.frame) (sym b.slot_is) ∙ g in
         let here : is_good sc k i frame slot ≡ true = place k i good in
-        let own : IsOwn sc hands m3 slot i v.value = v.is_value.own i (sender-is ∙ e) (good_in_stage sc hands n m3 r.shared frame slot 2 r.third frame_is k i here) in
+        let own : IsOwn sc hands m3 slot i v.value = v.is_value.own i (sender-is ∙ e) (good_in_stage r.third frame_is k i here) in
         let st : Present (slice_get (of_kind k m1.nodes) i) =
-        good_state sc hands r.steps m1 r.shared r.first.agree k i (good_in_stage sc hands r.steps m1 r.shared frame slot 0 r.first r.frame_is k i here) in
+        good_state r.first.agree k i (good_in_stage r.first r.frame_is k i here) in
         let word : ℕ = word_for sc m1.ports i slot role in
         let said : value ≡ own_value st.value role word =
         is ∙ own.said st.value (ap (λ f. slice_get (of_kind k (before_slot sc hands f slot).nodes) i) frame_is ∙ st.is)
         ∙ ap (λ f. own_value st.value role (word_for sc (before_slot sc hands f slot).ports i slot role)) frame_is in
-        of-good sc m3 bus (offered_in sc hands frame slot) role i word st.value value e said
+        of-good sc m3 bus (offered_in sc hands frame slot) role i word st.value e said
         (λ d. subst (IsVector sc m3 (other k)) (sym is) (own.vector d))
-        (λ kind j g. good_in_stage sc hands n m3 r.shared frame slot 2 r.third frame_is kind j (place kind j g))
+        (λ kind j g. good_in_stage r.third frame_is kind j (place kind j g))
         (λ j q. ap (word_for sc m1.ports i slot) q) (λ n q. ap (word_for sc m1.ports i slot) q)
 
 -- A slot.
@@ -107,47 +107,47 @@ lines-on sc frame slot (DiagBiu i) sender value h = cc
 lines-on sc frame slot (DiagRmu i) sender value h = cc
 lines-on sc frame slot Sync sender value h = cc
 
-pub bus-slot-step : (sc : Scenario) (hands : List HandIn) → IsLawful sc → (low : ℕ → ℕ) (frame slot : ℕ) → slot < sync_slot_of sc.sizes → IsComplete sc hands frame slot
+pub bus-slot-step : {sc hands : _} → IsLawful sc → (low : ℕ → ℕ) (frame slot : ℕ) → slot < sync_slot_of sc.sizes → IsComplete sc hands frame slot
     → IsBusSlot sc hands frame slot (bus_before sc hands low frame slot) (bus_then sc hands low frame slot)
-bus-slot-step sc hands law low frame slot below complete =
+bus-slot-step {sc} {hands} law low frame slot below complete =
     let bus : AbstractBus = bus_before sc hands low frame slot in
     let value : Heard = value_in_rounds sc hands frame slot in
-    let h : IsHeld sc hands (low frame) frame slot bus = held_at sc hands law low frame slot (omega arith) (complete_before sc hands frame slot 1 (omega arith) complete) in
-    let p : IsPlaced sc hands frame slot 1 = as_placed sc hands (low frame) frame slot bus h in
-    let r : IsSlot sc hands frame slot = slot_runs_from sc hands law frame slot below complete p in
-    let b : IsBusOf r.shared frame slot bus = subst (λ s. IsBusOf s frame slot bus) (sym (slot_runs-shared sc hands law frame slot below complete p)) h.bus_is in
-    let read : value ≡ value_of_slot sc hands frame slot r = value-read sc hands law frame slot r in
+    let h : IsHeld sc hands (low frame) frame slot bus = held_at hands law low frame slot (omega arith) (complete_before sc hands frame slot 1 (omega arith) complete) in
+    let p : IsPlaced sc hands frame slot 1 = as_placed h in
+    let r : IsSlot sc hands frame slot = slot_runs_from law below complete p in
+    let b : IsBusOf r.shared frame slot bus = subst (λ s. IsBusOf s frame slot bus) (sym (slot_runs-shared law below complete p)) h.bus_is in
+    let read : value ≡ value_of_slot r = value-read law r in
     let after : bus_then sc hands low frame slot ≡ bus_after_slot sc.sizes value bus =
-    ap (bus_in_rounds sc hands low) (index (frame * (sync_slot_of sc.sizes + 1)) slot) ∙ bus-over-slot sc hands low frame slot h below in
+    ap (bus_in_rounds sc hands low) (index (frame * (sync_slot_of sc.sizes + 1)) slot) ∙ bus-over-slot low h below in
     let last : value_on (bus_then sc hands low frame slot) slot ≡ value =
     ap (λ x. get_or x.values slot Fault) after ∙ get-last bus.values value slot (sym b.long) in
     record {
-      step = record { may_have = may-have sc hands frame slot bus r b value read; after_is = after };
-      votes = λ me i st g below_sync votes. (has_value sc hands frame slot r).all me i st g votes ∙ sym read ∙ sym last;
+      step = record { may_have = may-have r b read; after_is = after };
+      votes = λ me i st g below_sync votes. (has_value r).all me i st g votes ∙ sym read ∙ sym last;
       deliveries = λ data_slot.
-          ap (λ m. m.book.lines) (sym r.after_second) ∙ slot-lines sc hands frame slot r
-          ∙ lines-on sc frame slot (role_of sc.sizes slot) (sender_of sc.sizes r.shared slot) (value_of_slot sc hands frame slot r) data_slot
-          ∙ ap (λ x. lines_on sc frame slot x (value_of_slot sc hands frame slot r)) (bus-sender sc.sizes r.shared frame slot bus b)
+          ap (λ m. m.book.lines) (sym r.after_second) ∙ slot-lines r
+          ∙ lines-on sc frame slot (role_of sc.sizes slot) (sender_of sc.sizes r.shared slot) (value_of_slot r) data_slot
+          ∙ ap (λ x. lines_on sc frame slot x (value_of_slot r)) (bus-sender sc.sizes b)
           ∙ ap (lines_on sc frame slot (sender_on sc.sizes bus)) (sym read ∙ sym last);
     }
   where
     index : (a slot : ℕ) → a + slot + 1 ≡ a + suc slot
     index a slot = omega arith
 
-pub bus-frame-step : (sc : Scenario) (hands : List HandIn) → IsLawful sc → (low : ℕ → ℕ) (frame : ℕ) → IsComplete sc hands frame (sync_slot_of sc.sizes)
+pub bus-frame-step : {sc : _} (hands : List HandIn) → IsLawful sc → (low : ℕ → ℕ) (frame : ℕ) → IsComplete sc hands frame (sync_slot_of sc.sizes)
     → bus_then sc hands low frame (sync_slot_of sc.sizes) ≡ bus_after_frame sc.sizes (low (frame + 1)) (bus_before sc hands low frame (sync_slot_of sc.sizes))
-bus-frame-step sc hands law low frame complete =
+bus-frame-step {sc} hands law low frame complete =
     let s : ℕ = sync_slot_of sc.sizes in
-    let h : IsHeld sc hands (low frame) frame s (bus_before sc hands low frame s) = held_at sc hands law low frame s (omega arith) (complete_before sc hands frame s 1 (omega arith) complete) in
+    let h : IsHeld sc hands (low frame) frame s (bus_before sc hands low frame s) = held_at hands law low frame s (omega arith) (complete_before sc hands frame s 1 (omega arith) complete) in
     let one : suc frame ≡ frame + 1 = omega arith in
-    ap (bus_in_rounds sc hands low) (index frame s) ∙ bus-over-frame sc hands low frame h ∙ ap (λ f. bus_after_frame sc.sizes (low f) (bus_before sc hands low frame s)) one
+    ap (bus_in_rounds sc hands low) (index frame s) ∙ bus-over-frame low h ∙ ap (λ f. bus_after_frame sc.sizes (low f) (bus_before sc hands low frame s)) one
   where
     index : (f s : ℕ) → f * (s + 1) + s + 1 ≡ suc f * (s + 1) + 0
     index f s = omega arith
 
 pub steps_the_bus : RoundsStepTheBus
 steps_the_bus sc hands law low = record {
-  before = bus-before sc hands law low;
-  slots = bus-slot-step sc hands law low;
-  frames = bus-frame-step sc hands law low;
+  before = bus-before law low;
+  slots = bus-slot-step law low;
+  frames = bus-frame-step hands law low;
 }

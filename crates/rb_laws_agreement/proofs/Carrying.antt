@@ -1,10 +1,10 @@
 -- Whatever is taken in a lawful scenario has four bytes, also what nodes say that are not good.
 use Rattle.std.proofs.{Common.{◌≡◌, ℕ, ◌+◌, ◌<◌, ◌^◌, ◌&&◌, Bool, true, false, List, [], ◌∷◌, map, Option, Some, None, get_or, slice_get, if◌then◌else◌, refl, sym, ◌∙◌, ap, subst, arith, inl, inr}, lemmas.List.Elements.All-head}
 use Rattle.std.specs.Prelude.{IfSome, All}
-use Rattle.rb_base.specs.Nodes.{Side, other}
-use Rattle.rb_rules.specs.{declared.message.Message.Message, declared.message.Tag.Tag, declared.message.Version.Version, declared.sense.Expect.Expect, declared.sense.Sense.Sense, declared.sense.Sense.TheVariants.{One, Bad}, Book.of_kind, Clock.Timeline, Goodness.{Scenario, is_good, clock_of}, Hearing.{Coming, Span, span_of, said_by, arrival_of}, NodeState.NodeState, NodeSteps.expect_of, Ports.HandIn, Rounds.{Moment, sent_in}, Sense.{suits, sense_of, sense_of_one, value_of, value_in}, Spelling.{IsMessage, HasValue, AreBytes, message_in}, Standing.{Standing, is_eligible, taken_of}}
+use Rattle.rb_base.specs.Nodes.{other}
+use Rattle.rb_rules.specs.{declared.message.Message.Message, declared.message.Tag.Tag, declared.message.Version.Version, declared.sense.Expect.Expect, declared.sense.Sense.Sense, declared.sense.Sense.TheVariants.{One, Bad}, Book.of_kind, Clock.Timeline, Goodness.{is_good, clock_of}, Hearing.{Coming, Span, span_of, said_by, arrival_of}, NodeSteps.expect_of, Rounds.sent_in, Sense.{suits, sense_of, sense_of_one, value_of, value_in}, Spelling.{IsMessage, HasValue, AreBytes, message_in}, Standing.{Standing, is_eligible, taken_of}}
 use Rattle.rb_rules.proofs.{Senses.IsCarried, Spellings.only_so}
-use Rattle.rb_laws_agreement.proofs.{Tests.{true_or_false, Present}, SaidWindows.all-said, Invariant.{Shared, IsGoodNode, is_good_now}, NodeWindows.{Windows, kept_in, own_window, heard_in, sense_in, from-faulty}, ExactWindows.expected_at, Exchanges.IsHeard, Speaking.get-all, Settings.{Setting, windows, good_here, good_state, AllCarried, all_heard, taken}}
+use Rattle.rb_laws_agreement.proofs.{Tests.{true_or_false, Present}, SaidWindows.all-said, Invariant.{IsGoodNode, is_good_now}, NodeWindows.{Windows, kept_in, own_window, heard_in, sense_in, from-faulty}, ExactWindows.expected_at, Exchanges.IsHeard, Speaking.get-all, Settings.{Setting, windows, good_here, good_state, AllCarried, all_heard, taken}}
 use Rattle.rb_rules.specs.declared.message.Tag.TheVariants as tag
 
 -- whatever the bytes spell is a message in range
@@ -46,26 +46,26 @@ taken-carried s expected sense j fits = go (expected j && is_eligible s j)
     go false = tt
 
 -- whatever a good node takes has four bytes, if what good nodes say has
-pub all_carried : (sc : Scenario) (hands : List HandIn) (n : ℕ) (m : Moment) (s : Shared) (slot q : ℕ) (c : Setting sc hands n m s slot q) → AllCarried sc m slot (q + 1)
-    → (me : Side) (i j : ℕ) (st : NodeState) → IsGoodNode sc m me i st → IfSome (taken sc hands n m s slot q c me i st j) IsCarried
-all_carried sc hands n m s slot q c fits me i j st here =
-    let ws : Windows sc m slot (q + 1) = windows sc hands n m s slot q c in
+pub all_carried : {sc hands n m s slot q : _} (c : Setting sc hands n m s slot q) → AllCarried sc m slot (q + 1)
+    → {me i : _} (j : ℕ) {st : _} → IsGoodNode sc m me i st → IfSome (taken c me i st j) IsCarried
+all_carried {sc} {m} {slot} {q} c fits {me} {i} j {st} here =
+    let ws : Windows sc m slot (q + 1) = windows c in
     elim (true_or_false (is_good_now sc m (other me) j)) [
       | inl good ↦
-          let there : Present (slice_get (of_kind (other me) m.nodes) j) = good_state sc hands n m s c.agree (other me) j good in
+          let there : Present (slice_get (of_kind (other me) m.nodes) j) = good_state c.agree (other me) j good in
           let source : IsGoodNode sc m (other me) j there.value = record { there = there.is; good = good } in
-          let heard : IsHeard sc m slot (q + 1) ws me i j st there.value = all_heard sc hands n m s slot q c fits me i j st there.value here source in
+          let heard : IsHeard sc m slot (q + 1) ws me i j st there.value = all_heard c fits here source in
           subst (λ o. IfSome o IsCarried) (sym heard.takes) (fits (other me) j there.value source)
       | inr faulty ↦
-          let span : Span = span_of st (own_window sc m slot (q + 1) ws me st) in
+          let span : Span = span_of st (own_window ws me st) in
           let frame : st.frame ≡ m.frame = (c.agree.nodes me i st here).frame in
           let not_good : is_good sc (other me) j st.frame slot ≡ false =
-          ap (λ f. is_good sc (other me) j f slot) frame ∙ sym (good_here sc hands n m s slot q c (other me) j) ∙ faulty in
-          let heard : heard_in sc m slot (q + 1) ws me i st j ≡ said_by sc me i span j =
+          ap (λ f. is_good sc (other me) j f slot) frame ∙ sym (good_here c (other me) j) ∙ faulty in
+          let heard : heard_in ws me i st j ≡ said_by sc me i span j =
           from-faulty sc me i span (of_kind (other me) (sent_in sc m)) j not_good in
-          let readable : All (ComesReadable sc.plan.version) (heard_in sc m slot (q + 1) ws me i st j) =
+          let readable : All (ComesReadable sc.plan.version) (heard_in ws me i st j) =
           subst (All (ComesReadable sc.plan.version)) (sym heard)
           (λ k d lt. raw-readable sc.plan.version (get_or (said_by sc me i span j) k d).bytes (all-said sc me i span j k d lt).bytes) in
-          taken-carried st.far (expected_at sc.sizes me st slot (q + 1)) (sense_in sc m slot (q + 1) ws me i st) j
-          (sense-carried (expect_of sc.sizes sc.plan.version (kept_in sc m slot (q + 1) me i st) slot (q + 1)) (clock_of sc me i) (heard_in sc m slot (q + 1) ws me i st j) readable)
+          taken-carried st.far (expected_at sc.sizes me st slot (q + 1)) (sense_in ws me i st) j
+          (sense-carried (expect_of sc.sizes sc.plan.version (kept_in sc m slot (q + 1) me i st) slot (q + 1)) (clock_of sc me i) (heard_in ws me i st j) readable)
     ]

@@ -7,90 +7,90 @@ use Rattle.rb_laws_agreement.proofs.{Invariant.{Shared, sender_of, IsGoodNode, i
 
 -- One node.
 
-pub has_ticks : (sc : Scenario) → IsLawful sc → HasTicks sc.plan
-has_ticks sc law = record { l = law.plan.l.0; v = law.plan.v.0; z = law.plan.z.0 }
+pub has_ticks : {sc : _} → IsLawful sc → HasTicks sc.plan
+has_ticks law = record { l = law.plan.l.0; v = law.plan.v.0; z = law.plan.z.0 }
 
 -- what a good node knows of the frame's middles
-pub knows_next : (sc : Scenario) (m : Moment) (slot stage : ℕ) (ws : Windows sc m slot stage) (me : Side) (i : ℕ) (st : NodeState) → IsLawful sc
+pub knows_next : {sc m slot stage : _} (ws : Windows sc m slot stage) {me : _} (i : ℕ) {st : _} → IsLawful sc
     → m.window < windows_in sc.sizes → is_good sc me i m.frame slot ≡ true → Knows sc.sizes me m.window st → Knows sc.sizes me (m.window + 1) (after sc m me i st)
-knows_next sc m slot stage ws me i st law below good knows =
-    numbered-knows sc m (sent_in sc m) me i m.window st (has_ticks sc law) below (ap (λ w. is_good sc me i m.frame w.slot) (ws.are me st) ∙ good) knows
+knows_next {sc} {m} ws {me} i {st} law below good knows =
+    numbered-knows sc m (sent_in sc m) me i m.window st (has_ticks law) below (ap (λ w. is_good sc me i m.frame w.slot) (ws.are me st) ∙ good) knows
 
 -- a window leaves a node as many votes as it had
-votes-long : (sc : Scenario) (hands : List HandIn) (n : ℕ) (m : Moment) (s : Shared) (slot q : ℕ) (c : Setting sc hands n m s slot q) (me : Side) (i : ℕ) (st now : NodeState)
+votes-long : {sc hands n m s slot q : _} (c : Setting sc hands n m s slot q) {me i st now : _}
     → IsGoodNode sc m me i st → after sc m me i st ≡ now → length now.votes ≡ length st.votes
-votes-long sc hands n m s slot q c me i st now here is =
-    let x : Closed sc hands n m s slot q c me i st = closes sc hands n m s slot q c me i st here in
-    ap (λ t. length t.votes) (sym is ∙ x.is) ∙ ap length x.parts.votes ∙ go (votes_in me (role_of sc.sizes slot) (q + 1)) (vote_of sc hands n m s slot q c me i st)
+votes-long {sc} {hands} {n} {m} {s} {slot} {q} c {me} {i} {st} here is =
+    let x : Closed sc hands n m s slot q c me i st = closes c here in
+    ap (λ t. length t.votes) (sym is ∙ x.is) ∙ ap length x.parts.votes ∙ go (votes_in me (role_of sc.sizes slot) (q + 1)) (vote_of c me i st)
   where
     go : (b : Bool) (v : Heard) → length (if b then slice_set st.votes slot v else st.votes) ≡ length st.votes
     go true v = length-set st.votes slot v
     go false v = refl
 
 -- what a good node holds afterwards
-pub holds_exact : (sc : Scenario) (hands : List HandIn) (n : ℕ) (m : Moment) (s t : Shared) (slot q : ℕ) (c : Setting sc hands n m s slot q)
-    → AllCarried sc m slot (q + 1) → NoneUnlike sc hands n m s slot q c → ((kind : Side) → s.trusted kind ≡ t.trusted kind)
-    → (me : Side) (i : ℕ) (now : NodeState) → IsGoodNode sc (next sc m) me i now → now.owners ≡ t.owners → Holds sc (next sc m) t me now
+pub holds_exact : {sc hands n m s : _} (t : Shared) {slot q : ℕ} (c : Setting sc hands n m s slot q)
+    → AllCarried sc m slot (q + 1) → NoneUnlike c → ((kind : Side) → s.trusted kind ≡ t.trusted kind)
+    → {me i now : _} → IsGoodNode sc (next sc m) me i now → now.owners ≡ t.owners → Holds sc (next sc m) t me now
 unfolding after_window
-holds_exact sc hands n m s t slot q c fits none same me i now h owners =
-    let from : CameFrom sc m me i now = came_from sc hands n m s c.agree me i now h in
+holds_exact {sc} {m} {s} t {slot} {q} c fits none same {me} {i} {now} h owners =
+    let from : CameFrom sc m me i now = came_from c.agree h in
     let holds : Holds sc m s me from.st = c.agree.nodes me i from.st from.was in
     let stays = through-stays sc m (sent_in sc m) me i from.st (window_in sc m me from.st) in
     let spared : (j : ℕ) → is_good_now sc (next sc m) (other me) j ≡ true → SparesNode (after sc m me i from.st) j =
-    λ j good. all_spared sc hands n m s slot q c fits none me i j from.st from.was (was_good sc m (other me) j good) in
+    λ j good. all_spared c fits none j from.was (was_good sc m (other me) j good) in
     let last : m.window < windows_in sc.sizes = let at : m.window ≡ 3 * slot + q = c.at in let below : slot < sync_slot_of sc.sizes = c.below in let small : q < 3 = c.small in omega arith in
     record {
       frame = ap (λ x. x.frame) (sym from.is) ∙ stays.frame ∙ holds.frame;
-      trusted = λ kind. ap (trusted_of kind me) (sym from.is) ∙ stays-trusted kind me from.st _ stays ∙ holds.trusted kind ∙ same kind;
+      trusted = λ kind. ap (trusted_of kind me) (sym from.is) ∙ stays-trusted kind me stays ∙ holds.trusted kind ∙ same kind;
       owners = owners;
-      long = votes-long sc hands n m s slot q c me i from.st now from.was from.is ∙ holds.long;
+      long = votes-long c from.was from.is ∙ holds.long;
       spares = record {
         direct = λ j good. ap (λ x. has x.far.direct j) (sym from.is) ∙ (spared j good).direct;
         mismatch = λ j good. ap (λ x. has x.far.mismatch j) (sym from.is) ∙ (spared j good).mismatch;
       };
       knows = subst (Knows sc.sizes me (m.window + 1)) from.is
-          (knows_next sc m slot (q + 1) (windows sc hands n m s slot q c) me i from.st c.law last
-          (sym (good_here sc hands n m s slot q c me i) ∙ from.was.good) holds.knows);
+          (knows_next (windows c) i c.law last
+          (sym (good_here c me i) ∙ from.was.good) holds.knows);
     }
 
 -- a good node holds the owners that its votes give
-owners-are : (sc : Scenario) (hands : List HandIn) (n : ℕ) (m : Moment) (s : Shared) (slot q : ℕ) (c : Setting sc hands n m s slot q) (me : Side) (i : ℕ) (st now : NodeState)
+owners-are : {sc hands n m s slot q : _} (c : Setting sc hands n m s slot q) {me i st now : _}
     → IsGoodNode sc m me i st → after sc m me i st ≡ now → now.owners ≡ owners_after sc.sizes me st slot (q + 1) now.votes
-owners-are sc hands n m s slot q c me i st now here is =
-    let x : Closed sc hands n m s slot q c me i st = closes sc hands n m s slot q c me i st here in
+owners-are {sc} {hands} {n} {m} {s} {slot} {q} c {me} {i} {st} here is =
+    let x : Closed sc hands n m s slot q c me i st = closes c here in
     ap (λ t. t.owners) (sym is ∙ x.is) ∙ x.parts.owners
     ∙ ap (owners_after sc.sizes me st slot (q + 1)) (sym x.parts.votes ∙ ap (λ t. t.votes) (sym x.is ∙ is))
 
 -- The windows of stages 1 and 2.
 
-pub suc-place : (n frame window size : ℕ) → n ≡ frame * size + window → suc n ≡ frame * size + (window + 1)
-suc-place n frame window size h = omega arith
+pub suc-place : {n : ℕ} (frame window size : ℕ) → n ≡ frame * size + window → suc n ≡ frame * size + (window + 1)
+suc-place frame window size h = omega arith
 
 -- after stage 1 or 2 of a slot all good nodes still agree
-agree-within : (sc : Scenario) (hands : List HandIn) (n : ℕ) (m : Moment) (s : Shared) (slot q : ℕ) (c : Setting sc hands n m s slot q) → q < 2
-    → AllCarried sc m slot (q + 1) → NoneUnlike sc hands n m s slot q c → next sc m ≡ moment sc hands (suc n)
+agree-within : {sc hands n m s slot q : _} (c : Setting sc hands n m s slot q) → q < 2
+    → AllCarried sc m slot (q + 1) → NoneUnlike c → next sc m ≡ moment sc hands (suc n)
     → ((t : ℕ) → t < sync_slot_of sc.sizes → m.window + 1 ≡ 3 * t + 1 → HasRelays sc hands (next sc m) s t)
     → ((t : ℕ) → t < sync_slot_of sc.sizes → m.window + 1 ≡ 3 * t + 2 → HasVoted sc hands (next sc m) s t)
     → Agree sc hands (suc n) (next sc m) s
 unfolding after_window
-agree-within sc hands n m s slot q c early fits none is relayed voted =
+agree-within {sc} {m} {s} {slot} {q} c early fits none is relayed voted =
     let at : m.window ≡ 3 * slot + q = c.at in
     let below : slot < sync_slot_of sc.sizes = c.below in
     record {
       is = is;
-      place = suc-place n m.frame m.window (windows_in sc.sizes + 1) c.agree.place;
+      place = suc-place m.frame m.window (windows_in sc.sizes + 1) c.agree.place;
       window = omega arith;
       counts = λ me. counts_after sc m me ∙ c.agree.counts me;
       nodes = λ me i now h.
-          let from : CameFrom sc m me i now = came_from sc hands n m s c.agree me i now h in
-          holds_exact sc hands n m s s slot q c fits none (λ kind. refl) me i now h
-          (owners-are sc hands n m s slot q c me i from.st now from.was from.is ∙ same me from.st now.votes ∙ (c.agree.nodes me i from.st from.was).owners);
+          let from : CameFrom sc m me i now = came_from c.agree h in
+          holds_exact s c fits none (λ kind. refl) h
+          (owners-are c from.was from.is ∙ same me from.st now.votes ∙ (c.agree.nodes me i from.st from.was).owners);
       trusted = λ kind j good. c.agree.trusted kind j (was_good sc m kind j good);
       inside = c.agree.inside;
       owned = c.agree.owned;
       finished = λ t lt done.
           let before : t < slot = omega arith in
-          finished_next sc hands n m s slot q c t (s.values t) before (c.agree.finished t lt (omega arith));
+          finished_next c before (c.agree.finished t lt (omega arith));
       relayed = relayed;
       voted = voted;
       judged = λ late. absurd (omega arith);
@@ -101,25 +101,25 @@ agree-within sc hands n m s slot q c early fits none is relayed voted =
         let no_it : (q + 1 == 3) ≡ false = grind (arith, nat_tests) in
         ap (λ b. if b && (slot + 1 == sc.sizes.bius) then owners_of sc.sizes (trusted_of me Biu st) (take sc.sizes.bius votes) else st.owners) no_it
 
-pub agree_1 : (sc : Scenario) (hands : List HandIn) (n : ℕ) (m : Moment) (s : Shared) (slot : ℕ) → Setting sc hands n m s slot 0
+pub agree_1 : {sc hands n m s slot : _} → Setting sc hands n m s slot 0
     → next sc m ≡ moment sc hands (suc n) → Agree sc hands (suc n) (next sc m) s
-agree_1 sc hands n m s slot c is =
+agree_1 {sc} {hands} {m} {s} {slot} c is =
     let at : m.window ≡ 3 * slot + 0 = c.at in
-    agree-within sc hands n m s slot 0 c (omega arith) (carried_1 sc hands n m s slot c)
+    agree-within c (omega arith) (carried_1 c)
     (λ me i j st source here there value reference. none_first value reference) is
-    (λ t lt e. let same : slot ≡ t = omega arith in subst (HasRelays sc hands (next sc m) s) same (relays_1 sc hands n m s slot c))
+    (λ t lt e. let same : slot ≡ t = omega arith in subst (HasRelays sc hands (next sc m) s) same (relays_1 c))
     (λ t lt e. absurd (omega arith))
   where
     none_first : {P : Type 0} (value : Heard) → None ≡ Some value → P
     none_first value h = cc
 
-pub agree_2 : (sc : Scenario) (hands : List HandIn) (n : ℕ) (m : Moment) (s : Shared) (slot : ℕ) → Setting sc hands n m s slot 1
+pub agree_2 : {sc hands n m s slot : _} → Setting sc hands n m s slot 1
     → next sc m ≡ moment sc hands (suc n) → Agree sc hands (suc n) (next sc m) s
-agree_2 sc hands n m s slot c is =
+agree_2 {sc} {hands} {m} {s} {slot} c is =
     let at : m.window ≡ 3 * slot + 1 = c.at in
-    agree-within sc hands n m s slot 1 c (omega arith) (carried_2 sc hands n m s slot c) (none_unlike_2 sc hands n m s slot c) is
+    agree-within c (omega arith) (carried_2 c) (none_unlike_2 c) is
     (λ t lt e. absurd (omega arith))
-    (λ t lt e. let same : slot ≡ t = omega arith in subst (HasVoted sc hands (next sc m) s) same (votes_2 sc hands n m s slot c))
+    (λ t lt e. let same : slot ≡ t = omega arith in subst (HasVoted sc hands (next sc m) s) same (votes_2 c))
 
 -- The window of stage 3.
 
@@ -147,9 +147,9 @@ same-sender sc s slot value t before = go (slot + 1 == sc.sizes.bius) refl
         requester slot t bius before e = grind (arith, nat_tests)
     go false e = refl
 
-finished-same : (sc : Scenario) (hands : List HandIn) (m : Moment) (s u : Shared) (t : ℕ) (value : Heard) → sender_of sc.sizes s t ≡ sender_of sc.sizes u t
+finished-same : {sc : Scenario} {hands : List HandIn} {m : Moment} {s : Shared} (u : Shared) {t : ℕ} {value : Heard} → sender_of sc.sizes s t ≡ sender_of sc.sizes u t
     → IsFinished sc hands m s t value → IsFinished sc hands m u t value
-finished-same sc hands m s u t value same f = record {
+finished-same u same f = record {
   is_value = record {
     idle = λ e. f.is_value.idle (same ∙ e);
     own = λ p e. f.is_value.own p (same ∙ e);
@@ -168,10 +168,10 @@ unfolding with_value
 value-before sc s slot value t before = let e : (t == slot) ≡ false = grind (arith, nat_tests) in ap (λ b. if b then value else s.values t) e
 
 -- all slots up to this one are finished
-finished-all : (sc : Scenario) (hands : List HandIn) (n : ℕ) (m : Moment) (s : Shared) (slot : ℕ) (c : Setting sc hands n m s slot 2)
+finished-all : {sc hands n m s slot : _} (c : Setting sc hands n m s slot 2)
     → (t : ℕ) → t ≤ slot
     → IsFinished sc hands (next sc m) (with_value sc s slot (voted sc hands n m s slot c).value) t ((with_value sc s slot (voted sc hands n m s slot c).value).values t)
-finished-all sc hands n m s slot c t le =
+finished-all {sc} {hands} {n} {m} {s} {slot} c t le =
     let value : Heard = (voted sc hands n m s slot c).value in
     let u : Shared = with_value sc s slot value in
     let at : m.window ≡ 3 * slot + 2 = c.at in
@@ -179,22 +179,22 @@ finished-all sc hands n m s slot c t le =
     elim (cases_lt t slot) [
       | inl before ↦
           subst (IsFinished sc hands (next sc m) u t) (sym (value-before sc s slot value t before))
-          (finished-same sc hands (next sc m) s u t (s.values t) (same-sender sc s slot value t le)
-          (finished_next sc hands n m s slot 2 c t (s.values t) before (c.agree.finished t (omega arith) (omega arith))))
+          (finished-same u (same-sender sc s slot value t le)
+          (finished_next c before (c.agree.finished t (omega arith) (omega arith))))
       | inr late ↦
           let same : slot ≡ t = omega arith in
           subst (λ t. IsFinished sc hands (next sc m) u t (u.values t)) same
           (subst (IsFinished sc hands (next sc m) u slot) (sym (value-at sc s slot value))
-          (finished-same sc hands (next sc m) s u slot value (same-sender sc s slot value slot (omega arith)) (finished_3 sc hands n m s slot c)))
+          (finished-same u (same-sender sc s slot value slot (omega arith)) (finished_3 c)))
     ]
 
 -- the owners that all hold afterwards
-owners-after : (sc : Scenario) (hands : List HandIn) (n : ℕ) (m : Moment) (s : Shared) (slot : ℕ) (c : Setting sc hands n m s slot 2)
-    → (me : Side) (i : ℕ) (now : NodeState) → IsGoodNode sc (next sc m) me i now → now.owners ≡ (with_value sc s slot (voted sc hands n m s slot c).value).owners
+owners-after : {sc hands n m s slot : _} (c : Setting sc hands n m s slot 2)
+    → {me i now : _} → IsGoodNode sc (next sc m) me i now → now.owners ≡ (with_value sc s slot (voted sc hands n m s slot c).value).owners
 unfolding with_value
-owners-after sc hands n m s slot c me i now h =
-    let from : CameFrom sc m me i now = came_from sc hands n m s c.agree me i now h in
-    owners-are sc hands n m s slot 2 c me i from.st now from.was from.is ∙ go from (slot + 1 == sc.sizes.bius) refl
+owners-after {sc} {hands} {n} {m} {s} {slot} c {me} {i} {now} h =
+    let from : CameFrom sc m me i now = came_from c.agree h in
+    owners-are c from.was from.is ∙ go from (slot + 1 == sc.sizes.bius) refl
   where
     requester : (slot t bius : ℕ) → (slot + 1 == bius) ≡ true → t < bius → t ≤ slot
     requester slot t bius e lt = grind (arith, nat_tests)
@@ -206,10 +206,10 @@ owners-after sc hands n m s slot c me i now h =
     go from true e =
         let holds : Holds sc m s me from.st = c.agree.nodes me i from.st from.was in
         let values : ℕ → Heard = (with_value sc s slot (voted sc hands n m s slot c).value).values in
-        let long : length now.votes ≡ sync_slot_of sc.sizes = votes-long sc hands n m s slot 2 c me i from.st now from.was from.is ∙ holds.long in
+        let long : length now.votes ≡ sync_slot_of sc.sizes = votes-long c from.was from.is ∙ holds.long in
         let votes : take sc.sizes.bius now.votes ≡ map values (numbers sc.sizes.bius) =
         take-are values sc.sizes.bius now.votes (omega arith) (λ t lt.
-        (finished-all sc hands n m s slot c t (requester slot t sc.sizes.bius e lt)).held me i now h (ap (λ r. if has_third_stage r then true else same_side me Biu) (schedule_role sc.sizes t lt))) in
+        (finished-all c t (requester slot t sc.sizes.bius e lt)).held me i now h (ap (λ r. if has_third_stage r then true else same_side me Biu) (schedule_role sc.sizes t lt))) in
         ap (λ x. owners_of sc.sizes x (take sc.sizes.bius now.votes)) (trusted-biu me from.st ∙ holds.trusted Biu) ∙ ap (owners_of sc.sizes (s.trusted Biu)) votes
       where
         trusted-biu : (me : Side) (st : NodeState) → trusted_of me Biu st ≡ trusted_of Biu me st
@@ -235,26 +235,26 @@ pub owners-slot : (sc : Scenario) (s : Shared) (slot : ℕ) (value : Heard)
 unfolding with_value
 owners-slot sc s slot value = refl
 
-pub agree_3 : (sc : Scenario) (hands : List HandIn) (n : ℕ) (m : Moment) (s : Shared) (slot : ℕ) (c : Setting sc hands n m s slot 2)
+pub agree_3 : {sc hands n m s slot : _} (c : Setting sc hands n m s slot 2)
     → next sc m ≡ moment sc hands (suc n) → Agree sc hands (suc n) (next sc m) (with_value sc s slot (voted sc hands n m s slot c).value)
 unfolding after_window
-agree_3 sc hands n m s slot c is =
+agree_3 {sc} {hands} {n} {m} {s} {slot} c is =
     let value : Heard = (voted sc hands n m s slot c).value in
     let u : Shared = with_value sc s slot value in
     let at : m.window ≡ 3 * slot + 2 = c.at in
     let below : slot < sync_slot_of sc.sizes = c.below in
     record {
       is = is;
-      place = suc-place n m.frame m.window (windows_in sc.sizes + 1) c.agree.place;
+      place = suc-place m.frame m.window (windows_in sc.sizes + 1) c.agree.place;
       window = omega arith;
       counts = λ me. counts_after sc m me ∙ c.agree.counts me;
       nodes = λ me i now h.
-          holds_exact sc hands n m s u slot 2 c (carried_3 sc hands n m s slot c) (none_unlike_3 sc hands n m s slot c) (same-trusted sc s slot value) me i now h
-          (owners-after sc hands n m s slot c me i now h);
+          holds_exact u c (carried_3 c) (none_unlike_3 c) (same-trusted sc s slot value) h
+          (owners-after c h);
       trusted = λ kind j good. ap (λ t. has t j) (sym (same-trusted sc s slot value kind)) ∙ c.agree.trusted kind j (was_good sc m kind j good);
       inside = λ kind j h. c.agree.inside kind j (ap (λ t. has t j) (same-trusted sc s slot value kind) ∙ h);
       owned = λ k p h. ap (λ t. has t p) (sym (same-trusted sc s slot value Biu)) ∙ owned-after sc s slot value c.agree.owned k p h;
-      finished = λ t lt done. finished-all sc hands n m s slot c t (omega arith);
+      finished = λ t lt done. finished-all c t (omega arith);
       relayed = λ t lt e. absurd (omega arith);
       voted = λ t lt e. absurd (omega arith);
       judged = λ late. absurd (omega arith);

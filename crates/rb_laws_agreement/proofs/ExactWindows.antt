@@ -76,10 +76,10 @@ takes_what_is_said s expected sense source slot stage j None ex el is = unexpect
 takes_what_is_said s expected sense source slot stage j (Some value) ex el is =
     expected_is_taken value_in s expected sense j ex el ∙ ap value_in is.is ∙ value_is_in source slot stage is.stamp value
 
-pub does_right : (expected : Bool) (sense : Sense) (source : NodeState) (slot stage : ℕ) (said : Option Heard)
+pub does_right : {expected : _} (sense : Sense) (source : NodeState) (slot stage : ℕ) (said : Option Heard)
     → expected ≡ is_some said → IsSenseOf sense source slot stage said → does_wrong expected sense ≡ false
-does_right expected sense source slot stage None ex is = rw (ex, is) refl
-does_right expected sense source slot stage (Some value) ex is = rw (ex, is.is) refl
+does_right sense source slot stage None ex is = rw (ex, is) refl
+does_right sense source slot stage (Some value) ex is = rw (ex, is.is) refl
 
 -- What a close makes.
 

@@ -8,11 +8,11 @@ use Rattle.rb_rules.proofs.{Senses.IsCarried, Slots.other_twice, Votes.taken_at}
 use Rattle.rb_laws_agreement.proofs.{Tests.Present, Goodnesses.{good_below_16, few_nodes}, Invariant.{Shared, sender_of, kind_in, IsGoodNode, is_good_now, slot_numbered, is_diagnosis, IsVector, GoodSent, HasRelays, Holds}, ExactWindows.{expected_at, closing_at}, Exchanges.{IsHeard, sender-held, far-held}, NodeWindows.{sense_in, word_at}, StageVotes.IsSeen, Speaking.{says_own, only-fits, own_is_said, word_fits, vector_fits, own_fits}, Settings.{Setting, windows, stages_with, good_state, AllCarried, all_heard, all_seen, all_alike, taken, after, Closed, closes}, Carrying.all_carried, NextMoments.{next, was_good, CameFrom, came_from, stages_after}}
 
 -- what good nodes say in stage 1 has four bytes
-pub carried_1 : (sc : Scenario) (hands : List HandIn) (n : ℕ) (m : Moment) (s : Shared) (slot : ℕ) → Setting sc hands n m s slot 0 → AllCarried sc m slot 1
-carried_1 sc hands n m s slot c me i st here =
+pub carried_1 : {sc hands n m s slot : _} → Setting sc hands n m s slot 0 → AllCarried sc m slot 1
+carried_1 {sc} {m} {slot} c me i st here =
     let word : ℕ = word_at sc m slot i in
-    only-fits (says sc.sizes me i st slot 1 word) (own_value st (role_of sc.sizes slot) word) (says_own sc.sizes me i st slot word)
-    (own_fits st (role_of sc.sizes slot) word (word_fits sc m.ports i slot (role_of sc.sizes slot) c.law))
+    only-fits (says_own sc.sizes me i st slot word)
+    (own_fits st (role_of sc.sizes slot) word (word_fits m.ports i slot (role_of sc.sizes slot) c.law))
 
 pub nothing-past : (s : Standing) (expected : ℕ → Bool) (sense : ℕ → Sense) (p : ℕ) → 16 ≤ p → at_source (closing_of s expected sense).taken p ≡ None
 nothing-past s expected sense p h =
@@ -20,17 +20,17 @@ nothing-past s expected sense p h =
     get_or_past (closing_of s expected sense).taken p None (omega arith)
 
 -- what a relay has got is what it took of the sender
-got-is : (sc : Scenario) (hands : List HandIn) (n : ℕ) (m : Moment) (s : Shared) (slot : ℕ) (c : Setting sc hands n m s slot 0) (me : Side) (i p : ℕ) (st now : NodeState)
+got-is : {sc hands n m s slot : _} (c : Setting sc hands n m s slot 0) {me i : _} (p : ℕ) {st now : _}
     → IsGoodNode sc m me i st → after sc m me i st ≡ now → sender_of sc.sizes s slot ≡ Node p
-    → now.got ≡ at_source (closing_at sc.sizes me st slot 1 (sense_in sc m slot 1 (windows sc hands n m s slot 0 c) me i st)).taken p
-got-is sc hands n m s slot c me i p st now here is sender =
-    let x : Closed sc hands n m s slot 0 c me i st = closes sc hands n m s slot 0 c me i st here in
+    → now.got ≡ at_source (closing_at sc.sizes me st slot 1 (sense_in (windows c) me i st)).taken p
+got-is {sc} {hands} {n} {m} {s} {slot} c {me} {i} p {st} here is sender =
+    let x : Closed sc hands n m s slot 0 c me i st = closes c here in
     ap (λ t. t.got) (sym is ∙ x.is) ∙ x.parts.got
-    ∙ ap (λ y. taken_of_sender y (closing_at sc.sizes me st slot 1 (sense_in sc m slot 1 (windows sc hands n m s slot 0 c) me i st)))
-    (sender-held sc m s me st slot (c.agree.nodes me i st here) ∙ sender)
+    ∙ ap (λ y. taken_of_sender y (closing_at sc.sizes me st slot 1 (sense_in (windows c) me i st)))
+    (sender-held slot (c.agree.nodes me i st here) ∙ sender)
 
-far-side : (sc : Scenario) (m : Moment) (k : Side) (i : ℕ) (st : NodeState) → IsGoodNode sc m k i st → IsGoodNode sc m (other (other k)) i st
-far-side sc m k i st = subst (λ k. IsGoodNode sc m k i st) (sym (other_twice k))
+far-side : {sc m k i st : _} → IsGoodNode sc m k i st → IsGoodNode sc m (other (other k)) i st
+far-side {sc} {m} {k} {i} {st} = subst (λ k. IsGoodNode sc m k i st) (sym (other_twice k))
 
 -- Vectors.
 
@@ -63,14 +63,14 @@ vector-spares s j small d m =
     ∙ and_right (has s.trusted j) (has s.direct j || has s.mismatch j) (or_from (has s.direct j) (has s.mismatch j) d m)
 
 -- a good node's vector is one of nodes that there are, and names no good one
-vector-of : (sc : Scenario) (hands : List HandIn) (n : ℕ) (m : Moment) (s : Shared) (slot : ℕ) (c : Setting sc hands n m s slot 0) (me : Side) (i : ℕ) (st : NodeState)
+vector-of : {sc hands n m s slot : _} (c : Setting sc hands n m s slot 0) {me i st : _}
     → IsGoodNode sc m me i st → IsVector sc (next sc m) (other me) (Word (vector_of st.far))
-vector-of sc hands n m s slot c me i st here =
+vector-of {sc} {m} {s} c {me} {i} {st} here =
     let holds : Holds sc m s me st = c.agree.nodes me i st here in
-    let trusts : st.far.trusted ≡ s.trusted (other me) = far-held sc m s me st holds in
+    let trusts : st.far.trusted ≡ s.trusted (other me) = far-held holds in
     record {
       valid = lt-ltb (vector_of st.far) (2 ^ count_of (other me) sc.sizes)
-          (set-fits (count_of (other me) sc.sizes) (vector_of st.far) (few_nodes sc.sizes c.law.sizes (other me)) (vector_fits st)
+          (set-fits (count_of (other me) sc.sizes) (vector_of st.far) (few_nodes c.law.sizes (other me)) (vector_fits st)
           (λ j small h. c.agree.inside (other me) j (ap (λ t. has t j) (sym trusts) ∙ vector-inside st.far j small h)));
       spared = λ j good.
           let was : is_good_now sc m (other me) j ≡ true = was_good sc m (other me) j good in
@@ -78,12 +78,12 @@ vector-of sc hands n m s slot c me i st here =
           (holds.spares.direct j was) (holds.spares.mismatch j was);
     }
 
-own-vector : (sc : Scenario) (hands : List HandIn) (n : ℕ) (m : Moment) (s : Shared) (slot : ℕ) (c : Setting sc hands n m s slot 0) (p : ℕ) (st : NodeState) (word : ℕ)
+own-vector : {sc : Scenario} {hands : List HandIn} {n : ℕ} {m : Moment} {s : Shared} {slot : ℕ} (c : Setting sc hands n m s slot 0) {p : ℕ} {st : NodeState} (word : ℕ)
     → IsGoodNode sc m (kind_in sc.sizes slot) p st → is_diagnosis (role_of sc.sizes slot) ≡ true
     → IsVector sc (next sc m) (other (kind_in sc.sizes slot)) (own_value st (role_of sc.sizes slot) word)
-own-vector sc hands n m s slot c p st word here diagnosis =
+own-vector {sc} {m} {slot} c {st} word here diagnosis =
     subst (IsVector sc (next sc m) (other (kind_in sc.sizes slot))) (sym (go (role_of sc.sizes slot) diagnosis))
-    (vector-of sc hands n m s slot c (kind_in sc.sizes slot) p st here)
+    (vector-of c here)
   where
     go : (role : Role) → is_diagnosis role ≡ true → own_value st role word ≡ Word (vector_of st.far)
     go (Schedule i) h = cc
@@ -94,19 +94,19 @@ own-vector sc hands n m s slot c p st word here diagnosis =
 
 -- What a good sender said.
 
-own_1 : (sc : Scenario) (hands : List HandIn) (n : ℕ) (m : Moment) (s : Shared) (slot : ℕ) (c : Setting sc hands n m s slot 0) (p : ℕ)
+own_1 : {sc hands n m s slot : _} (c : Setting sc hands n m s slot 0) (p : ℕ)
     → sender_of sc.sizes s slot ≡ Node p → is_good_now sc (next sc m) (kind_in sc.sizes slot) p ≡ true → GoodSent sc hands (next sc m) slot p
 unfolding after_window
-own_1 sc hands n m s slot c p sender good =
+own_1 {sc} {hands} {n} {m} {s} {slot} c p sender good =
     let k : Side = kind_in sc.sizes slot in
     let role : Role = role_of sc.sizes slot in
-    let old : Present (slice_get (of_kind k m.nodes) p) = good_state sc hands n m s c.agree k p (was_good sc m k p good) in
+    let old : Present (slice_get (of_kind k m.nodes) p) = good_state c.agree k p (was_good sc m k p good) in
     let here : IsGoodNode sc m k p old.value = record { there = old.is; good = was_good sc m k p good } in
     let small : p < 16 = good_below_16 sc c.law.sizes k p m.frame (slot_numbered sc.sizes m.window) here.good in
     let word : ℕ = word_at sc m slot p in
     let value : Heard = own_value old.value role word in
     let said : says sc.sizes k p old.value slot 1 word ≡ Some value =
-    own_is_said sc.sizes k p old.value slot word (sender-held sc m s k old.value slot (c.agree.nodes k p old.value here) ∙ sender) refl in
+    own_is_said sc.sizes p old.value slot word (sender-held slot (c.agree.nodes k p old.value here) ∙ sender) refl in
     let begins : before_slot sc hands m.frame slot ≡ m =
     ap (moment sc hands) (let place : n ≡ m.frame * (windows_in sc.sizes + 1) + m.window = c.agree.place in let at : m.window ≡ 3 * slot + 0 = c.at in
     let e : m.frame * (windows_in sc.sizes + 1) + 3 * slot + 1 - 1 ≡ n = omega arith in e) ∙ sym c.agree.is in
@@ -116,69 +116,69 @@ own_1 sc hands n m s slot c p sender good =
         said = λ st is.
             let same : old.value ≡ st = same_Some old.value st (sym old.is ∙ ap (λ x. slice_get (of_kind k x.nodes) p) (sym begins) ∙ is) in
             ap (λ t. own_value t role word) same ∙ ap (λ x. own_value st role (word_for sc x.ports p slot role)) (sym begins);
-        carried = own_fits old.value role word (word_fits sc m.ports p slot role c.law);
-        vector = own-vector sc hands n m s slot c p old.value word here;
+        carried = own_fits old.value role word (word_fits m.ports p slot role c.law);
+        vector = own-vector c word here;
       };
       sent = λ st h.
-          let from : CameFrom sc m k p st = came_from sc hands n m s c.agree k p st h in
+          let from : CameFrom sc m k p st = came_from c.agree h in
           let same : from.st ≡ old.value = same_Some from.st old.value (sym from.was.there ∙ old.is) in
-          let x : Closed sc hands n m s slot 0 c k p old.value = closes sc hands n m s slot 0 c k p old.value here in
+          let x : Closed sc hands n m s slot 0 c k p old.value = closes c here in
           ap (λ t. t.sent) (sym from.is ∙ ap (after sc m k p) same ∙ x.is) ∙ x.parts.sent_after
           ∙ ap (λ o. if is_some o then o else old.value.sent) said;
       got = λ i st h.
           let me : Side = other k in
-          let from : CameFrom sc m me i st = came_from sc hands n m s c.agree me i st h in
-          let heard : IsHeard sc m slot 1 (windows sc hands n m s slot 0 c) me i p from.st old.value =
-          all_heard sc hands n m s slot 0 c (carried_1 sc hands n m s slot c) me i p from.st old.value from.was (far-side sc m k p old.value here) in
-          let sense : ℕ → Sense = sense_in sc m slot 1 (windows sc hands n m s slot 0 c) me i from.st in
-          got-is sc hands n m s slot c me i p from.st st from.was from.is sender
+          let from : CameFrom sc m me i st = came_from c.agree h in
+          let heard : IsHeard sc m slot 1 (windows c) me i p from.st old.value =
+          all_heard c (carried_1 c) from.was (far-side here) in
+          let sense : ℕ → Sense = sense_in (windows c) me i from.st in
+          got-is c p from.was from.is sender
           ∙ taken_at from.st.far (expected_at sc.sizes me from.st slot 1) sense p small ∙ heard.takes
           ∙ ap (λ k. says sc.sizes k p old.value slot 1 word) (other_twice k) ∙ said;
     }
 
 -- what a relay has got has four bytes
-got-carried : (sc : Scenario) (hands : List HandIn) (n : ℕ) (m : Moment) (s : Shared) (slot : ℕ) (c : Setting sc hands n m s slot 0) (me : Side) (i : ℕ) (st now : NodeState)
-    → IsGoodNode sc m me i st → after sc m me i st ≡ now → (sender : Sender) → sender_of sc.sizes s slot ≡ sender → IfSome now.got IsCarried
-got-carried sc hands n m s slot c me i st now here is sender e =
-    let sense : ℕ → Sense = sense_in sc m slot 1 (windows sc hands n m s slot 0 c) me i st in
-    let x : Closed sc hands n m s slot 0 c me i st = closes sc hands n m s slot 0 c me i st here in
+got-carried : {sc hands n m s slot : _} (c : Setting sc hands n m s slot 0) {me i st now : _}
+    → IsGoodNode sc m me i st → after sc m me i st ≡ now → {sender : _} → sender_of sc.sizes s slot ≡ sender → IfSome now.got IsCarried
+got-carried {sc} {hands} {n} {m} {s} {slot} c {me} {i} {st} {now} here is {sender} e =
+    let sense : ℕ → Sense = sense_in (windows c) me i st in
+    let x : Closed sc hands n m s slot 0 c me i st = closes c here in
     let got : now.got ≡ taken_of_sender sender (closing_at sc.sizes me st slot 1 sense) =
-    ap (λ t. t.got) (sym is ∙ x.is) ∙ x.parts.got ∙ ap (λ y. taken_of_sender y (closing_at sc.sizes me st slot 1 sense)) (sender-held sc m s me st slot (c.agree.nodes me i st here) ∙ e) in
+    ap (λ t. t.got) (sym is ∙ x.is) ∙ x.parts.got ∙ ap (λ y. taken_of_sender y (closing_at sc.sizes me st slot 1 sense)) (sender-held slot (c.agree.nodes me i st here) ∙ e) in
     subst (λ o. IfSome o IsCarried) (sym got) (go sender)
   where
-    go : (sender : Sender) → IfSome (taken_of_sender sender (closing_at sc.sizes me st slot 1 (sense_in sc m slot 1 (windows sc hands n m s slot 0 c) me i st))) IsCarried
+    go : (sender : Sender) → IfSome (taken_of_sender sender (closing_at sc.sizes me st slot 1 (sense_in (windows c) me i st))) IsCarried
     go Nobody = tt
     go EachTrusted = tt
     go (Node p) =
-        let sense : ℕ → Sense = sense_in sc m slot 1 (windows sc hands n m s slot 0 c) me i st in
+        let sense : ℕ → Sense = sense_in (windows c) me i st in
         elim (cases_lt p 16) [
           | inl small ↦
               subst (λ o. IfSome o IsCarried) (sym (taken_at st.far (expected_at sc.sizes me st slot 1) sense p small))
-              (all_carried sc hands n m s slot 0 c (carried_1 sc hands n m s slot c) me i p st here)
+              (all_carried c (carried_1 c) p here)
           | inr past ↦ subst (λ o. IfSome o IsCarried) (sym (nothing-past st.far (expected_at sc.sizes me st slot 1) sense p past)) tt
         ]
 
 -- After stage 1.
 
-pub relays_1 : (sc : Scenario) (hands : List HandIn) (n : ℕ) (m : Moment) (s : Shared) (slot : ℕ) → Setting sc hands n m s slot 0
+pub relays_1 : {sc hands n m s slot : _} → Setting sc hands n m s slot 0
     → HasRelays sc hands (next sc m) s slot
-relays_1 sc hands n m s slot c =
+relays_1 {sc} {m} {s} {slot} c =
     let k : Side = kind_in sc.sizes slot in
     let me : Side = other k in
-    let stages : (next sc m).book.stages ≡ stages_with sc m slot 1 = stages_after sc hands n m s slot 0 c in
+    let stages : (next sc m).book.stages ≡ stages_with sc m slot 1 = stages_after c in
     record {
-      own = λ p sender good. own_1 sc hands n m s slot c p sender good;
+      own = λ p sender good. own_1 c p sender good;
       alike = λ p sender alike a b sta stb good_a good_b.
-          let from_a : CameFrom sc m me a sta = came_from sc hands n m s c.agree me a sta good_a in
-          let from_b : CameFrom sc m me b stb = came_from sc hands n m s c.agree me b stb good_b in
-          let got_a = got-is sc hands n m s slot c me a p from_a.st sta from_a.was from_a.is sender in
-          let got_b = got-is sc hands n m s slot c me b p from_b.st stb from_b.was from_b.is sender in
-          let sense_a : ℕ → Sense = sense_in sc m slot 1 (windows sc hands n m s slot 0 c) me a from_a.st in
-          let sense_b : ℕ → Sense = sense_in sc m slot 1 (windows sc hands n m s slot 0 c) me b from_b.st in
+          let from_a : CameFrom sc m me a sta = came_from c.agree good_a in
+          let from_b : CameFrom sc m me b stb = came_from c.agree good_b in
+          let got_a = got-is c p from_a.was from_a.is sender in
+          let got_b = got-is c p from_b.was from_b.is sender in
+          let sense_a : ℕ → Sense = sense_in (windows c) me a from_a.st in
+          let sense_b : ℕ → Sense = sense_in (windows c) me b from_b.st in
           elim (cases_lt p 16) [
             | inl small ↦
                 got_a ∙ taken_at from_a.st.far (expected_at sc.sizes me from_a.st slot 1) sense_a p small
-                ∙ all_alike sc hands n m s slot 0 c me a b p from_a.st from_b.st from_a.was from_b.was small
+                ∙ all_alike c p from_a.was from_b.was small
                 (ap (λ x. is_asymmetric x (stages_with sc m slot 1) p) (other_twice k) ∙ ap (λ x. is_asymmetric k x p) (sym stages) ∙ alike)
                 ∙ sym (got_b ∙ taken_at from_b.st.far (expected_at sc.sizes me from_b.st slot 1) sense_b p small)
             | inr past ↦
@@ -186,20 +186,20 @@ relays_1 sc hands n m s slot c =
                 ∙ sym (got_b ∙ nothing-past from_b.st.far (expected_at sc.sizes me from_b.st slot 1) sense_b p past)
           ];
       unseen = λ p sender unseen i st good.
-          let from : CameFrom sc m me i st = came_from sc hands n m s c.agree me i st good in
-          let got = got-is sc hands n m s slot c me i p from.st st from.was from.is sender in
-          let sense : ℕ → Sense = sense_in sc m slot 1 (windows sc hands n m s slot 0 c) me i from.st in
+          let from : CameFrom sc m me i st = came_from c.agree good in
+          let got = got-is c p from.was from.is sender in
+          let sense : ℕ → Sense = sense_in (windows c) me i from.st in
           elim (cases_lt p 16) [
             | inl small ↦
                 got ∙ taken_at from.st.far (expected_at sc.sizes me from.st slot 1) sense p small
-                ∙ none-if (taken sc hands n m s slot 0 c me i from.st p) (λ some.
-                let seen : IsSeen s.trusted (other me) (stages_with sc m slot 1) p = all_seen sc hands n m s slot 0 c me i p from.st from.was small some in
+                ∙ none-if (taken c me i from.st p) (λ some.
+                let seen : IsSeen s.trusted (other me) (stages_with sc m slot 1) p = all_seen c p from.was small some in
                 let no_it : is_benign k (stages_with sc m slot 1) p ≡ false = ap (λ x. is_benign x (stages_with sc m slot 1) p) (sym (other_twice k)) ∙ seen.seen in
                 let yes_it : is_benign k (stages_with sc m slot 1) p ≡ true = ap (λ x. is_benign k x p) (sym stages) ∙ unseen in
                 let both : true ≡ false = sym yes_it ∙ no_it in cc)
             | inr past ↦ got ∙ nothing-past from.st.far (expected_at sc.sizes me from.st slot 1) sense p past
           ];
       carried = λ i st good.
-          let from : CameFrom sc m me i st = came_from sc hands n m s c.agree me i st good in
-          got-carried sc hands n m s slot c me i from.st st from.was from.is (sender_of sc.sizes s slot) refl;
+          let from : CameFrom sc m me i st = came_from c.agree good in
+          got-carried c from.was from.is refl;
     }

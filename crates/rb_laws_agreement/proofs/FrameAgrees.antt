@@ -9,10 +9,10 @@ use Rattle.rb_laws_agreement.proofs.{Tests.Present, Goodnesses.{good_before, goo
 -- What a turn makes of a node.
 
 -- at the end of a frame a node knows its next epoch
-pub epoch-known : (sizes : Sizes) (plan : Plan) (me : Side) (st : NodeState) → Knows sizes me (windows_in sizes) st → is_some (new_epoch_of plan me st) ≡ true
-epoch-known sizes plan Biu st h =
+pub epoch-known : {sizes : _} (plan : Plan) (me : Side) {st : _} → Knows sizes me (windows_in sizes) st → is_some (new_epoch_of plan me st) ≡ true
+epoch-known {sizes} plan Biu {st} h =
     is_some-map (λ k2. k2 + plan.v + plan.z + plan.c) st.k2 ∙ h.k2 ∙ lt-ltb (3 * sync_slot_of sizes + 2 - 1) (windows_in sizes) (omega arith)
-epoch-known sizes plan Rmu st h =
+epoch-known {sizes} plan Rmu {st} h =
     is_some-map (λ k3. k3 + plan.z) st.k3 ∙ h.k3 ∙ lt-ltb (3 * sync_slot_of sizes + 3 - 1) (windows_in sizes) (omega arith)
 
 -- what a node is after its turn
@@ -55,8 +55,8 @@ turns-known : (sizes : Sizes) (plan : Plan) (me : Side) (st : NodeState) (o : Op
 turns-known sizes plan me st None h = cc
 turns-known sizes plan me st (Some epoch) h = turned sizes plan.probation me epoch st
 
-turns : (sizes : Sizes) (plan : Plan) (me : Side) (st : NodeState) → Knows sizes me (windows_in sizes) st → IsTurned sizes plan.probation me st (turn_if_known sizes plan me st)
-turns sizes plan me st knows = turns-known sizes plan me st (new_epoch_of plan me st) (epoch-known sizes plan me st knows)
+turns : {sizes : _} (plan : Plan) {me st : _} → Knows sizes me (windows_in sizes) st → IsTurned sizes plan.probation me st (turn_if_known sizes plan me st)
+turns {sizes} plan {me} {st} knows = turns-known sizes plan me st (new_epoch_of plan me st) (epoch-known plan me knows)
 
 -- The next frame.
 
@@ -99,30 +99,30 @@ pub record TurnedFrom (sc : Scenario) (m : Moment) (me : Side) (i : ℕ) (now : 
   pub was : IsGoodNode sc m me i st
   pub is : turn_if_known sc.sizes sc.plan me st ≡ now
 
-pub turned_from : (sc : Scenario) (hands : List HandIn) (n : ℕ) (m : Moment) (s : Shared) → Agree sc hands n m s
-    → (me : Side) (i : ℕ) (now : NodeState) → IsGoodNode sc (next_frame sc hands m) me i now → TurnedFrom sc m me i now
-turned_from sc hands n m s agree me i now h =
+pub turned_from : {sc hands n m s : _} → Agree sc hands n m s
+    → {me i now : _} → IsGoodNode sc (next_frame sc hands m) me i now → TurnedFrom sc m me i now
+turned_from {sc} {hands} {m} agree {me} {i} {now} h =
     let good : is_good_now sc m me i ≡ true = was_good_then sc hands m me i h.good in
-    let old : Present (slice_get (of_kind me m.nodes) i) = good_state sc hands n m s agree me i good in
+    let old : Present (slice_get (of_kind me m.nodes) i) = good_state agree me i good in
     record {
       st = old.value;
       was = record { there = old.is; good = good };
       is = same_Some (turn_if_known sc.sizes sc.plan me old.value) now (sym (state-turned sc hands m me i old.value old.is) ∙ h.there);
     }
 
-pub holds-turned : (sc : Scenario) (hands : List HandIn) (n : ℕ) (m : Moment) (s : Shared) → AtEnd sc hands n m s
-    → (me : Side) (i : ℕ) (now : NodeState) → IsGoodNode sc (next_frame sc hands m) me i now → Holds sc (next_frame sc hands m) (shared_next sc.sizes s) me now
+pub holds-turned : {sc hands n m s : _} → AtEnd sc hands n m s
+    → {me i now : _} → IsGoodNode sc (next_frame sc hands m) me i now → Holds sc (next_frame sc hands m) (shared_next sc.sizes s) me now
 unfolding begin_frame shared_next
-holds-turned sc hands n m s e me i now h =
-    let from : TurnedFrom sc m me i now = turned_from sc hands n m s e.agree me i now h in
+holds-turned {sc} {hands} {m} {s} e {me} {i} {now} h =
+    let from : TurnedFrom sc m me i now = turned_from e.agree h in
     let holds : Holds sc m s me from.st = e.agree.nodes me i from.st from.was in
     let t : IsTurned sc.sizes sc.plan.probation me from.st now =
-    subst (IsTurned sc.sizes sc.plan.probation me from.st) from.is (turns sc.sizes sc.plan me from.st (subst (λ k. Knows sc.sizes me k from.st) e.at holds.knows)) in
+    subst (IsTurned sc.sizes sc.plan.probation me from.st) from.is (turns sc.plan (subst (λ k. Knows sc.sizes me k from.st) e.at holds.knows)) in
     record {
       frame = t.frame ∙ ap (λ f. f + 1) holds.frame;
       trusted = λ kind.
           t.trusted kind ∙ ap (λ x. without x (convicted_at sc.sizes me from.st kind)) (holds.trusted kind)
-          ∙ ap (without (s.trusted kind)) (convicted_held sc hands n m s e me i from.st from.was kind);
+          ∙ ap (without (s.trusted kind)) (convicted_held e from.was kind);
       owners = t.owners;
       long = t.long;
       spares = record {
@@ -134,23 +134,23 @@ holds-turned sc hands n m s e me i now h =
       knows = t.knows;
     }
 
-next-place : (n frame size window : ℕ) → n ≡ frame * size + window → size ≡ window + 1 → suc n ≡ (frame + 1) * size + 0
-next-place n frame size window h e = omega arith
+next-place : {n : ℕ} (frame : ℕ) {size : ℕ} (window : ℕ) → n ≡ frame * size + window → size ≡ window + 1 → suc n ≡ (frame + 1) * size + 0
+next-place frame window h e = omega arith
 
-pub agree_frame : (sc : Scenario) (hands : List HandIn) (n : ℕ) (m : Moment) (s : Shared) → AtEnd sc hands n m s
+pub agree_frame : {sc hands n m s : _} → AtEnd sc hands n m s
     → next_frame sc hands m ≡ moment sc hands (suc n) → Agree sc hands (suc n) (next_frame sc hands m) (shared_next sc.sizes s)
 unfolding begin_frame shared_next
-agree_frame sc hands n m s e is = record {
+agree_frame {sc} {hands} {m} {s} e is = record {
   is = is;
-  place = next-place n m.frame (windows_in sc.sizes + 1) m.window e.agree.place (ap (λ w. w + 1) (sym e.at));
+  place = next-place m.frame m.window e.agree.place (ap (λ w. w + 1) (sym e.at));
   window = omega arith;
   counts = λ me. length-each (λ me i st. turn_if_known sc.sizes sc.plan me st) m.nodes me ∙ e.agree.counts me;
-  nodes = λ me i now h. holds-turned sc hands n m s e me i now h;
+  nodes = λ me i now h. holds-turned e h;
   trusted = λ kind j good.
       let was : is_good_now sc m kind j ≡ true = was_good_then sc hands m kind j good in
       has-set_of j (λ j. has (s.trusted kind) j && not (has (convicted_all sc.sizes s kind) j)) (good_below_16 sc e.law.sizes kind j m.frame (slot_numbered sc.sizes m.window) was)
       ∙ and_from (has (s.trusted kind) j) (not (has (convicted_all sc.sizes s kind) j)) (e.agree.trusted kind j was)
-      (not_from_false (has (convicted_all sc.sizes s kind) j) (good_not_convicted sc hands n m s e kind j was));
+      (not_from_false (has (convicted_all sc.sizes s kind) j) (good_not_convicted e kind j was));
   inside = λ kind j h. e.agree.inside kind j (trusted-before (s.trusted kind) (convicted_all sc.sizes s kind) j h);
   owned = λ k p h. cc;
   finished = λ t lt done. absurd (omega arith);
@@ -200,9 +200,9 @@ pub begin-window : (sc : Scenario) (hands : List HandIn) → (first_moment sc ha
 unfolding begin_frame
 begin-window sc hands = refl
 
-pub agree_first : (sc : Scenario) (hands : List HandIn) → IsLawful sc → Agree sc hands 0 (first_moment sc hands) (first_shared sc)
+pub agree_first : {sc : _} (hands : List HandIn) → IsLawful sc → Agree sc hands 0 (first_moment sc hands) (first_shared sc)
 unfolding begin_frame first_shared
-agree_first sc hands law = record {
+agree_first {sc} hands law = record {
   is = refl;
   place = omega arith;
   window = omega arith;

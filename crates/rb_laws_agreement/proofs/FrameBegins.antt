@@ -46,13 +46,13 @@ pub record IsTurn (sc : Scenario) (hands : List HandIn) (frame : ℕ) : Type 0 w
 pub turn-index : (frame s : ℕ) → suc (suc (frame * (3 * s + 4 + 1) + 3 * s + 4 - 1)) ≡ suc frame * (3 * s + 4 + 1) + 3 * 0 + 1 - 1
 turn-index frame s = omega arith
 
-pub frame_turns : (sc : Scenario) (hands : List HandIn) → IsLawful sc → (frame : ℕ) → IsComplete sc hands frame (sync_slot_of sc.sizes) → IsTurn sc hands frame
-frame_turns sc hands law frame complete =
+pub frame_turns : {sc hands : _} → IsLawful sc → {frame : ℕ} → IsComplete sc hands frame (sync_slot_of sc.sizes) → IsTurn sc hands frame
+frame_turns {sc} {hands} law {frame} complete =
     let s : ℕ = sync_slot_of sc.sizes in
     let a : Moment = after_slot sc hands frame s in
     let n : ℕ = frame * (windows_in sc.sizes + 1) + 3 * s + 4 - 1 in
-    let p3 : IsPlaced sc hands frame s 3 = placed sc hands law frame s 3 (omega arith) (omega arith) (omega arith) (complete_before sc hands frame s 3 (omega arith) complete) in
-    let p4 : IsPlaced sc hands frame s 4 = placed sc hands law frame s 4 (omega arith) (omega arith) (omega arith) complete in
+    let p3 : IsPlaced sc hands frame s 3 = placed hands law frame s 3 (omega arith) (omega arith) (omega arith) (complete_before sc hands frame s 3 (omega arith) complete) in
+    let p4 : IsPlaced sc hands frame s 4 = placed hands law frame s 4 (omega arith) (omega arith) (omega arith) complete in
     let over : (frame == sc.frames) ≡ false =
     ap (λ f. f == sc.frames) (sym p3.frame_is)
     ∙ not-over sc hands (before_stage sc hands frame s 3) (ap (λ m. m.book.ended) (stage_next sc hands frame s 3 (omega arith)) ∙ complete) in
@@ -76,17 +76,17 @@ unfolding begin_frame with_frame
 first-open sc hands = refl
 
 -- the run goes on at the start of each frame that is reached
-pub reached : (sc : Scenario) (hands : List HandIn) → IsLawful sc → (frame : ℕ) → IsReached sc hands frame → IsRunning (before_slot sc hands frame 0)
-reached sc hands law zero h =
+pub reached : {sc : _} (hands : List HandIn) → IsLawful sc → (frame : ℕ) → IsReached sc hands frame → IsRunning (before_slot sc hands frame 0)
+reached {sc} hands law zero h =
     let e : 0 * (windows_in sc.sizes + 1) + 3 * 0 + 1 - 1 ≡ 0 = omega arith in
     ap (λ n. (moment sc hands n).book.ended) e ∙ first-open sc hands
-reached sc hands law (suc frame) h = (frame_turns sc hands law frame h).running
+reached hands law (suc frame) h = (frame_turns law h).running
 
-begins : (sc : Scenario) (hands : List HandIn) → IsLawful sc → (frame slot : ℕ) → BeginsFrame sc hands frame slot → IsRunning (before_slot sc hands frame slot)
-begins sc hands law frame zero h = reached sc hands law frame h
-begins sc hands law frame (suc slot) h = absurd h
+begins : {sc : _} (hands : List HandIn) → IsLawful sc → (frame slot : ℕ) → BeginsFrame sc hands frame slot → IsRunning (before_slot sc hands frame slot)
+begins hands law frame zero h = reached hands law frame h
+begins hands law frame (suc slot) h = absurd h
 
 -- the run goes on before each slot that is settled
-pub settled_before : (sc : Scenario) (hands : List HandIn) → IsLawful sc → (frame slot : ℕ) → IsSettled sc hands frame slot → IsRunning (before_slot sc hands frame slot)
-settled_before sc hands law frame slot (inl complete) = complete_before sc hands frame slot 1 (omega arith) complete
-settled_before sc hands law frame slot (inr begin) = begins sc hands law frame slot begin
+pub settled_before : {sc : _} (hands : List HandIn) → IsLawful sc → (frame slot : ℕ) → IsSettled sc hands frame slot → IsRunning (before_slot sc hands frame slot)
+settled_before {sc} hands law frame slot (inl complete) = complete_before sc hands frame slot 1 (omega arith) complete
+settled_before hands law frame slot (inr begin) = begins hands law frame slot begin

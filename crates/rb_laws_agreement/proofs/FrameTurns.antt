@@ -2,7 +2,7 @@
 use Rattle.std.proofs.{Common.{◌≡◌, ℕ, ◌+◌, ◌*◌, ◌<◌, ◌≤◌, ◌&&◌, not, Bool, true, false, List, if◌then◌else◌, refl, sym, ◌∙◌, ap, subst, arith}, lemmas.Bool.{and_from, false_from_ne_true, not_from_false}}
 use Rattle.rb_base.specs.{Counting.{count_if, numbers}, Nodes.{Side, other, has}, Nodes.Side.{Biu, Rmu}, Sizes.{Sizes, sync_slot_of}, declared.values.Heard.Heard, declared.values.Heard.TheVariants.Fault}
 use Rattle.rb_base.proofs.Plain.{and_first, and_second}
-use Rattle.rb_rules.specs.{Conviction.{is_valid, names, naming, sparing, convicted_by, voted_vector, convicted_at}, Goodness.{Scenario, is_good}, Judging.is_benign, Lawful.IsLawful, NodeState.{NodeState, trusted_of}, Ports.HandIn, Rounds.{Moment, windows_in}, Slots.{same_side, sender_kind, has_third_stage, count_of, role_of, sender_in}, Slots.Sender.Node}
+use Rattle.rb_rules.specs.{Conviction.{is_valid, names, naming, sparing, convicted_by, voted_vector, convicted_at}, Goodness.{Scenario, is_good}, Judging.is_benign, Lawful.IsLawful, NodeState.trusted_of, Ports.HandIn, Rounds.{Moment, windows_in}, Slots.{same_side, sender_kind, has_third_stage, count_of, role_of, sender_in}, Slots.Sender.Node}
 use Rattle.rb_rules.proofs.{Convictions.{named_is_convicted, spared_is_not_convicted}, Slots.other_twice}
 use Rattle.rb_laws_agreement.proofs.{Numbers.{how_many, how_many-le}, Premises.{Premise, is_active, is_sound}, Goodnesses.{good_below_16, few_nodes, slot_last}, Invariant.{Shared, sender_of, kind_in, IsGoodNode, is_good_now, slot_numbered, is_diagnosis, IsVector, IsOwn, IsFinished, Holds, Agree}, Exchanges.trusted-either, StageVotes.how_many-count, Vectors.{vector_slot, vector_role, vector_slot-role, vector_slot-lt, convicted_same}}
 
@@ -43,9 +43,9 @@ pub record VectorOf (sc : Scenario) (hands : List HandIn) (m : Moment) (s : Shar
   pub seen : (others : ℕ) → is_valid others (s.values (vector_slot sc.sizes kind i)) ≡ true → is_benign kind m.book.stages i ≡ false
   pub good : is_good_now sc m kind i ≡ true → IsVector sc m (other kind) (s.values (vector_slot sc.sizes kind i))
 
-pub vector_at : (sc : Scenario) (hands : List HandIn) (n : ℕ) (m : Moment) (s : Shared) → Agree sc hands n m s → (kind : Side) (i : ℕ)
+pub vector_at : {sc hands n m s : _} → Agree sc hands n m s → (kind : Side) (i : ℕ)
     → 3 * vector_slot sc.sizes kind i + 3 ≤ m.window → has (s.trusted kind) i ≡ true → VectorOf sc hands m s kind i
-vector_at sc hands n m s agree kind i done t =
+vector_at {sc} {hands} {m} {s} agree kind i done t =
     let count : i < count_of kind sc.sizes = agree.inside kind i t in
     let slot : ℕ = vector_slot sc.sizes kind i in
     let role : role_of sc.sizes slot ≡ vector_role kind i = vector_slot-role sc.sizes kind i count in
@@ -65,19 +65,19 @@ vector_at sc hands n m s agree kind i done t =
     }
 
 -- all slots below the sync slot are over at the end of a frame
-end-done : (sc : Scenario) (hands : List HandIn) (n : ℕ) (m : Moment) (s : Shared) → AtEnd sc hands n m s → (slot : ℕ) → slot < sync_slot_of sc.sizes → 3 * slot + 3 ≤ m.window
-end-done sc hands n m s e slot lt = let at : m.window ≡ windows_in sc.sizes = e.at in omega arith
+end-done : {sc hands n m s : _} → AtEnd sc hands n m s → (slot : ℕ) → slot < sync_slot_of sc.sizes → 3 * slot + 3 ≤ m.window
+end-done {sc} {m} e slot lt = let at : m.window ≡ windows_in sc.sizes = e.at in omega arith
 
-pub vector_end : (sc : Scenario) (hands : List HandIn) (n : ℕ) (m : Moment) (s : Shared) → AtEnd sc hands n m s → (kind : Side) (i : ℕ) → has (s.trusted kind) i ≡ true → VectorOf sc hands m s kind i
-vector_end sc hands n m s e kind i t =
-    vector_at sc hands n m s e.agree kind i
-    (end-done sc hands n m s e (vector_slot sc.sizes kind i) (vector_slot-lt sc.sizes kind i (e.agree.inside kind i t))) t
+pub vector_end : {sc hands n m s : _} → AtEnd sc hands n m s → (kind : Side) (i : ℕ) → has (s.trusted kind) i ≡ true → VectorOf sc hands m s kind i
+vector_end {sc} e kind i t =
+    vector_at e.agree kind i
+    (end-done e (vector_slot sc.sizes kind i) (vector_slot-lt sc.sizes kind i (e.agree.inside kind i t))) t
 
 -- Whom a good node convicts.
 
-pub convicted_held : (sc : Scenario) (hands : List HandIn) (n : ℕ) (m : Moment) (s : Shared) → AtEnd sc hands n m s → (me : Side) (i : ℕ) (st : NodeState) → IsGoodNode sc m me i st
+pub convicted_held : {sc hands n m s : _} → AtEnd sc hands n m s → {me i st : _} → IsGoodNode sc m me i st
     → (accused : Side) → convicted_at sc.sizes me st accused ≡ convicted_all sc.sizes s accused
-convicted_held sc hands n m s e me i st here accused =
+convicted_held {sc} {hands} {m} {s} e {me} {i} {st} here accused =
     let holds : Holds sc m s me st = e.agree.nodes me i st here in
     let from : Side = other accused in
     let count : ℕ = count_of accused sc.sizes in
@@ -85,19 +85,19 @@ convicted_held sc hands n m s e me i st here accused =
     ∙ ap (λ t. convicted_by count (s.trusted from) t (voted_vector sc.sizes from st)) (trusted-either me accused st ∙ holds.trusted accused)
     ∙ convicted_same count (s.trusted from) (s.trusted accused) (voted_vector sc.sizes from st) (λ j. s.values (vector_slot sc.sizes from j))
     (λ j below t.
-    let v : VectorOf sc hands m s from j = vector_end sc hands n m s e from j t in
+    let v : VectorOf sc hands m s from j = vector_end e from j t in
     let role : role_of sc.sizes (vector_slot sc.sizes from j) ≡ vector_role from j = vector_slot-role sc.sizes from j (e.agree.inside from j t) in
     v.finished.held me i st here (ap (λ r. if has_third_stage r then true else same_side me Biu) role ∙ role-votes from j me))
 
 -- The counts.
 
-last-premise : (sc : Scenario) (hands : List HandIn) (n : ℕ) (m : Moment) (s : Shared) → AtEnd sc hands n m s
+last-premise : {sc hands n m s : _} → AtEnd sc hands n m s
     → Premise sc m.frame (sync_slot_of sc.sizes) s.trusted m.book.stages
-last-premise sc hands n m s e = e.agree.judged (let at : m.window ≡ windows_in sc.sizes = e.at in omega arith)
+last-premise {sc} {m} e = e.agree.judged (let at : m.window ≡ windows_in sc.sizes = e.at in omega arith)
 
-good-last : (sc : Scenario) (hands : List HandIn) (n : ℕ) (m : Moment) (s : Shared) → AtEnd sc hands n m s → (kind : Side) (i : ℕ)
+good-last : {sc hands n m s : _} → AtEnd sc hands n m s → (kind : Side) (i : ℕ)
     → is_good_now sc m kind i ≡ is_good sc kind i m.frame (sync_slot_of sc.sizes)
-good-last sc hands n m s e kind i = ap (is_good sc kind i m.frame) (slot_last sc.sizes m.window 4 e.at)
+good-last {sc} {m} e kind i = ap (is_good sc kind i m.frame) (slot_last sc.sizes 4 e.at)
 
 count-le : (p q : ℕ → Bool) → ((i : ℕ) → i < 16 → p i ≡ true → q i ≡ true) → count_if p (numbers 16) ≤ how_many q
 count-le p q gives = le-by (how_many p) (count_if p (numbers 16)) (how_many q) (how_many-count p) (how_many-le p q gives)
@@ -115,23 +115,23 @@ between : (a b c d : ℕ) → a ≤ b → b < c → c ≤ d → a < d
 between a b c d h k l = omega arith
 
 -- a valid vector of a node that is not good is one of an active node
-valid-active : (sc : Scenario) (hands : List HandIn) (n : ℕ) (m : Moment) (s : Shared) (e : AtEnd sc hands n m s) (kind : Side) (others i : ℕ)
+valid-active : {sc hands n m s : _} (e : AtEnd sc hands n m s) (kind : Side) (others i : ℕ)
     → has (s.trusted kind) i ≡ true → is_valid others (s.values (vector_slot sc.sizes kind i)) ≡ true → is_good_now sc m kind i ≡ false
     → is_active sc kind m.frame (sync_slot_of sc.sizes) s.trusted m.book.stages i ≡ true
-valid-active sc hands n m s e kind others i t valid faulty =
-    let v : VectorOf sc hands m s kind i = vector_end sc hands n m s e kind i t in
-    let not_good : is_good sc kind i m.frame (sync_slot_of sc.sizes) ≡ false = sym (good-last sc hands n m s e kind i) ∙ faulty in
+valid-active {sc} {hands} {m} {s} e kind others i t valid faulty =
+    let v : VectorOf sc hands m s kind i = vector_end e kind i t in
+    let not_good : is_good sc kind i m.frame (sync_slot_of sc.sizes) ≡ false = sym (good-last e kind i) ∙ faulty in
     and_from (has (s.trusted kind) i && not (is_good sc kind i m.frame (sync_slot_of sc.sizes))) (not (is_benign kind m.book.stages i))
     (and_from (has (s.trusted kind) i) (not (is_good sc kind i m.frame (sync_slot_of sc.sizes))) t (not_from_false (is_good sc kind i m.frame (sync_slot_of sc.sizes)) not_good))
     (not_from_false (is_benign kind m.book.stages i) (v.seen others valid))
 
 -- a test on valid vectors that no good node's vector passes is passed by fewer than there are good
 -- nodes
-few_pass : (sc : Scenario) (hands : List HandIn) (n : ℕ) (m : Moment) (s : Shared) (e : AtEnd sc hands n m s) (kind : Side) (others : ℕ) (test : Heard → Bool)
+few_pass : {sc hands n m s : _} (e : AtEnd sc hands n m s) (kind : Side) (others : ℕ) (test : Heard → Bool)
     → ((i : ℕ) → has (s.trusted kind) i ≡ true → is_good_now sc m kind i ≡ true → test (s.values (vector_slot sc.sizes kind i)) ≡ false)
     → count_if (λ i. has (s.trusted kind) i && is_valid others (s.values (vector_slot sc.sizes kind i)) && test (s.values (vector_slot sc.sizes kind i))) (numbers 16)
     ≤ how_many (is_active sc kind m.frame (sync_slot_of sc.sizes) s.trusted m.book.stages)
-few_pass sc hands n m s e kind others test none =
+few_pass {sc} {m} {s} e kind others test none =
     count-le (λ i. has (s.trusted kind) i && is_valid others (s.values (vector_slot sc.sizes kind i)) && test (s.values (vector_slot sc.sizes kind i)))
     (is_active sc kind m.frame (sync_slot_of sc.sizes) s.trusted m.book.stages)
     (λ i below h.
@@ -141,43 +141,43 @@ few_pass sc hands n m s e kind others test none =
     let faulty : is_good_now sc m kind i ≡ false =
     false_from_ne_true (is_good_now sc m kind i) (λ good.
     let contrary : true ≡ false = sym (and_second (has (s.trusted kind) i && is_valid others value) (test value) h) ∙ none i t good in cc) in
-    valid-active sc hands n m s e kind others i t (and_second (has (s.trusted kind) i) (is_valid others value) both) faulty)
+    valid-active e kind others i t (and_second (has (s.trusted kind) i) (is_valid others value) both) faulty)
 
-many_pass : (sc : Scenario) (hands : List HandIn) (n : ℕ) (m : Moment) (s : Shared) (e : AtEnd sc hands n m s) (kind : Side) (others : ℕ) (test : Heard → Bool)
+many_pass : {sc hands n m s : _} (e : AtEnd sc hands n m s) (kind : Side) (others : ℕ) (test : Heard → Bool)
     → ((i : ℕ) → has (s.trusted kind) i ≡ true → is_good_now sc m kind i ≡ true
     → (is_valid others (s.values (vector_slot sc.sizes kind i)) ≡ true) × (test (s.values (vector_slot sc.sizes kind i)) ≡ true))
     → how_many (is_sound sc kind m.frame (sync_slot_of sc.sizes) s.trusted)
     ≤ count_if (λ i. has (s.trusted kind) i && is_valid others (s.values (vector_slot sc.sizes kind i)) && test (s.values (vector_slot sc.sizes kind i))) (numbers 16)
-many_pass sc hands n m s e kind others test all =
+many_pass {sc} {m} {s} e kind others test all =
     le-count (is_sound sc kind m.frame (sync_slot_of sc.sizes) s.trusted)
     (λ i. has (s.trusted kind) i && is_valid others (s.values (vector_slot sc.sizes kind i)) && test (s.values (vector_slot sc.sizes kind i)))
     (λ i below h.
     let value : Heard = s.values (vector_slot sc.sizes kind i) in
     let t : has (s.trusted kind) i ≡ true = and_first (has (s.trusted kind) i) (is_good sc kind i m.frame (sync_slot_of sc.sizes)) h in
     let good : is_good_now sc m kind i ≡ true =
-    good-last sc hands n m s e kind i ∙ and_second (has (s.trusted kind) i) (is_good sc kind i m.frame (sync_slot_of sc.sizes)) h in
+    good-last e kind i ∙ and_second (has (s.trusted kind) i) (is_good sc kind i m.frame (sync_slot_of sc.sizes)) h in
     let both = all i t good in
     and_from (has (s.trusted kind) i && is_valid others value) (test value) (and_from (has (s.trusted kind) i) (is_valid others value) t both.0) both.1)
 
 -- a good node's vector, as one of the kind that is accused
-far-vector : (sc : Scenario) (hands : List HandIn) (n : ℕ) (m : Moment) (s : Shared) (e : AtEnd sc hands n m s) (accused : Side) (i : ℕ)
+far-vector : {sc hands n m s : _} (e : AtEnd sc hands n m s) (accused : Side) (i : ℕ)
     → has (s.trusted (other accused)) i ≡ true → is_good_now sc m (other accused) i ≡ true → IsVector sc m accused (s.values (vector_slot sc.sizes (other accused) i))
-far-vector sc hands n m s e accused i t good =
-    subst (λ k. IsVector sc m k (s.values (vector_slot sc.sizes (other accused) i))) (other_twice accused) ((vector_end sc hands n m s e (other accused) i t).good good)
+far-vector {sc} {m} {s} e accused i t good =
+    subst (λ k. IsVector sc m k (s.values (vector_slot sc.sizes (other accused) i))) (other_twice accused) ((vector_end e (other accused) i t).good good)
 
 -- no good node is convicted
-pub good_not_convicted : (sc : Scenario) (hands : List HandIn) (n : ℕ) (m : Moment) (s : Shared) → AtEnd sc hands n m s → (accused : Side) (j : ℕ)
+pub good_not_convicted : {sc hands n m s : _} → AtEnd sc hands n m s → (accused : Side) (j : ℕ)
     → is_good_now sc m accused j ≡ true → has (convicted_all sc.sizes s accused) j ≡ false
-good_not_convicted sc hands n m s e accused j good =
+good_not_convicted {sc} {m} {s} e accused j good =
     let from : Side = other accused in
     let others : ℕ = count_of accused sc.sizes in
     let vector : ℕ → Heard = λ i. s.values (vector_slot sc.sizes from i) in
-    let p : Premise sc m.frame (sync_slot_of sc.sizes) s.trusted m.book.stages = last-premise sc hands n m s e in
+    let p : Premise sc m.frame (sync_slot_of sc.sizes) s.trusted m.book.stages = last-premise e in
     let few : naming others (s.trusted from) vector j ≤ how_many (is_active sc from m.frame (sync_slot_of sc.sizes) s.trusted m.book.stages) =
-    few_pass sc hands n m s e from others (names j) (λ i t g. (far-vector sc hands n m s e accused i t g).spared j good) in
+    few_pass e from others (names j) (λ i t g. (far-vector e accused i t g).spared j good) in
     let many : how_many (is_sound sc from m.frame (sync_slot_of sc.sizes) s.trusted) ≤ sparing others (s.trusted from) vector j =
-    many_pass sc hands n m s e from others (λ v. not (names j v))
-    (λ i t g. let v : IsVector sc m accused (vector i) = far-vector sc hands n m s e accused i t g in (v.valid, not_from_false (names j (vector i)) (v.spared j good))) in
+    many_pass e from others (λ v. not (names j v))
+    (λ i t g. let v : IsVector sc m accused (vector i) = far-vector e accused i t g in (v.valid, not_from_false (names j (vector i)) (v.spared j good))) in
     spared_is_not_convicted others (s.trusted from) (s.trusted accused) vector j (good_below_16 sc e.law.sizes accused j m.frame (slot_numbered sc.sizes m.window) good)
     (le-from-lt (naming others (s.trusted from) vector j) (sparing others (s.trusted from) vector j)
     (between (naming others (s.trusted from) vector j) (how_many (is_active sc from m.frame (sync_slot_of sc.sizes) s.trusted m.book.stages))
@@ -187,20 +187,20 @@ good_not_convicted sc hands n m s e accused j good =
     le-from-lt a b h = omega arith
 
 -- a trusted node that the vectors of all good nodes name is convicted
-pub named_by_all : (sc : Scenario) (hands : List HandIn) (n : ℕ) (m : Moment) (s : Shared) → AtEnd sc hands n m s → (accused : Side) (j : ℕ)
+pub named_by_all : {sc hands n m s : _} → AtEnd sc hands n m s → (accused : Side) (j : ℕ)
     → has (s.trusted accused) j ≡ true
     → ((i : ℕ) → has (s.trusted (other accused)) i ≡ true → is_good_now sc m (other accused) i ≡ true → names j (s.values (vector_slot sc.sizes (other accused) i)) ≡ true)
     → has (convicted_all sc.sizes s accused) j ≡ true
-named_by_all sc hands n m s e accused j t named =
+named_by_all {sc} {m} {s} e accused j t named =
     let from : Side = other accused in
     let others : ℕ = count_of accused sc.sizes in
     let vector : ℕ → Heard = λ i. s.values (vector_slot sc.sizes from i) in
-    let p : Premise sc m.frame (sync_slot_of sc.sizes) s.trusted m.book.stages = last-premise sc hands n m s e in
+    let p : Premise sc m.frame (sync_slot_of sc.sizes) s.trusted m.book.stages = last-premise e in
     let few : sparing others (s.trusted from) vector j ≤ how_many (is_active sc from m.frame (sync_slot_of sc.sizes) s.trusted m.book.stages) =
-    few_pass sc hands n m s e from others (λ v. not (names j v)) (λ i t g. ap not (named i t g)) in
+    few_pass e from others (λ v. not (names j v)) (λ i t g. ap not (named i t g)) in
     let many : how_many (is_sound sc from m.frame (sync_slot_of sc.sizes) s.trusted) ≤ naming others (s.trusted from) vector j =
-    many_pass sc hands n m s e from others (names j) (λ i t g. ((far-vector sc hands n m s e accused i t g).valid, named i t g)) in
-    let few_kind : count_of accused sc.sizes ≤ 16 = few_nodes sc.sizes e.law.sizes accused in
+    many_pass e from others (names j) (λ i t g. ((far-vector e accused i t g).valid, named i t g)) in
+    let few_kind : count_of accused sc.sizes ≤ 16 = few_nodes e.law.sizes accused in
     named_is_convicted others (s.trusted from) (s.trusted accused) vector j (omega (arith, e.agree.inside accused j t, few_kind)) t
     (between (sparing others (s.trusted from) vector j) (how_many (is_active sc from m.frame (sync_slot_of sc.sizes) s.trusted m.book.stages))
     (how_many (is_sound sc from m.frame (sync_slot_of sc.sizes) s.trusted)) (naming others (s.trusted from) vector j) few (p.most from) many)

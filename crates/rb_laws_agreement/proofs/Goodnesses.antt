@@ -34,20 +34,20 @@ good_counts sc me i frame slot g =
     ltb-true i (count_of me sc.sizes) (and_first (nat_lt i (count_of me sc.sizes)) (is_before (get_or (onsets_of me sc) i None) frame slot) g)
 
 -- no kind has more than 16
-pub few_nodes : (sizes : Sizes) → IsShape sizes → (kind : Side) → count_of kind sizes ≤ 16
-few_nodes sizes shape Biu = shape.most_bius
-few_nodes sizes shape Rmu = shape.most_rmus
+pub few_nodes : {sizes : _} → IsShape sizes → (kind : Side) → count_of kind sizes ≤ 16
+few_nodes shape Biu = shape.most_bius
+few_nodes shape Rmu = shape.most_rmus
 
 pub good_below_16 : (sc : Scenario) → IsShape sc.sizes → (me : Side) (i frame slot : ℕ) → is_good sc me i frame slot ≡ true → i < 16
-good_below_16 sc shape me i frame slot g = omega (arith, good_counts sc me i frame slot g, few_nodes sc.sizes shape me)
+good_below_16 sc shape me i frame slot g = omega (arith, good_counts sc me i frame slot g, few_nodes shape me)
 
 -- The slot of a window.
 
-pub slot_here : (sizes : Sizes) (window slot q : ℕ) → slot < sync_slot_of sizes → q < 3 → window ≡ 3 * slot + q → slot_numbered sizes window ≡ slot
-slot_here sizes window slot q below small at = omega arith
+pub slot_here : (sizes : Sizes) {window : ℕ} (slot q : ℕ) → slot < sync_slot_of sizes → q < 3 → window ≡ 3 * slot + q → slot_numbered sizes window ≡ slot
+slot_here sizes slot q below small at = omega arith
 
-pub slot_last : (sizes : Sizes) (window q : ℕ) → window ≡ 3 * sync_slot_of sizes + q → slot_numbered sizes window ≡ sync_slot_of sizes
-slot_last sizes window q at = omega arith
+pub slot_last : (sizes : Sizes) {window : ℕ} (q : ℕ) → window ≡ 3 * sync_slot_of sizes + q → slot_numbered sizes window ≡ sync_slot_of sizes
+slot_last sizes q at = omega arith
 
 -- the next window's slot is not an earlier one
 pub slot_goes_on : (sizes : Sizes) (window : ℕ) → slot_numbered sizes window ≤ slot_numbered sizes (window + 1)

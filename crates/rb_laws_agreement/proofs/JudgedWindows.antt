@@ -28,49 +28,49 @@ row-at sc m me i =
     twice (Some st) = refl
 
 -- the row of a node that is good in its window
-pub row-good : (sc : Scenario) (m : Moment) (slot stage : ℕ) (ws : Windows sc m slot stage) (me : Side) (i : ℕ) (st : NodeState)
+pub row-good : {sc m slot stage : _} (ws : Windows sc m slot stage) (me : Side) (i : ℕ) {st : _}
     → slice_get (of_kind me m.nodes) i ≡ Some st → is_good sc me i m.frame slot ≡ true → ws.first me st ≤ ws.last me st
     → get_or (of_kind me (rows_of sc m)) i None
-    ≡ (close_on sc me i (kept_in sc m slot stage me i st) (own_window sc m slot stage ws me st) (heard_in sc m slot stage ws me i st)).row
-row-good sc m slot stage ws me i st is good tick =
-    get-some (of_kind me (rows_of sc m)) i None (go_through sc m (sent_in sc m) me i st (window_in sc m me st)).row
+    ≡ (close_on sc me i (kept_in sc m slot stage me i st) (own_window ws me st) (heard_in ws me i st)).row
+row-good {sc} {m} ws me i {st} is good tick =
+    get-some (of_kind me (rows_of sc m)) i None
     (row-at sc m me i ∙ ap (option_map (λ st. (go_through sc m (sent_in sc m) me i st (window_in sc m me st)).row)) is)
-    ∙ ap (λ r. r.row) (goes sc m slot stage ws me i st good tick)
+    ∙ ap (λ r. r.row) (goes ws me i st good tick)
 
 -- a node that tells something is good, and its window has a tick
-told_by_good : (sc : Scenario) (m : Moment) (slot stage : ℕ) (ws : Windows sc m slot stage) (me : Side) (i : ℕ) (st : NodeState) (r : Row)
+told_by_good : {sc m slot stage : _} (ws : Windows sc m slot stage) (me : Side) (i : ℕ) (st : NodeState) {r : _}
     → (go_through sc m (sent_in sc m) me i st (window_in sc m me st)).row ≡ Some r
     → (is_good sc me i m.frame slot ≡ true) × (nat_le (ws.first me st) (ws.last me st) ≡ true)
 unfolding go_through
-told_by_good sc m slot stage ws me i st r told =
+told_by_good {sc} {m} {slot} {stage} ws me i st {r} told =
     go (is_good sc me i m.frame slot) (nat_le (ws.first me st) (ws.last me st)) (sym (ap (λ w. (go_through sc m (sent_in sc m) me i st w).row) (ws.are me st)) ∙ told)
   where
     go : (b c : Bool)
         → (elim (b && c) as (λ _. Result) [
-          | true ↦ close_on sc me i (kept_in sc m slot stage me i st) (own_window sc m slot stage ws me st) (heard_in sc m slot stage ws me i st)
+          | true ↦ close_on sc me i (kept_in sc m slot stage me i st) (own_window ws me st) (heard_in ws me i st)
           | false ↦ record { state = st; row = None }
         ]).row ≡ Some r → (b ≡ true) × (c ≡ true)
     go true true h = (refl, refl)
     go true false h = cc
     go false c h = cc
 
-trusts_told : (sc : Scenario) (me : Side) (i : ℕ) (st : NodeState) (w : Window) (heard : ℕ → List Coming) (r : Row) (kind : Side)
+trusts_told : (sc : Scenario) (me : Side) (i : ℕ) (st : NodeState) (w : Window) (heard : ℕ → List Coming) {r : _} (kind : Side)
     → (close_on sc me i st w heard).row ≡ Some r → trusted_in kind r ≡ trusted_of kind me (close_on sc me i st w heard).state
 unfolding close_on row_of
-trusts_told sc me i st w heard r Biu told = sym (ap (trusted_in Biu) (same_Some _ r told))
-trusts_told sc me i st w heard r Rmu told = sym (ap (trusted_in Rmu) (same_Some _ r told))
+trusts_told sc me i st w heard {r} Biu told = sym (ap (trusted_in Biu) (same_Some _ r told))
+trusts_told sc me i st w heard {r} Rmu told = sym (ap (trusted_in Rmu) (same_Some _ r told))
 
-pub stays-trusted : (kind me : Side) (a b : NodeState) → Stays a b → trusted_of kind me b ≡ trusted_of kind me a
-stays-trusted Biu Biu a b s = s.near
-stays-trusted Biu Rmu a b s = s.trusted
-stays-trusted Rmu Biu a b s = s.trusted
-stays-trusted Rmu Rmu a b s = s.near
+pub stays-trusted : (kind me : Side) {a b : _} → Stays a b → trusted_of kind me b ≡ trusted_of kind me a
+stays-trusted Biu Biu s = s.near
+stays-trusted Biu Rmu s = s.trusted
+stays-trusted Rmu Biu s = s.trusted
+stays-trusted Rmu Rmu s = s.near
 
 -- an item of two lists is one of the first or of the second
-in_either : {X : Type 0} (xs ys : List X) (i : ℕ) (z : X) → slice_get (xs ++ ys) i ≡ Some z → (slice_get xs i ≡ Some z) ⊎ ((k : ℕ) × (slice_get ys k ≡ Some z))
-in_either [] ys i z h = inr (i, h)
-in_either (x ∷ xs) ys zero z h = inl h
-in_either (x ∷ xs) ys (suc i) z h = in_either xs ys i z h
+in_either : {X : Type 0} (xs ys : List X) (i : ℕ) {z : X} → slice_get (xs ++ ys) i ≡ Some z → (slice_get xs i ≡ Some z) ⊎ ((k : ℕ) × (slice_get ys k ≡ Some z))
+in_either [] ys i h = inr (i, h)
+in_either (x ∷ xs) ys zero h = inl h
+in_either (x ∷ xs) ys (suc i) h = in_either xs ys i h
 
 -- the first of what is there was there
 first_present : {X : Type 0} (P : X → Type 0) (xs : List (Option X)) → ((i : ℕ) (x : X) → slice_get xs i ≡ Some (Some x) → P x)
@@ -80,12 +80,12 @@ first_present P (None ∷ xs) each r rs h = first_present P xs (λ i x is. each 
 first_present P (Some y ∷ xs) each r rs h = let e : y ≡ r = cc in subst P e (each 0 y refl)
 
 -- all good nodes trust the nodes that the first row says to trust
-pub first_row_trusts : (sc : Scenario) (m : Moment) (slot stage : ℕ) (ws : Windows sc m slot stage) (trusted : Side → ℕ)
+pub first_row_trusts : {sc m slot stage : _} (ws : Windows sc m slot stage) (trusted : Side → ℕ)
     → ((me : Side) (i : ℕ) (st : NodeState) → slice_get (of_kind me m.nodes) i ≡ Some st → is_good sc me i m.frame slot ≡ true → (kind : Side) → trusted_of kind me st ≡ trusted kind)
     → (r : Row) (rs : List Row) → present (in_order (rows_of sc m)) ≡ r ∷ rs → (kind : Side) → trusted_in kind r ≡ trusted kind
-first_row_trusts sc m slot stage ws trusted all r rs h kind =
+first_row_trusts {sc} {m} {slot} {stage} ws trusted all r rs h kind =
     first_present (λ r. trusted_in kind r ≡ trusted kind) (in_order (rows_of sc m))
-    (λ i x is. elim (in_either (of_kind Biu (rows_of sc m)) (of_kind Rmu (rows_of sc m)) i (Some x) is) [
+    (λ i x is. elim (in_either (of_kind Biu (rows_of sc m)) (of_kind Rmu (rows_of sc m)) i is) [
       | inl first ↦ of_row Biu i x (slice_get (of_kind Biu m.nodes) i) refl (sym (row-at sc m Biu i) ∙ first)
       | inr second ↦ of_row Rmu second.0 x (slice_get (of_kind Rmu m.nodes) second.0) refl (sym (row-at sc m Rmu second.0) ∙ second.1)
     ]) r rs h
@@ -93,11 +93,11 @@ first_row_trusts sc m slot stage ws trusted all r rs h kind =
     of_node : (me : Side) (i : ℕ) (x : Row) (st : NodeState) → slice_get (of_kind me m.nodes) i ≡ Some st
         → (go_through sc m (sent_in sc m) me i st (window_in sc m me st)).row ≡ Some x → trusted_in kind x ≡ trusted kind
     of_node me i x st is told =
-        let both : (is_good sc me i m.frame slot ≡ true) × (nat_le (ws.first me st) (ws.last me st) ≡ true) = told_by_good sc m slot stage ws me i st x told in
-        let e = goes sc m slot stage ws me i st both.0 (leb-true (ws.first me st) (ws.last me st) both.1) in
-        trusts_told sc me i (kept_in sc m slot stage me i st) (own_window sc m slot stage ws me st) (heard_in sc m slot stage ws me i st) x kind (sym (ap (λ r. r.row) e) ∙ told)
+        let both : (is_good sc me i m.frame slot ≡ true) × (nat_le (ws.first me st) (ws.last me st) ≡ true) = told_by_good ws me i st told in
+        let e = goes ws me i st both.0 (leb-true (ws.first me st) (ws.last me st) both.1) in
+        trusts_told sc me i (kept_in sc m slot stage me i st) (own_window ws me st) (heard_in ws me i st) kind (sym (ap (λ r. r.row) e) ∙ told)
         ∙ ap (λ r. trusted_of kind me r.state) (sym e)
-        ∙ stays-trusted kind me st _ (through-stays sc m (sent_in sc m) me i st (window_in sc m me st))
+        ∙ stays-trusted kind me (through-stays sc m (sent_in sc m) me i st (window_in sc m me st))
         ∙ all me i st is both.0 kind
 
     of_row : (me : Side) (i : ℕ) (x : Row) (o : Option NodeState) → slice_get (of_kind me m.nodes) i ≡ o
@@ -134,11 +134,11 @@ nobody_trusted p some =
     cc
 
 -- the premise holds after a stage without a cause, if all good nodes trust the same
-pub premise_after : (sc : Scenario) (m : Moment) (slot stage : ℕ) (ws : Windows sc m slot stage) (trusted : Side → ℕ)
+pub premise_after : {sc m slot stage : _} (ws : Windows sc m slot stage) (trusted : Side → ℕ)
     → ((me : Side) (i : ℕ) (st : NodeState) → slice_get (of_kind me m.nodes) i ≡ Some st → is_good sc me i m.frame slot ≡ true → (kind : Side) → trusted_of kind me st ≡ trusted kind)
     → verdict_of (judged_of sc (record { frame = m.frame; slot = slot; stage = stage }) (rows_of sc m) ∷ m.book.stages) ≡ None
     → Premise sc m.frame slot trusted (judged_of sc (record { frame = m.frame; slot = slot; stage = stage }) (rows_of sc m) ∷ m.book.stages)
-premise_after sc m slot stage ws trusted all none = go (present (in_order (rows_of sc m))) refl
+premise_after {sc} {m} {slot} {stage} ws trusted all none = go (present (in_order (rows_of sc m))) refl
   where
     go : (rows : List Row) → present (in_order (rows_of sc m)) ≡ rows
         → Premise sc m.frame slot trusted (judged_of sc (record { frame = m.frame; slot = slot; stage = stage }) (rows_of sc m) ∷ m.book.stages)
@@ -150,7 +150,7 @@ premise_after sc m slot stage ws trusted all none = go (present (in_order (rows_
     go (r ∷ rs) is =
         let stages : List JudgedStage = judged_of sc (record { frame = m.frame; slot = slot; stage = stage }) (rows_of sc m) ∷ m.book.stages in
         premise_holds sc m.frame slot trusted stages
-        (λ kind. ap (trusted_by kind) is ∙ first_row_trusts sc m slot stage ws trusted all r rs is kind) (λ kind. refl) none
+        (λ kind. ap (trusted_by kind) is ∙ first_row_trusts ws trusted all r rs is kind) (λ kind. refl) none
 
 -- Sights.
 
@@ -161,16 +161,16 @@ unfolding row_of
 row-sees me i st heard c j below = get_or-map-range_with_len (λ j. judged_see (sole_time (heard j)) (get_or c.sees j Nothing)) 0 16 j j Nothing below (zero-add j)
 
 -- what a node that is good in its window shows of a source
-pub sight-is : (sc : Scenario) (m : Moment) (slot stage : ℕ) (ws : Windows sc m slot stage) (place : Place) (me : Side) (i j : ℕ) (st : NodeState)
+pub sight-is : {sc m slot stage : _} (ws : Windows sc m slot stage) (place : Place) (me : Side) (i j : ℕ) {st : _}
     → slice_get (of_kind me m.nodes) i ≡ Some st → is_good sc me i m.frame slot ≡ true → ws.first me st ≤ ws.last me st → j < 16
     → (judged_of sc place (rows_of sc m)).sight me i j
-    ≡ judged_see (sole_time (heard_in sc m slot stage ws me i st j))
-    (get_or (close sc.sizes me i (kept_in sc m slot stage me i st) slot stage (ws.first me st) (sense_in sc m slot stage ws me i st)).closed.sees j Nothing)
+    ≡ judged_see (sole_time (heard_in ws me i st j))
+    (get_or (close sc.sizes me i (kept_in sc m slot stage me i st) slot stage (ws.first me st) (sense_in ws me i st)).closed.sees j Nothing)
 unfolding close_on
-sight-is sc m slot stage ws place me i j st is good tick below =
-    let x = close sc.sizes me i (kept_in sc m slot stage me i st) slot stage (ws.first me st) (sense_in sc m slot stage ws me i st) in
-    ap (λ r. see_in r j) (row-good sc m slot stage ws me i st is good tick)
-    ∙ row-sees me i x.state (heard_in sc m slot stage ws me i st) x.closed j below
+sight-is {sc} {m} {slot} {stage} ws place me i j {st} is good tick below =
+    let x = close sc.sizes me i (kept_in sc m slot stage me i st) slot stage (ws.first me st) (sense_in ws me i st) in
+    ap (λ r. see_in r j) (row-good ws me i is good tick)
+    ∙ row-sees me i x.state (heard_in ws me i st) x.closed j below
 
 -- what a good receiver saw of a source was taken of it
 pub taken_in_stage : (sc : Scenario) (place : Place) (rows : Each (Option Row)) (me : Side) (i j : ℕ)

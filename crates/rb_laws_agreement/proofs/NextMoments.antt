@@ -1,10 +1,10 @@
 -- The moment after a window: its good nodes were good before, and each became what its close made
 -- of it.
 use Rattle.std.proofs.{Common.{◌≡◌, ℕ, ◌+◌, ◌*◌, ◌/◌, ◌%◌, ◌<◌, true, List, length, map, Some, option_map, slice_get, sym, ◌∙◌, ap, arith}, lemmas.Option.{same_Some, slice_get-map}, lemmas.List.FromFn.length-map-range_with_len}
-use Rattle.rb_base.specs.{Counting.numbers, Nodes.{Side, other}, Sizes.{Sizes, sync_slot_of}, declared.values.Heard.Heard}
-use Rattle.rb_rules.specs.{declared.plan.Plan.Plan, declared.plan.Window.Window, Book.{of_kind, with_stage}, Goodness.Scenario, NodeState.NodeState, Ports.HandIn, Rounds.{Moment, Result, window_in, sent_in, go_through, results_of, book_after, after_window}, Windows.{exact_window, sync_windows, windows_of_frame}}
+use Rattle.rb_base.specs.{Counting.numbers, Nodes.Side, Sizes.{Sizes, sync_slot_of}}
+use Rattle.rb_rules.specs.{declared.plan.Plan.Plan, declared.plan.Window.Window, Book.{of_kind, with_stage}, Goodness.Scenario, NodeState.NodeState, Rounds.{Moment, Result, window_in, sent_in, go_through, results_of, book_after, after_window}, Windows.{exact_window, sync_windows, windows_of_frame}}
 use Rattle.rb_rules.proofs.{RoundStates.state-after, WindowNumbers.{get-number, length-each}}
-use Rattle.rb_laws_agreement.proofs.{Tests.Present, JudgedWindows.rows_of, Invariant.{Shared, kind_in, IsGoodNode, is_good_now, slot_numbered, IsVector, IsOwn, Agree}, Goodnesses.{good_earlier, slot_goes_on}, Settings.{Setting, stages_with, good_state, after}}
+use Rattle.rb_laws_agreement.proofs.{Tests.Present, JudgedWindows.rows_of, Invariant.{IsGoodNode, is_good_now, slot_numbered, IsVector, IsOwn, Agree}, Goodnesses.{good_earlier, slot_goes_on}, Settings.{Setting, stages_with, good_state, after}}
 use Rattle.rb_base.proofs.Plain.{slice_get-back, slice_get-front}
 
 abbrev pub next : Scenario → Moment → Moment
@@ -22,11 +22,11 @@ pub record CameFrom (sc : Scenario) (m : Moment) (me : Side) (i : ℕ) (now : No
   pub was : IsGoodNode sc m me i st
   pub is : after sc m me i st ≡ now
 
-pub came_from : (sc : Scenario) (hands : List HandIn) (n : ℕ) (m : Moment) (s : Shared) → Agree sc hands n m s
-    → (me : Side) (i : ℕ) (now : NodeState) → IsGoodNode sc (next sc m) me i now → CameFrom sc m me i now
-came_from sc hands n m s agree me i now h =
+pub came_from : {sc hands n m s : _} → Agree sc hands n m s
+    → {me i now : _} → IsGoodNode sc (next sc m) me i now → CameFrom sc m me i now
+came_from {sc} {m} agree {me} {i} {now} h =
     let good : is_good_now sc m me i ≡ true = was_good sc m me i h.good in
-    let old : Present (slice_get (of_kind me m.nodes) i) = good_state sc hands n m s agree me i good in
+    let old : Present (slice_get (of_kind me m.nodes) i) = good_state agree me i good in
     record {
       st = old.value;
       was = record { there = old.is; good = good };
@@ -69,20 +69,20 @@ book_exact sc m slot q below small at =
     ∙ ap (λ k. with_stage sc (record { frame = m.frame; slot = slot; stage = k + 1 }) (rows_of sc m) m.book) f
 
 -- after the window the book has its stage before the earlier ones
-pub stages_after : (sc : Scenario) (hands : List HandIn) (n : ℕ) (m : Moment) (s : Shared) (slot q : ℕ) → Setting sc hands n m s slot q
+pub stages_after : {sc hands n m s slot q : _} → Setting sc hands n m s slot q
     → (next sc m).book.stages ≡ stages_with sc m slot (q + 1)
-stages_after sc hands n m s slot q c =
+stages_after {sc} {m} {slot} {q} c =
     ap (λ b. b.stages) (book_exact sc m slot q c.below c.small c.at) ∙ ap (λ b. b.stages) c.passed.is
 
 -- What is known goes on.
 
-pub vector_next : (sc : Scenario) (m : Moment) (accused : Side) (value : Heard) → IsVector sc m accused value → IsVector sc (next sc m) accused value
-vector_next sc m accused value v = record { valid = v.valid; spared = λ j good. v.spared j (was_good sc m accused j good) }
+pub vector_next : {sc m accused value : _} → IsVector sc m accused value → IsVector sc (next sc m) accused value
+vector_next {sc} {m} {accused} v = record { valid = v.valid; spared = λ j good. v.spared j (was_good sc m accused j good) }
 
-pub own_next : (sc : Scenario) (hands : List HandIn) (m : Moment) (slot p : ℕ) (value : Heard) → IsOwn sc hands m slot p value → IsOwn sc hands (next sc m) slot p value
+pub own_next : {sc hands m slot p value : _} → IsOwn sc hands m slot p value → IsOwn sc hands (next sc m) slot p value
 unfolding after_window
-own_next sc hands m slot p value own = record {
+own_next own = record {
   said = own.said;
   carried = own.carried;
-  vector = λ d. vector_next sc m (other (kind_in sc.sizes slot)) value (own.vector d);
+  vector = λ d. vector_next (own.vector d);
 }

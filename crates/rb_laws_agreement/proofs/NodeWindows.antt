@@ -15,8 +15,8 @@ pub record Windows (sc : Scenario) (m : Moment) (slot stage : ℕ) : Type 0 wher
       → window_in sc m me st ≡ record { slot = slot; stage = stage; first = first me st; last = last me st }
 
 -- the window of a node in the state `st`
-abbrev pub own_window : (sc : Scenario) (m : Moment) (slot stage : ℕ) → Windows sc m slot stage → Side → NodeState → Window
-own_window sc m slot stage ws me st = record { slot = slot; stage = stage; first = ws.first me st; last = ws.last me st }
+abbrev pub own_window : {sc m slot stage : _} → Windows sc m slot stage → Side → NodeState → Window
+own_window {slot} {stage} ws me st = record { slot = slot; stage = stage; first = ws.first me st; last = ws.last me st }
 
 -- the windows of the nodes in stage q + 1 of a slot below the sync slot
 pub exact_windows : (sc : Scenario) (m : Moment) (slot q : ℕ) → slot < sync_slot_of sc.sizes → q < 3 → m.window ≡ 3 * slot + q → Windows sc m slot (q + 1)
@@ -97,13 +97,13 @@ abbrev pub word_at : Scenario → Moment → ℕ → ℕ → ℕ
 word_at sc m slot i = word_for_window sc m i (record { slot = slot; stage = 0; first = 0; last = 0 })
 
 -- what a node sends, by the window
-pub sent-at : (sc : Scenario) (m : Moment) (slot stage : ℕ) (ws : Windows sc m slot stage) (me : Side) (j : ℕ) (st : NodeState)
+pub sent-at : {sc m slot stage : _} (ws : Windows sc m slot stage) (me : Side) (j : ℕ) {st : _}
     → slice_get (of_kind me m.nodes) j ≡ Some st
     → at_source (of_kind me (sent_in sc m)) j ≡ sending sc.sizes sc.plan me j st slot stage (word_at sc m slot j)
 unfolding sent_in
-sent-at sc m slot stage ws me j st is =
+sent-at {sc} {m} ws me j {st} is =
     let make : Side → ℕ → NodeState → Option Sending = λ me i st. sending_in sc m me i st (window_in sc m me st) in
-    get-some (of_kind me (map_each make m.nodes)) j None (make me j st) (get-each make m.nodes me j ∙ ap (option_map (make me j)) is)
+    get-some (of_kind me (map_each make m.nodes)) j None (get-each make m.nodes me j ∙ ap (option_map (make me j)) is)
     ∙ ap (sending_in sc m me j st) (ws.are me st)
 
 pub sending-none : (sizes : Sizes) (plan : Plan) (me : Side) (j : ℕ) (st : NodeState) (slot stage word : ℕ)
@@ -112,11 +112,11 @@ unfolding sending
 sending-none sizes plan me j st slot stage word none =
     ap (option_and_then (λ m. option_map (λ tick. record { tick = tick; message = m }) (send_tick_of sizes plan st slot stage))) none
 
-pub sending-some : (sizes : Sizes) (plan : Plan) (me : Side) (j : ℕ) (st : NodeState) (slot stage word tick : ℕ) (message : Message)
+pub sending-some : (sizes : Sizes) (plan : Plan) (me : Side) (j : ℕ) (st : NodeState) (slot stage word : ℕ) {tick message : _}
     → message_said sizes me j st slot stage word ≡ Some message → send_tick_of sizes plan st slot stage ≡ Some tick
     → sending sizes plan me j st slot stage word ≡ Some (record { tick = tick; message = message })
 unfolding sending
-sending-some sizes plan me j st slot stage word tick message is at =
+sending-some sizes plan me j st slot stage word {tick} {message} is at =
     ap (option_and_then (λ m. option_map (λ tick. record { tick = tick; message = m }) (send_tick_of sizes plan st slot stage))) is
     ∙ ap (option_map (λ tick. record { tick = tick; message = message })) at
 
@@ -127,14 +127,14 @@ abbrev pub kept_in : (sc : Scenario) (m : Moment) (slot stage : ℕ) → Side �
 kept_in sc m slot stage me i st = keep_sent sc.sizes me i st slot stage (word_at sc m slot i)
 
 -- what comes to a node from a source in its window
-abbrev pub heard_in : (sc : Scenario) (m : Moment) (slot stage : ℕ) → Windows sc m slot stage → Side → ℕ → NodeState → ℕ → List Coming
-heard_in sc m slot stage ws me i st = heard_at sc me i st (own_window sc m slot stage ws me st) (sent_in sc m)
+abbrev pub heard_in : {sc m slot stage : _} → Windows sc m slot stage → Side → ℕ → NodeState → ℕ → List Coming
+heard_in {sc} {m} ws me i st = heard_at sc me i st (own_window ws me st) (sent_in sc m)
 
 -- what a node makes of what comes to it from a source
-abbrev pub sense_in : (sc : Scenario) (m : Moment) (slot stage : ℕ) → Windows sc m slot stage → Side → ℕ → NodeState → ℕ → Sense
-sense_in sc m slot stage ws me i st j =
+abbrev pub sense_in : {sc m slot stage : _} → Windows sc m slot stage → Side → ℕ → NodeState → ℕ → Sense
+sense_in {sc} {m} {slot} {stage} ws me i st j =
     sense_of (expect_of sc.sizes sc.plan.version (kept_in sc m slot stage me i st) slot stage)
-    (map (arrival_of (clock_of sc me i)) (heard_in sc m slot stage ws me i st j))
+    (map (arrival_of (clock_of sc me i)) (heard_in ws me i st j))
 
 pub from-good : (sc : Scenario) (me : Side) (i : ℕ) (span : Span) (sent : List (Option Sending)) (j : ℕ)
     → is_good sc (other me) j span.place.frame span.place.slot ≡ true
@@ -148,15 +148,15 @@ unfolding heard_from
 from-faulty sc me i span sent j faulty = rw (faulty, heard_from) refl
 
 -- a good source that says nothing is silent
-pub good_is_silent : (sc : Scenario) (m : Moment) (slot stage : ℕ) (ws : Windows sc m slot stage) (me : Side) (i j : ℕ) (st source : NodeState)
+pub good_is_silent : {sc m slot stage : _} (ws : Windows sc m slot stage) (me : Side) (i j : ℕ) (st : NodeState) {source : _}
     → st.frame ≡ m.frame → slice_get (of_kind (other me) m.nodes) j ≡ Some source → is_good sc (other me) j m.frame slot ≡ true
     → message_said sc.sizes (other me) j source slot stage (word_at sc m slot j) ≡ None
-    → sense_in sc m slot stage ws me i st j ≡ Silent
-good_is_silent sc m slot stage ws me i j st source frame is good says =
+    → sense_in ws me i st j ≡ Silent
+good_is_silent {sc} {m} {slot} {stage} ws me i j st {source} frame is good says =
     let sent : at_source (of_kind (other me) (sent_in sc m)) j ≡ None =
-    sent-at sc m slot stage ws (other me) j source is ∙ sending-none sc.sizes sc.plan (other me) j source slot stage (word_at sc m slot j) says in
-    let heard : heard_in sc m slot stage ws me i st j ≡ [] =
-    from-good sc me i (span_of st (own_window sc m slot stage ws me st)) (of_kind (other me) (sent_in sc m)) j (ap (λ f. is_good sc (other me) j f slot) frame ∙ good)
+    sent-at ws (other me) j is ∙ sending-none sc.sizes sc.plan (other me) j source slot stage (word_at sc m slot j) says in
+    let heard : heard_in ws me i st j ≡ [] =
+    from-good sc me i (span_of st (own_window ws me st)) (of_kind (other me) (sent_in sc m)) j (ap (λ f. is_good sc (other me) j f slot) frame ∙ good)
     ∙ ap (λ o. option_to_list (option_map (coming_of sc me i j st.frame) o)) sent in
     ap (λ l. sense_of (expect_of sc.sizes sc.plan.version (kept_in sc m slot stage me i st) slot stage) (map (arrival_of (clock_of sc me i)) l)) heard
 
@@ -166,18 +166,18 @@ pub record IsOne (s : Sense) (message : Message) : Type 0 where
   pub is : s ≡ One stamp message
 
 -- a good source that says a message is heard to say it
-pub good_is_heard : (sc : Scenario) (m : Moment) (slot stage : ℕ) (ws : Windows sc m slot stage) (me : Side) (i j : ℕ) (st source : NodeState) (tick : ℕ) (message : Message)
+pub good_is_heard : {sc m slot stage : _} (ws : Windows sc m slot stage) (me : Side) (i j : ℕ) (st : NodeState) {source : _} (tick : ℕ) {message : _}
     → st.frame ≡ m.frame → slice_get (of_kind (other me) m.nodes) j ≡ Some source → is_good sc (other me) j m.frame slot ≡ true
     → message_said sc.sizes (other me) j source slot stage (word_at sc m slot j) ≡ Some message → send_tick_of sc.sizes sc.plan source slot stage ≡ Some tick
     → IsMessage message → suits (expect_of sc.sizes sc.plan.version (kept_in sc m slot stage me i st) slot stage) message ≡ true
-    → IsOne (sense_in sc m slot stage ws me i st j) message
-good_is_heard sc m slot stage ws me i j st source tick message frame is good says at fits suited =
+    → IsOne (sense_in ws me i st j) message
+good_is_heard {sc} {m} {slot} {stage} ws me i j st {source} tick {message} frame is good says at fits suited =
     let s : Sending = record { tick = tick; message = message } in
     let sent : at_source (of_kind (other me) (sent_in sc m)) j ≡ Some s =
-    sent-at sc m slot stage ws (other me) j source is ∙ sending-some sc.sizes sc.plan (other me) j source slot stage (word_at sc m slot j) tick message says at in
+    sent-at ws (other me) j is ∙ sending-some sc.sizes sc.plan (other me) j source slot stage (word_at sc m slot j) says at in
     let comes : Coming = coming_of sc me i j st.frame s in
-    let heard : heard_in sc m slot stage ws me i st j ≡ comes ∷ [] =
-    from-good sc me i (span_of st (own_window sc m slot stage ws me st)) (of_kind (other me) (sent_in sc m)) j (ap (λ f. is_good sc (other me) j f slot) frame ∙ good)
+    let heard : heard_in ws me i st j ≡ comes ∷ [] =
+    from-good sc me i (span_of st (own_window ws me st)) (of_kind (other me) (sent_in sc m)) j (ap (λ f. is_good sc (other me) j f slot) frame ∙ good)
     ∙ ap (λ o. option_to_list (option_map (coming_of sc me i j st.frame) o)) sent in
     record {
       stamp = (arrival_of (clock_of sc me i) comes).stamp;
@@ -188,18 +188,18 @@ good_is_heard sc m slot stage ws me i j st source tick message frame is good say
 -- How a node closes its window.
 
 -- what a node does in its window that is good and has a tick
-pub goes : (sc : Scenario) (m : Moment) (slot stage : ℕ) (ws : Windows sc m slot stage) (me : Side) (i : ℕ) (st : NodeState)
+pub goes : {sc m slot stage : _} (ws : Windows sc m slot stage) (me : Side) (i : ℕ) (st : NodeState)
     → is_good sc me i m.frame slot ≡ true → ws.first me st ≤ ws.last me st
     → go_through sc m (sent_in sc m) me i st (window_in sc m me st)
-    ≡ close_on sc me i (kept_in sc m slot stage me i st) (own_window sc m slot stage ws me st) (heard_in sc m slot stage ws me i st)
+    ≡ close_on sc me i (kept_in sc m slot stage me i st) (own_window ws me st) (heard_in ws me i st)
 unfolding go_through
-goes sc m slot stage ws me i st good tick =
+goes {sc} {m} ws me i st good tick =
     let ticks : nat_le (ws.first me st) (ws.last me st) ≡ true = grind (arith, nat_tests) in
     ap (go_through sc m (sent_in sc m) me i st) (ws.are me st) ∙ rw (good, ticks, go_through) refl
 
 -- the state of a node after its window
-pub state-closed : (sc : Scenario) (m : Moment) (slot stage : ℕ) (ws : Windows sc m slot stage) (me : Side) (i : ℕ) (st : NodeState)
-    → (close_on sc me i (kept_in sc m slot stage me i st) (own_window sc m slot stage ws me st) (heard_in sc m slot stage ws me i st)).state
-    ≡ (close sc.sizes me i (kept_in sc m slot stage me i st) slot stage (ws.first me st) (sense_in sc m slot stage ws me i st)).state
+pub state-closed : {sc m slot stage : _} (ws : Windows sc m slot stage) (me : Side) (i : ℕ) (st : NodeState)
+    → (close_on sc me i (kept_in sc m slot stage me i st) (own_window ws me st) (heard_in ws me i st)).state
+    ≡ (close sc.sizes me i (kept_in sc m slot stage me i st) slot stage (ws.first me st) (sense_in ws me i st)).state
 unfolding close_on
-state-closed sc m slot stage ws me i st = refl
+state-closed ws me i st = refl

@@ -16,8 +16,8 @@ abbrev pub voted : Exchange → ℕ → Side → ℕ → Heard
 voted x q me i = (closing_at x.sizes me (state_after x q me i) x.slot (q + 1) (x.came (q + 1) me i)).voted
 
 -- good nodes are below 16
-pub good-below : (x : Exchange) (trusted : Side → ℕ) (owners : List ℕ) → IsExchange x trusted owners → (kind : Side) (j : ℕ) → x.good kind j ≡ true → j < 16
-good-below x trusted owners e kind j g = omega (arith, e.numbered kind j g, few_nodes x.sizes e.shape kind)
+pub good-below : {x trusted owners : _} → IsExchange x trusted owners → (kind : Side) (j : ℕ) → x.good kind j ≡ true → j < 16
+good-below e kind j g = omega (arith, e.numbered kind j g, few_nodes e.shape kind)
 
 -- What all good nodes hold after some stages.
 
@@ -27,25 +27,25 @@ pub record Stands (x : Exchange) (trusted : Side → ℕ) (owners : List ℕ) (q
   pub has_place : (me : Side) (i : ℕ) → x.good me i ≡ true → x.slot < length (state_after x q me i).votes
   pub spares : (me : Side) (i j : ℕ) → x.good me i ≡ true → x.good (other me) j ≡ true → IsSpared (state_after x q me i).far j
 
-pub stands-first : (x : Exchange) (trusted : Side → ℕ) (owners : List ℕ) → IsExchange x trusted owners → Stands x trusted owners 0
+pub stands-first : {x trusted owners : _} → IsExchange x trusted owners → Stands x trusted owners 0
 unfolding state_after
-stands-first x trusted owners e = record {
+stands-first e = record {
   trusts = λ me i g. (e.holds me i g).trusts;
   owners_are = λ below me i g. (e.holds me i g).owners_are;
   has_place = λ me i g. (e.holds me i g).has_place;
   spares = λ me i j g h. (e.holds me i g).spares j h;
 }
 
-pub sender-held : (x : Exchange) (trusted : Side → ℕ) (owners : List ℕ) (q : ℕ) → Stands x trusted owners q → q < 3 → (me : Side) (i : ℕ) → x.good me i ≡ true
+pub sender-held : {x trusted owners q : _} → Stands x trusted owners q → q < 3 → (me : Side) (i : ℕ) → x.good me i ≡ true
     → sender_at x.sizes me (state_after x q me i) x.slot ≡ sender_of x trusted owners
-sender-held x trusted owners q s small me i g =
+sender-held {x} {trusted} {q} s small me i g =
     let st : NodeState = state_after x q me i in
     ap (λ b. sender_in b (trusted_of me Rmu st) st.owners (role_of x.sizes x.slot)) (trusted-either me Biu st ∙ s.trusts me i g Biu)
     ∙ ap (λ r. sender_in (trusted Biu) r st.owners (role_of x.sizes x.slot)) (trusted-either me Rmu st ∙ s.trusts me i g Rmu)
     ∙ ap (λ o. sender_in (trusted Biu) (trusted Rmu) o (role_of x.sizes x.slot)) (s.owners_are small me i g)
 
-pub single : (x : Exchange) (trusted : Side → ℕ) (owners : List ℕ) → IsExchange x trusted owners → IsSingle (sender_of x trusted owners)
-single x trusted owners e = single_sender (trusted Biu) (trusted Rmu) owners (role_of x.sizes x.slot) (exact_role x.sizes x.slot e.below)
+pub single : {x trusted owners : _} → IsExchange x trusted owners → IsSingle (sender_of x trusted owners)
+single {x} {trusted} {owners} e = single_sender (trusted Biu) (trusted Rmu) owners (role_of x.sizes x.slot) (exact_role x.sizes x.slot e.below)
 
 -- What is heard of a good node.
 
@@ -58,9 +58,9 @@ pub record HearsGood (x : Exchange) (q : ℕ) (me : Side) (i j : ℕ) : Type 0 w
   pub takes : takes_after x q me i j ≡ said x q (other me) j
   pub right : does_wrong (expected_at x.sizes me (state_after x q me i) x.slot (q + 1) j) (x.came (q + 1) me i j) ≡ false
 
-pub hears-good : (x : Exchange) (trusted : Side → ℕ) (owners : List ℕ) (q : ℕ) → IsExchange x trusted owners → Stands x trusted owners q → q < 3
+pub hears-good : {x trusted owners q : _} → IsExchange x trusted owners → Stands x trusted owners q → q < 3
     → (me : Side) (i j : ℕ) → x.good me i ≡ true → x.good (other me) j ≡ true → HearsGood x q me i j
-hears-good x trusted owners q e s small me i j g h =
+hears-good {x} {trusted} {owners} {q} e s small me i j g h =
     let st : NodeState = state_after x q me i in
     let source : NodeState = state_after x q (other me) j in
     let role : Role = role_of x.sizes x.slot in
@@ -69,14 +69,14 @@ hears-good x trusted owners q e s small me i j g h =
     let clear : has st.far.direct j ≡ false = (s.spares me i j g h).direct in
     let what : Option Heard = said x q (other me) j in
     let expected : expected_at x.sizes me st x.slot (q + 1) j ≡ is_some what =
-    ap (λ y. expects me role y st.far.trusted (q + 1) j) (sender-held x trusted owners q s small me i g)
-    ∙ expects_who_speaks me role sender st.far.trusted j source x.slot q (x.word j) small (single x trusted owners e) trusts
-    ∙ ap (λ y. is_some (says_of (other me) j source x.slot role y (q + 1) (x.word j))) (sym (sender-held x trusted owners q s small (other me) j h)) in
+    ap (λ y. expects me role y st.far.trusted (q + 1) j) (sender-held s small me i g)
+    ∙ expects_who_speaks me role sender st.far.trusted j source x.slot q (x.word j) small (single e) trusts
+    ∙ ap (λ y. is_some (says_of (other me) j source x.slot role y (q + 1) (x.word j))) (sym (sender-held s small (other me) j h)) in
     let sense : IsSenseOf (x.came (q + 1) me i j) source x.slot (q + 1) what = sense-of source x.slot (q + 1) what (x.came (q + 1) me i j) (e.hears q me i j small g h) in
     record {
       takes = takes_what_is_said st.far (expected_at x.sizes me st x.slot (q + 1)) (x.came (q + 1) me i) source x.slot (q + 1) j what expected
           (eligible st.far j trusts clear) sense;
-      right = does_right (expected_at x.sizes me st x.slot (q + 1) j) (x.came (q + 1) me i j) source x.slot (q + 1) what expected sense;
+      right = does_right (x.came (q + 1) me i j) source x.slot (q + 1) what expected sense;
     }
 
 -- good nodes of kind `me` take the same of each node of a kind that is not good
@@ -85,11 +85,11 @@ TakeAlike x kind me =
     (q a b j : ℕ) → q < 3 → x.good me a ≡ true → x.good me b ≡ true → x.good kind j ≡ false → takes_after x q me a j ≡ takes_after x q me b j
 
 -- if no node of the other kind is asymmetric, good nodes take the same from each source
-pub takes-alike : (x : Exchange) (trusted : Side → ℕ) (owners : List ℕ) (q : ℕ) → IsExchange x trusted owners → Stands x trusted owners q → q < 3
+pub takes-alike : {x trusted owners q : _} → IsExchange x trusted owners → Stands x trusted owners q → q < 3
     → (me : Side) → NoneIsAsymmetric x (other me) → (a b j : ℕ) → x.good me a ≡ true → x.good me b ≡ true → takes_after x q me a j ≡ takes_after x q me b j
-takes-alike x trusted owners q e s small me none a b j g h =
+takes-alike {x} {q} e s small me none a b j g h =
     elim (true_or_false (x.good (other me) j)) [
-      | inl good ↦ (hears-good x trusted owners q e s small me a j g good).takes ∙ sym (hears-good x trusted owners q e s small me b j h good).takes
+      | inl good ↦ (hears-good e s small me a j g good).takes ∙ sym (hears-good e s small me b j h good).takes
       | inr faulty ↦ let alike : TakeAlike x (other me) me = subst (TakeAlike x (other me)) (other_twice me) none in alike q a b j small g h faulty
     ]
 
@@ -118,9 +118,9 @@ NoneUnlike x q =
     → (value : Heard) → reference_in x q me i ≡ Some value → is_unlike value (takes_after x q me i j) ≡ false
 
 -- a stage leaves the frame and the trusted nodes as they are
-pub stays : (x : Exchange) (trusted : Side → ℕ) (owners : List ℕ) (q : ℕ) → IsExchange x trusted owners → (me : Side) (i : ℕ)
+pub stays : {x trusted owners : _} (q : ℕ) → IsExchange x trusted owners → (me : Side) (i : ℕ)
     → Stays (state_after x q me i) (closes_in x (q + 1) me i (state_after x q me i)).state
-stays x trusted owners q e me i =
+stays {x} q e me i =
     let st : NodeState = state_after x q me i in
     let kept : NodeState = keep_sent x.sizes me i st x.slot (q + 1) (x.word i) in
     let exact : close x.sizes me i kept x.slot (q + 1) 0 (x.came (q + 1) me i) ≡ close_exact x.sizes me i kept x.slot (q + 1) (x.came (q + 1) me i) =
@@ -136,11 +136,11 @@ same-length : (b : Bool) (votes : List Heard) (slot : ℕ) (v : Heard) → lengt
 same-length true votes slot v = length-set votes slot v
 same-length false votes slot v = refl
 
-pub stands-next : (x : Exchange) (trusted : Side → ℕ) (owners : List ℕ) (q : ℕ) → IsExchange x trusted owners → Stands x trusted owners q → q < 3 → NoneUnlike x q
+pub stands-next : {x trusted owners q : _} → IsExchange x trusted owners → Stands x trusted owners q → q < 3 → NoneUnlike x q
     → Stands x trusted owners (suc q)
 unfolding state_after
-stands-next x trusted owners q e s small none = record {
-  trusts = λ me i g kind. stays-trusted kind me (state_after x q me i) (closes_in x (q + 1) me i (state_after x q me i)).state (stays x trusted owners q e me i) ∙ s.trusts me i g kind;
+stands-next {x} {q} e s small none = record {
+  trusts = λ me i g kind. stays-trusted kind me (stays q e me i) ∙ s.trusts me i g kind;
   owners_are = λ below me i g.
       let early : (q + 1 == 3) ≡ false = grind (arith, nat_tests) in
       (parts x q me i).owners ∙ same-owners x.sizes me (state_after x q me i) x.slot (q + 1) _ early ∙ s.owners_are small me i g;
@@ -151,11 +151,11 @@ stands-next x trusted owners q e s small none = record {
       omega arith;
   spares = λ me i j g h.
       let st : NodeState = state_after x q me i in
-      let below : j < 16 = good-below x trusted owners e (other me) j h in
+      let below : j < 16 = good-below e (other me) j h in
       record {
         direct = ap (λ f. has f.direct j) (parts x q me i).far
             ∙ spares_right (reference_in x q me i) st.far (expected_at x.sizes me st x.slot (q + 1)) (x.came (q + 1) me i) j below
-            (hears-good x trusted owners q e s small me i j g h).right (s.spares me i j g h).direct;
+            (hears-good e s small me i j g h).right (s.spares me i j g h).direct;
         mismatch = ap (λ f. has f.mismatch j) (parts x q me i).far
             ∙ spares_alike (reference_in x q me i) st.far (expected_at x.sizes me st x.slot (q + 1)) (x.came (q + 1) me i) j below
             (none me i j g h) (s.spares me i j g h).mismatch;
@@ -165,10 +165,10 @@ stands-next x trusted owners q e s small none = record {
 -- Votes.
 
 -- a node that votes in a stage holds the vote of its close
-pub vote-held : (x : Exchange) (trusted : Side → ℕ) (owners : List ℕ) (q : ℕ) → Stands x trusted owners q → (me : Side) (i : ℕ) → x.good me i ≡ true
+pub vote-held : {x trusted owners q : _} → Stands x trusted owners q → (me : Side) (i : ℕ) → x.good me i ≡ true
     → votes_in me (role_of x.sizes x.slot) (q + 1) ≡ true → vote_on (state_after x (suc q) me i) x.slot ≡ voted x q me i
 unfolding state_after
-vote-held x trusted owners q s me i g votes =
+vote-held {x} {q} s me i g votes =
     ap (λ v. get_or v x.slot Fault) (parts x q me i).votes
     ∙ ap (λ b. get_or (if b then slice_set (state_after x q me i).votes x.slot (voted x q me i) else (state_after x q me i).votes) x.slot Fault) votes
     ∙ get_or-set_same (state_after x q me i).votes x.slot (voted x q me i) Fault (s.has_place me i g)
@@ -181,32 +181,32 @@ vote-kept x q me i votes =
     ∙ ap (λ b. get_or (if b then slice_set (state_after x q me i).votes x.slot (voted x q me i) else (state_after x q me i).votes) x.slot Fault) votes
 
 -- if all good sources say one value, this is the vote
-pub all-vote : (x : Exchange) (trusted : Side → ℕ) (owners : List ℕ) (q : ℕ) → IsExchange x trusted owners → KeepsPremise x → Stands x trusted owners q → 1 ≤ q → q < 3
+pub all-vote : {x trusted owners q : _} → IsExchange x trusted owners → KeepsPremise x → Stands x trusted owners q → 1 ≤ q → q < 3
     → (me : Side) (value : Heard) → ((j : ℕ) → x.good (other me) j ≡ true → said x q (other me) j ≡ Some value)
     → (i : ℕ) → x.good me i ≡ true → voted x q me i ≡ value
-all-vote x trusted owners q e p s late small me value says_it i g =
+all-vote {x} {q} e p s late small me value says_it i g =
     closing_vote_is (state_after x q me i).far (expected_at x.sizes me (state_after x q me i) x.slot (q + 1)) (x.came (q + 1) me i) (x.good (other me)) value
-    (λ j h. (hears-good x trusted owners q e s small me i j g h).takes ∙ says_it j h) (p.most q me i late small g)
+    (λ j h. (hears-good e s small me i j g h).takes ∙ says_it j h) (p.most q me i late small g)
 
 -- in an idle slot the vote is Fault
-pub idle-vote : (x : Exchange) (trusted : Side → ℕ) (owners : List ℕ) (q : ℕ) → Stands x trusted owners q → q < 3 → sender_of x trusted owners ≡ Nobody
+pub idle-vote : {x trusted owners q : _} → Stands x trusted owners q → q < 3 → sender_of x trusted owners ≡ Nobody
     → (me : Side) (i : ℕ) → x.good me i ≡ true → voted x q me i ≡ Fault
-idle-vote x trusted owners q s small idle me i g =
+idle-vote {x} {q} s small idle me i g =
     let st : NodeState = state_after x q me i in
     vote_over_nothing st.far (expected_at x.sizes me st x.slot (q + 1)) (x.came (q + 1) me i)
-    (λ j. ap (λ y. expects me (role_of x.sizes x.slot) y st.far.trusted (q + 1) j) (sender-held x trusted owners q s small me i g ∙ idle)
+    (λ j. ap (λ y. expects me (role_of x.sizes x.slot) y st.far.trusted (q + 1) j) (sender-held s small me i g ∙ idle)
     ∙ idle_expects_nobody me (role_of x.sizes x.slot) st.far.trusted (q + 1) j)
 
 -- what a relay has got after stage 1 is what it took of the sender
-pub got-is : (x : Exchange) (trusted : Side → ℕ) (owners : List ℕ) → IsExchange x trusted owners → Stands x trusted owners 0 → (p : ℕ) → sender_of x trusted owners ≡ Node p
+pub got-is : {x trusted owners : _} → IsExchange x trusted owners → Stands x trusted owners 0 → (p : ℕ) → sender_of x trusted owners ≡ Node p
     → (me : Side) (i : ℕ) → x.good me i ≡ true → (state_after x 1 me i).got ≡ at_source (closing_at x.sizes me (state_after x 0 me i) x.slot 1 (x.came 1 me i)).taken p
 unfolding state_after
-got-is x trusted owners e s p sender me i g =
+got-is {x} e s p sender me i g =
     (parts x 0 me i).got
     ∙ ap (λ y. taken_of_sender y (closing_at x.sizes me (state_after x 0 me i) x.slot 1 (x.came 1 me i)))
-    (sender-held x trusted owners 0 s (omega arith) me i g ∙ sender)
+    (sender-held s (omega arith) me i g ∙ sender)
 
 -- a sender keeps what it says
-pub sent-is : (x : Exchange) (me : Side) (i : ℕ) (value : Heard) → said x 0 me i ≡ Some value → (state_after x 1 me i).sent ≡ Some value
+pub sent-is : (x : Exchange) (me : Side) (i : ℕ) {value : _} → said x 0 me i ≡ Some value → (state_after x 1 me i).sent ≡ Some value
 unfolding state_after
-sent-is x me i value says_it = (parts x 0 me i).sent_after ∙ ap (λ o. if is_some o then o else (state_after x 0 me i).sent) says_it
+sent-is x me i says_it = (parts x 0 me i).sent_after ∙ ap (λ o. if is_some o then o else (state_after x 0 me i).sent) says_it

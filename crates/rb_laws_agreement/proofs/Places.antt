@@ -43,11 +43,11 @@ pub record IsPlaced (sc : Scenario) (hands : List HandIn) (frame slot stage : �
   pub frame_is : (before_stage sc hands frame slot stage).frame ≡ frame
   pub window_is : (before_stage sc hands frame slot stage).window ≡ 3 * slot + (stage - 1)
 
-pub placed : (sc : Scenario) (hands : List HandIn) → IsLawful sc → (frame slot stage : ℕ) → slot ≤ sync_slot_of sc.sizes → 1 ≤ stage → stage ≤ 4
+pub placed : {sc : _} (hands : List HandIn) → IsLawful sc → (frame slot stage : ℕ) → slot ≤ sync_slot_of sc.sizes → 1 ≤ stage → stage ≤ 4
     → IsRunning (before_stage sc hands frame slot stage) → IsPlaced sc hands frame slot stage
-placed sc hands law frame slot stage le some most running =
+placed {sc} hands law frame slot stage le some most running =
     let n : ℕ = frame * (windows_in sc.sizes + 1) + 3 * slot + stage - 1 in
-    let a : IsAgreed sc hands n = agreement sc hands law n running in
+    let a : IsAgreed sc hands n = agreement hands law n running in
     let bound : (moment sc hands n).window ≤ windows_in sc.sizes = a.agree.window in
     let place : n ≡ (moment sc hands n).frame * (windows_in sc.sizes + 1) + (moment sc hands n).window = a.agree.place in
     let e : (moment sc hands n).frame * (windows_in sc.sizes + 1) + (moment sc hands n).window ≡ frame * (windows_in sc.sizes + 1) + (3 * slot + (stage - 1)) =
@@ -70,9 +70,9 @@ complete_before sc hands frame slot stage most complete =
 -- Good nodes by their places.
 
 -- a good node before a slot, or after one, is a good node of the moment
-pub good_before_slot : (sc : Scenario) (hands : List HandIn) (frame slot : ℕ) → slot ≤ sync_slot_of sc.sizes → IsPlaced sc hands frame slot 1
-    → (me : Side) (i : ℕ) (st : NodeState) → IsGoodBefore sc hands frame slot me i st → IsGoodNode sc (before_slot sc hands frame slot) me i st
-good_before_slot sc hands frame slot le p me i st h = record {
+pub good_before_slot : {sc : Scenario} {hands : List HandIn} {frame slot : ℕ} → slot ≤ sync_slot_of sc.sizes → IsPlaced sc hands frame slot 1
+    → {me : Side} {i : ℕ} {st : NodeState} → IsGoodBefore sc hands frame slot me i st → IsGoodNode sc (before_slot sc hands frame slot) me i st
+good_before_slot {sc} {hands} {frame} {slot} le p {me} {i} h = record {
   there = h.state;
   good = ap (λ f. is_good sc me i f (slot_numbered sc.sizes (before_slot sc hands frame slot).window)) p.frame_is
       ∙ ap (is_good sc me i frame) (here (before_slot sc hands frame slot).window p.window_is) ∙ h.good;

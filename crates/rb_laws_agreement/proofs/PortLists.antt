@@ -23,7 +23,7 @@ pub port-after : (sc : Scenario) (rows : List (Option Row)) (ports : List PortSt
     → port_at sc (ports_after rows ports) i ≡ port_after (line_in (get_or rows i None)) (port_at sc ports i)
 port-after sc rows ports i within =
     let fresh : PortState = fresh_port (get_or sc.apps i 0) (get_or sc.words i 0) in
-    get-some (ports_after rows ports) i fresh (port_after (line_in (get_or rows i None)) (get_or ports i fresh))
+    get-some (ports_after rows ports) i fresh
     (get-each (make_after rows) (as_each ports) Biu i ∙ ap (option_map (make_after rows Biu i)) (slice_get-get_or ports i fresh within))
 
 -- The start of a frame.

@@ -11,57 +11,57 @@ one-value : (sc : Scenario) (hands : List HandIn) (frame slot : ℕ) (owner : Op
 one-value sc hands frame slot None value h = h
 one-value sc hands frame slot (Some owner) value h = (value, h)
 
-pub deliver-alike : (sc : Scenario) (hands : List HandIn) → IsLawful sc → DeliverAlike sc hands
-deliver-alike sc hands law frame slot below complete me i st h =
-    let r : IsSlot sc hands frame slot = slot_runs sc hands law frame slot below complete in
-    one-value sc hands frame slot (owner_at sc.sizes st slot) (value_of_slot sc hands frame slot r) ((has_value sc hands frame slot r).record_is me i st h)
+pub deliver-alike : {sc : _} (hands : List HandIn) → IsLawful sc → DeliverAlike sc hands
+deliver-alike {sc} hands law frame slot below complete me i st h =
+    let r : IsSlot sc hands frame slot = slot_runs law below complete in
+    one-value sc hands frame slot (owner_at sc.sizes st slot) (value_of_slot r) ((has_value r).record_is me i st h)
 
 -- a slot with an owner is a data slot, and the owner sends in it
-owner-sends : (role : Role) (sender : Sender) (owner : ℕ) → owner_sending role sender ≡ Some owner → (n : ℕ) × ((role ≡ Data n) × (sender ≡ Node owner))
-owner-sends (Schedule i) sender owner h = cc
-owner-sends (Data n) Nobody owner h = cc
-owner-sends (Data n) (Node p) owner h = let same : p ≡ owner = cc in (n, (refl, ap (λ p. Node p) same))
-owner-sends (Data n) EachTrusted owner h = cc
-owner-sends (DiagBiu i) sender owner h = cc
-owner-sends (DiagRmu i) sender owner h = cc
-owner-sends Sync sender owner h = cc
+owner-sends : (role : Role) (sender : Sender) {owner : ℕ} → owner_sending role sender ≡ Some owner → (n : ℕ) × ((role ≡ Data n) × (sender ≡ Node owner))
+owner-sends (Schedule i) sender h = cc
+owner-sends (Data n) Nobody h = cc
+owner-sends (Data n) (Node p) {owner} h = let same : p ≡ owner = cc in (n, (refl, ap (λ p. Node p) same))
+owner-sends (Data n) EachTrusted h = cc
+owner-sends (DiagBiu i) sender h = cc
+owner-sends (DiagRmu i) sender h = cc
+owner-sends Sync sender h = cc
 
-pub deliver-word : (sc : Scenario) (hands : List HandIn) → IsLawful sc → DeliverTheWord sc hands
-deliver-word sc hands law frame slot below complete me i st h owner owns good =
-    let r : IsSlot sc hands frame slot = slot_runs sc hands law frame slot below complete in
+pub deliver-word : {sc : _} (hands : List HandIn) → IsLawful sc → DeliverTheWord sc hands
+deliver-word {sc} hands law frame slot below complete me i st h owner owns good =
+    let r : IsSlot sc hands frame slot = slot_runs law below complete in
     let m : Moment = before_slot sc hands frame slot in
     let role : Role = role_of sc.sizes slot in
-    let here : IsGoodNode sc m me i st = record { there = h.state; good = good_in_stage sc hands r.steps m r.shared frame slot 0 r.first r.frame_is me i h.good } in
-    let sends = owner-sends role (sender_of sc.sizes r.shared slot) owner (sym (owner-held sc m r.shared me st slot (r.first.agree.nodes me i st here)) ∙ owns) in
+    let here : IsGoodNode sc m me i st = record { there = h.state; good = good_in_stage r.first r.frame_is me i h.good } in
+    let sends = owner-sends role (sender_of sc.sizes r.shared slot) (sym (owner-held slot (r.first.agree.nodes me i st here)) ∙ owns) in
     let biu : sender_kind role ≡ Biu = ap sender_kind sends.1.0 in
-    let now : is_good_now sc m Biu owner ≡ true = good_in_stage sc hands r.steps m r.shared frame slot 0 r.first r.frame_is Biu owner good in
-    let mine : Present (slice_get (of_kind Biu m.nodes) owner) = good_state sc hands r.steps m r.shared r.first.agree Biu owner now in
+    let now : is_good_now sc m Biu owner ≡ true = good_in_stage r.first r.frame_is Biu owner good in
+    let mine : Present (slice_get (of_kind Biu m.nodes) owner) = good_state r.first.agree Biu owner now in
     let own : IsGoodNode sc m Biu owner mine.value = record { there = mine.is; good = now } in
     let sender : sender_at sc.sizes Biu mine.value slot ≡ Node owner =
-    sender-held sc m r.shared Biu mine.value slot (r.first.agree.nodes Biu owner mine.value own) ∙ sends.1.1 in
+    sender-held slot (r.first.agree.nodes Biu owner mine.value own) ∙ sends.1.1 in
     let is : IsGoodSender sc hands frame slot owner mine.value = record {
       before = subst (λ k. IsGoodBefore sc hands frame slot k owner mine.value) (sym biu) (record { good = good; state = mine.is });
       sends = ap (λ k. sender_at sc.sizes k mine.value slot) biu ∙ sender;
     } in
-    let value : value_of_slot sc hands frame slot r ≡ Word (offered_in sc hands frame slot owner) =
-    own-value sc hands frame slot r owner mine.value is
+    let value : value_of_slot r ≡ Word (offered_in sc hands frame slot owner) =
+    own-value r is
     ∙ ap (λ x. own_value mine.value x (word_for sc m.ports owner slot x)) sends.1.0 in
-    subst (HasRecord sc hands frame slot) (ap (λ o. lines_in sc frame slot o (value_of_slot sc hands frame slot r)) owns ∙ ap (lines_of sc frame slot owner) value)
-    ((has_value sc hands frame slot r).record_is me i st h)
+    subst (HasRecord sc hands frame slot) (ap (λ o. lines_in sc frame slot o (value_of_slot r)) owns ∙ ap (lines_of sc frame slot owner) value)
+    ((has_value r).record_is me i st h)
 
 pub deliveries_are_right : DeliveriesAreRight
-deliveries_are_right sc hands law = (deliver-alike sc hands law, deliver-word sc hands law)
+deliveries_are_right sc hands law = (deliver-alike hands law, deliver-word hands law)
 
 -- all good nodes hold the same nodes convicted
-pub convict-alike : (sc : Scenario) (hands : List HandIn) → IsLawful sc → ConvictAlike sc hands
-convict-alike sc hands law frame slot le settled me you i j mine yours h k kind =
+pub convict-alike : {sc : _} (hands : List HandIn) → IsLawful sc → ConvictAlike sc hands
+convict-alike {sc} hands law frame slot le settled me you i j mine yours h k kind =
     let convicted : ℕ → ℕ = λ trusted. set_of (λ j. nat_lt j (count_of kind sc.sizes) && not (has trusted j)) in
-    ap convicted (trusted-either me kind mine) ∙ ap convicted (trust-alike sc hands law frame slot le settled me you i j mine yours h k kind)
+    ap convicted (trusted-either me kind mine) ∙ ap convicted (trust-alike hands law frame slot le settled me you i j mine yours h k kind)
     ∙ ap convicted (trusted-either kind you yours)
 
 pub hold_the_same : GoodNodesHoldOneSchedule
 hold_the_same sc hands law = record {
-  schedules = one-schedule sc hands law;
-  trusted = trust-alike sc hands law;
-  convicted = convict-alike sc hands law;
+  schedules = one-schedule hands law;
+  trusted = trust-alike hands law;
+  convicted = convict-alike hands law;
 }

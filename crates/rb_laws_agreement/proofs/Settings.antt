@@ -20,17 +20,17 @@ pub record Setting (sc : Scenario) (hands : List HandIn) (n : ℕ) (m : Moment) 
 abbrev pub stages_with : Scenario → Moment → ℕ → ℕ → List JudgedStage
 stages_with sc m slot stage = judged_of sc (record { frame = m.frame; slot = slot; stage = stage }) (rows_of sc m) ∷ m.book.stages
 
-abbrev pub windows : (sc : Scenario) (hands : List HandIn) (n : ℕ) (m : Moment) (s : Shared) (slot q : ℕ) → Setting sc hands n m s slot q → Windows sc m slot (q + 1)
-windows sc hands n m s slot q c = exact_windows sc m slot q c.below c.small c.at
+abbrev pub windows : {sc hands n m s slot q : _} → Setting sc hands n m s slot q → Windows sc m slot (q + 1)
+windows {sc} {m} {slot} {q} c = exact_windows sc m slot q c.below c.small c.at
 
-pub ticks : (sc : Scenario) (hands : List HandIn) (n : ℕ) (m : Moment) (s : Shared) (slot q : ℕ) (c : Setting sc hands n m s slot q)
-    → HasTick sc m slot (q + 1) (windows sc hands n m s slot q c)
-ticks sc hands n m s slot q c = exact_tick sc m slot q c.below c.small c.at c.law.plan.l.0
+pub ticks : {sc hands n m s slot q : _} (c : Setting sc hands n m s slot q)
+    → HasTick sc m slot (q + 1) (windows c)
+ticks {sc} {m} {slot} {q} c = exact_tick sc m slot q c.below c.small c.at c.law.plan.l.0
 
 -- a node is good in the moment if and only if it is good in the slot
-pub good_here : (sc : Scenario) (hands : List HandIn) (n : ℕ) (m : Moment) (s : Shared) (slot q : ℕ) → Setting sc hands n m s slot q → (me : Side) (i : ℕ)
+pub good_here : {sc hands n m s slot q : _} → Setting sc hands n m s slot q → (me : Side) (i : ℕ)
     → is_good_now sc m me i ≡ is_good sc me i m.frame slot
-good_here sc hands n m s slot q c me i = ap (is_good sc me i m.frame) (slot_here sc.sizes m.window slot q c.below c.small c.at)
+good_here {sc} {m} {slot} {q} c me i = ap (is_good sc me i m.frame) (slot_here sc.sizes slot q c.below c.small c.at)
 
 -- there is an item at each number below the length
 pub item_at : {X : Type 0} (xs : List X) (i : ℕ) → i < length xs → Present (slice_get xs i)
@@ -39,19 +39,19 @@ item_at (x ∷ xs) zero h = record { value = x; is = refl }
 item_at (x ∷ xs) (suc i) h = item_at xs i (omega arith)
 
 -- each good node has a state
-pub good_state : (sc : Scenario) (hands : List HandIn) (n : ℕ) (m : Moment) (s : Shared) → Agree sc hands n m s → (me : Side) (i : ℕ) → is_good_now sc m me i ≡ true
+pub good_state : {sc hands n m s : _} → Agree sc hands n m s → (me : Side) (i : ℕ) → is_good_now sc m me i ≡ true
     → Present (slice_get (of_kind me m.nodes) i)
-good_state sc hands n m s agree me i good =
+good_state {sc} {m} agree me i good =
     let long : length (of_kind me m.nodes) ≡ count_of me sc.sizes = agree.counts me in
     let counted : i < count_of me sc.sizes = good_counts sc me i m.frame (slot_numbered sc.sizes m.window) good in
     item_at (of_kind me m.nodes) i (omega arith)
 
 -- the premise holds with the stage of the setting
-pub premise : (sc : Scenario) (hands : List HandIn) (n : ℕ) (m : Moment) (s : Shared) (slot q : ℕ) → Setting sc hands n m s slot q
+pub premise : {sc hands n m s slot q : _} → Setting sc hands n m s slot q
     → Premise sc m.frame slot s.trusted (stages_with sc m slot (q + 1))
-premise sc hands n m s slot q c =
-    premise_after sc m slot (q + 1) (windows sc hands n m s slot q c) s.trusted
-    (λ me i st is good kind. (c.agree.nodes me i st (record { there = is; good = good_here sc hands n m s slot q c me i ∙ good })).trusted kind)
+premise {s} c =
+    premise_after (windows c) s.trusted
+    (λ me i st is good kind. (c.agree.nodes me i st (record { there = is; good = good_here c me i ∙ good })).trusted kind)
     c.passed.no_cause
 
 -- what good nodes say has four bytes
@@ -60,44 +60,44 @@ AllCarried sc m slot stage =
     (me : Side) (i : ℕ) (st : NodeState) → IsGoodNode sc m me i st → IfSome (says sc.sizes me i st slot stage (word_at sc m slot i)) IsCarried
 
 -- each good node hears each good source
-pub all_heard : (sc : Scenario) (hands : List HandIn) (n : ℕ) (m : Moment) (s : Shared) (slot q : ℕ) (c : Setting sc hands n m s slot q) → AllCarried sc m slot (q + 1)
-    → (me : Side) (i j : ℕ) (st source : NodeState) → IsGoodNode sc m me i st → IsGoodNode sc m (other me) j source
-    → IsHeard sc m slot (q + 1) (windows sc hands n m s slot q c) me i j st source
-all_heard sc hands n m s slot q c fits me i j st source here there =
+pub all_heard : {sc hands n m s slot q : _} (c : Setting sc hands n m s slot q) → AllCarried sc m slot (q + 1)
+    → {me i j st source : _} → IsGoodNode sc m me i st → IsGoodNode sc m (other me) j source
+    → IsHeard sc m slot (q + 1) (windows c) me i j st source
+all_heard {sc} {m} {s} {q} c fits {me} {i} {j} {st} {source} here there =
     let holds : Holds sc m s me st = c.agree.nodes me i st here in
-    good_heard sc m s slot q (windows sc hands n m s slot q c) me i j st source c.law.sizes c.below c.small holds (c.agree.nodes (other me) j source there)
-    there.there (sym (good_here sc hands n m s slot q c (other me) j) ∙ there.good) (c.agree.trusted (other me) j there.good)
+    good_heard q (windows c) i j c.law.sizes c.below c.small holds (c.agree.nodes (other me) j source there)
+    there.there (sym (good_here c (other me) j) ∙ there.good) (c.agree.trusted (other me) j there.good)
     (holds.spares.direct j there.good) (fits (other me) j source there)
 
 -- what a good node takes of a source
-abbrev pub taken : (sc : Scenario) (hands : List HandIn) (n : ℕ) (m : Moment) (s : Shared) (slot q : ℕ) → Setting sc hands n m s slot q → Side → ℕ → NodeState → ℕ → Option Heard
-taken sc hands n m s slot q c me i st = take_at sc.sizes me st slot (q + 1) (sense_in sc m slot (q + 1) (windows sc hands n m s slot q c) me i st)
+abbrev pub taken : {sc hands n m s slot q : _} → Setting sc hands n m s slot q → Side → ℕ → NodeState → ℕ → Option Heard
+taken {sc} {slot} {q} c me i st = take_at sc.sizes me st slot (q + 1) (sense_in (windows c) me i st)
 
 -- a node from which something is taken is trusted and was seen
-pub all_seen : (sc : Scenario) (hands : List HandIn) (n : ℕ) (m : Moment) (s : Shared) (slot q : ℕ) (c : Setting sc hands n m s slot q)
-    → (me : Side) (i j : ℕ) (st : NodeState) → IsGoodNode sc m me i st → j < 16 → is_some (taken sc hands n m s slot q c me i st j) ≡ true
+pub all_seen : {sc hands n m s slot q : _} (c : Setting sc hands n m s slot q)
+    → {me i : _} (j : ℕ) {st : _} → IsGoodNode sc m me i st → j < 16 → is_some (taken c me i st j) ≡ true
     → IsSeen s.trusted (other me) (stages_with sc m slot (q + 1)) j
-all_seen sc hands n m s slot q c me i j st here small some =
-    let ws : Windows sc m slot (q + 1) = windows sc hands n m s slot q c in
-    let good : is_good sc me i m.frame slot ≡ true = sym (good_here sc hands n m s slot q c me i) ∙ here.good in
+all_seen {sc} {m} {slot} {q} c {me} {i} j {st} here small some =
+    let ws : Windows sc m slot (q + 1) = windows c in
+    let good : is_good sc me i m.frame slot ≡ true = sym (good_here c me i) ∙ here.good in
     record {
-      trusts = ap (λ t. has t j) (sym (far-held sc m s me st (c.agree.nodes me i st here)))
-          ∙ taken_is_trusted st.far (expected_at sc.sizes me st slot (q + 1)) (sense_in sc m slot (q + 1) ws me i st) j some;
-      seen = taken_is_seen sc m slot (q + 1) ws me i j st c.below here.there good ((ticks sc hands n m s slot q c).tick me st)
+      trusts = ap (λ t. has t j) (sym (far-held (c.agree.nodes me i st here)))
+          ∙ taken_is_trusted st.far (expected_at sc.sizes me st slot (q + 1)) (sense_in ws me i st) j some;
+      seen = taken_is_seen ws me i j c.below here.there good ((ticks c).tick me st)
           (good_below_16 sc c.law.sizes me i m.frame slot good) small some;
     }
 
 -- all good nodes take the same from a source that is not asymmetric
-pub all_alike : (sc : Scenario) (hands : List HandIn) (n : ℕ) (m : Moment) (s : Shared) (slot q : ℕ) (c : Setting sc hands n m s slot q)
-    → (me : Side) (a b j : ℕ) (sta stb : NodeState) → IsGoodNode sc m me a sta → IsGoodNode sc m me b stb → j < 16
+pub all_alike : {sc hands n m s slot q : _} (c : Setting sc hands n m s slot q)
+    → {me a b : _} (j : ℕ) {sta stb : _} → IsGoodNode sc m me a sta → IsGoodNode sc m me b stb → j < 16
     → is_asymmetric (other me) (stages_with sc m slot (q + 1)) j ≡ false
-    → taken sc hands n m s slot q c me a sta j ≡ taken sc hands n m s slot q c me b stb j
-all_alike sc hands n m s slot q c me a b j sta stb here_a here_b small alike =
-    let ws : Windows sc m slot (q + 1) = windows sc hands n m s slot q c in
-    let good_a : is_good sc me a m.frame slot ≡ true = sym (good_here sc hands n m s slot q c me a) ∙ here_a.good in
-    let good_b : is_good sc me b m.frame slot ≡ true = sym (good_here sc hands n m s slot q c me b) ∙ here_b.good in
-    alike_is_same sc m slot (q + 1) ws me a b j sta stb c.below here_a.there here_b.there good_a good_b
-    ((ticks sc hands n m s slot q c).tick me sta) ((ticks sc hands n m s slot q c).tick me stb)
+    → taken c me a sta j ≡ taken c me b stb j
+all_alike {sc} {m} {slot} {q} c {me} {a} {b} j {sta} {stb} here_a here_b small alike =
+    let ws : Windows sc m slot (q + 1) = windows c in
+    let good_a : is_good sc me a m.frame slot ≡ true = sym (good_here c me a) ∙ here_a.good in
+    let good_b : is_good sc me b m.frame slot ≡ true = sym (good_here c me b) ∙ here_b.good in
+    alike_is_same ws me a b j c.below here_a.there here_b.there good_a good_b
+    ((ticks c).tick me sta) ((ticks c).tick me stb)
     (good_below_16 sc c.law.sizes me a m.frame slot good_a) (good_below_16 sc c.law.sizes me b m.frame slot good_b) small alike
 
 -- What the window makes of a good node.
@@ -108,27 +108,27 @@ after sc m me i st = (go_through sc m (sent_in sc m) me i st (window_in sc m me 
 -- the close, part by part
 pub record Closed (sc : Scenario) (hands : List HandIn) (n : ℕ) (m : Moment) (s : Shared) (slot q : ℕ) (c : Setting sc hands n m s slot q) (me : Side) (i : ℕ) (st : NodeState) : Type 0 where
   pub outcome : Outcome
-  pub parts : ExactClose sc.sizes me i st (sent_by sc.sizes me i st slot (q + 1) (word_at sc m slot i)) slot (q + 1) (sense_in sc m slot (q + 1) (windows sc hands n m s slot q c) me i st) outcome
+  pub parts : ExactClose sc.sizes me i st (sent_by sc.sizes me i st slot (q + 1) (word_at sc m slot i)) slot (q + 1) (sense_in (windows c) me i st) outcome
   pub is : after sc m me i st ≡ outcome.state
 
-pub closes : (sc : Scenario) (hands : List HandIn) (n : ℕ) (m : Moment) (s : Shared) (slot q : ℕ) (c : Setting sc hands n m s slot q)
-    → (me : Side) (i : ℕ) (st : NodeState) → IsGoodNode sc m me i st → Closed sc hands n m s slot q c me i st
-closes sc hands n m s slot q c me i st here =
-    let ws : Windows sc m slot (q + 1) = windows sc hands n m s slot q c in
-    let good : is_good sc me i m.frame slot ≡ true = sym (good_here sc hands n m s slot q c me i) ∙ here.good in
+pub closes : {sc hands n m s slot q : _} (c : Setting sc hands n m s slot q)
+    → {me i st : _} → IsGoodNode sc m me i st → Closed sc hands n m s slot q c me i st
+closes {sc} {m} {slot} {q} c {me} {i} {st} here =
+    let ws : Windows sc m slot (q + 1) = windows c in
+    let good : is_good sc me i m.frame slot ≡ true = sym (good_here c me i) ∙ here.good in
     record {
-      outcome = close sc.sizes me i (kept_in sc m slot (q + 1) me i st) slot (q + 1) (ws.first me st) (sense_in sc m slot (q + 1) ws me i st);
-      parts = closes_exactly sc m slot (q + 1) ws me i st c.below;
-      is = ap (λ r. r.state) (goes sc m slot (q + 1) ws me i st good ((ticks sc hands n m s slot q c).tick me st)) ∙ state-closed sc m slot (q + 1) ws me i st;
+      outcome = close sc.sizes me i (kept_in sc m slot (q + 1) me i st) slot (q + 1) (ws.first me st) (sense_in ws me i st);
+      parts = closes_exactly ws me i st c.below;
+      is = ap (λ r. r.state) (goes ws me i st good ((ticks c).tick me st)) ∙ state-closed ws me i st;
     }
 
 -- good nodes take nothing else from good sources than the value with which they compare
-abbrev pub NoneUnlike : (sc : Scenario) (hands : List HandIn) (n : ℕ) (m : Moment) (s : Shared) (slot q : ℕ) → Setting sc hands n m s slot q → Type 0
-NoneUnlike sc hands n m s slot q c =
+abbrev pub NoneUnlike : {sc hands n m s slot q : _} → Setting sc hands n m s slot q → Type 0
+NoneUnlike {sc} {m} {slot} {q} c =
     (me : Side) (i j : ℕ) (st source : NodeState) → IsGoodNode sc m me i st → IsGoodNode sc m (other me) j source → (value : Heard)
     → reference_value me i (with_sent st (sent_by sc.sizes me i st slot (q + 1) (word_at sc m slot i))) (role_of sc.sizes slot) (sender_at sc.sizes me st slot) (q + 1)
-    (closing_at sc.sizes me st slot (q + 1) (sense_in sc m slot (q + 1) (windows sc hands n m s slot q c) me i st)) ≡ Some value
-    → is_unlike value (taken sc hands n m s slot q c me i st j) ≡ false
+    (closing_at sc.sizes me st slot (q + 1) (sense_in (windows c) me i st)) ≡ Some value
+    → is_unlike value (taken c me i st j) ≡ false
 
 -- node `j` is accused neither directly nor by mismatch in this state
 pub record SparesNode (st : NodeState) (j : ℕ) : Type 0 where
@@ -136,17 +136,17 @@ pub record SparesNode (st : NodeState) (j : ℕ) : Type 0 where
   pub mismatch : has st.far.mismatch j ≡ false
 
 -- no good node is accused in the window
-pub all_spared : (sc : Scenario) (hands : List HandIn) (n : ℕ) (m : Moment) (s : Shared) (slot q : ℕ) (c : Setting sc hands n m s slot q)
-    → AllCarried sc m slot (q + 1) → NoneUnlike sc hands n m s slot q c
-    → (me : Side) (i j : ℕ) (st : NodeState) → IsGoodNode sc m me i st → is_good_now sc m (other me) j ≡ true → SparesNode (after sc m me i st) j
-all_spared sc hands n m s slot q c fits none me i j st here good =
-    let there : Present (slice_get (of_kind (other me) m.nodes) j) = good_state sc hands n m s c.agree (other me) j good in
+pub all_spared : {sc hands n m s slot q : _} (c : Setting sc hands n m s slot q)
+    → AllCarried sc m slot (q + 1) → NoneUnlike c
+    → {me i : _} (j : ℕ) {st : _} → IsGoodNode sc m me i st → is_good_now sc m (other me) j ≡ true → SparesNode (after sc m me i st) j
+all_spared {sc} {hands} {n} {m} {s} {slot} {q} c fits none {me} {i} j {st} here good =
+    let there : Present (slice_get (of_kind (other me) m.nodes) j) = good_state c.agree (other me) j good in
     let source : IsGoodNode sc m (other me) j there.value = record { there = there.is; good = good } in
-    let heard : IsHeard sc m slot (q + 1) (windows sc hands n m s slot q c) me i j st there.value = all_heard sc hands n m s slot q c fits me i j st there.value here source in
-    let x : Closed sc hands n m s slot q c me i st = closes sc hands n m s slot q c me i st here in
+    let heard : IsHeard sc m slot (q + 1) (windows c) me i j st there.value = all_heard c fits here source in
+    let x : Closed sc hands n m s slot q c me i st = closes c here in
     let holds : Holds sc m s me st = c.agree.nodes me i st here in
     let small : j < 16 = good_below_16 sc c.law.sizes (other me) j m.frame (slot_numbered sc.sizes m.window) good in
-    let sense : ℕ → Sense = sense_in sc m slot (q + 1) (windows sc hands n m s slot q c) me i st in
+    let sense : ℕ → Sense = sense_in (windows c) me i st in
     record {
       direct = ap (λ t. has t.far.direct j) x.is ∙ ap (λ f. has f.direct j) x.parts.far
           ∙ spares_right (reference_value me i (with_sent st (sent_by sc.sizes me i st slot (q + 1) (word_at sc m slot i))) (role_of sc.sizes slot) (sender_at sc.sizes me st slot) (q + 1) (closing_at sc.sizes me st slot (q + 1) sense))

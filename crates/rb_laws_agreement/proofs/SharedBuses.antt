@@ -13,8 +13,8 @@ pub record IsBusOf (s : Shared) (frame slot : ℕ) (bus : AbstractBus) : Type 0 
   pub long : length bus.values ≡ slot
   pub values : (t : ℕ) → t < slot → s.values t ≡ get_or bus.values t Fault
 
-pub bus-sender : (sizes : Sizes) (s : Shared) (frame slot : ℕ) (bus : AbstractBus) → IsBusOf s frame slot bus → sender_of sizes s slot ≡ sender_on sizes bus
-bus-sender sizes s frame slot bus b =
+pub bus-sender : (sizes : Sizes) {s frame slot bus : _} → IsBusOf s frame slot bus → sender_of sizes s slot ≡ sender_on sizes bus
+bus-sender sizes {s} {slot} {bus} b =
     ap (λ t. sender_in t (s.trusted Rmu) s.owners (role_of sizes slot)) (b.trusted Biu)
     ∙ ap (λ t. sender_in bus.bius t s.owners (role_of sizes slot)) (b.trusted Rmu)
     ∙ ap (λ o. sender_in bus.bius bus.rmus o (role_of sizes slot)) b.owners
@@ -52,9 +52,9 @@ take-whole (suc n) [] h = absurd (omega arith)
 take-whole (suc n) (x ∷ xs) h = ap (λ l. x ∷ l) (take-whole n xs (omega arith))
 
 -- with the value of `slot` the bus has the value of each slot up to it
-slot-values : (sc : Scenario) (s : Shared) (frame slot : ℕ) (bus : AbstractBus) (value : Heard) → IsBusOf s frame slot bus
+slot-values : (sc : Scenario) {s frame slot bus : _} (value : Heard) → IsBusOf s frame slot bus
     → (t : ℕ) → t < slot + 1 → (with_value sc s slot value).values t ≡ get_or (bus.values ++ value ∷ []) t Fault
-slot-values sc s frame slot bus value b t lt =
+slot-values sc {s} {slot} {bus} value b t lt =
     let long : length bus.values ≡ slot = b.long in
     elim (cases_lt t slot) [
       | inl before ↦ value-before sc s slot value t before ∙ b.values t before ∙ sym (get-front bus.values value t (omega arith))
@@ -64,15 +64,15 @@ slot-values sc s frame slot bus value b t lt =
           (value-at sc s slot value ∙ sym (get-last bus.values value slot (sym long)))
     ]
 
-pub bus-slot : (sc : Scenario) (s : Shared) (frame slot : ℕ) (bus : AbstractBus) (value : Heard) → IsBusOf s frame slot bus
+pub bus-slot : (sc : Scenario) {s frame slot bus : _} (value : Heard) → IsBusOf s frame slot bus
     → IsBusOf (with_value sc s slot value) frame (slot + 1) (bus_after_slot sc.sizes value bus)
-bus-slot sc s frame slot bus value b = record {
+bus-slot sc {s} {slot} {bus} value b = record {
   frame_is = b.frame_is;
   slot_is = ap (λ k. k + 1) b.slot_is;
   trusted = λ kind. sym (same-trusted sc s slot value kind) ∙ b.trusted kind ∙ same-kind kind;
   owners = owners-slot sc s slot value ∙ go (slot + 1 == sc.sizes.bius) refl ∙ ap (λ k. if k + 1 == sc.sizes.bius then owners_of sc.sizes bus.bius (bus.values ++ value ∷ []) else bus.owners) (sym b.slot_is);
   long = length-append bus.values (value ∷ []) ∙ ap (λ n. n + 1) b.long;
-  values = slot-values sc s frame slot bus value b;
+  values = slot-values sc value b;
 }
   where
     same-kind : (kind : Side) → trusted_on kind bus ≡ trusted_on kind (bus_after_slot sc.sizes value bus)
@@ -88,15 +88,15 @@ bus-slot sc s frame slot bus value b = record {
         let all : List Heard = bus.values ++ value ∷ [] in
         let long : length all ≡ sc.sizes.bius = length-append bus.values (value ∷ []) ∙ ap (λ n. n + 1) b.long ∙ full in
         let votes : map (with_value sc s slot value).values (numbers sc.sizes.bius) ≡ all =
-        sym (take-are (with_value sc s slot value).values sc.sizes.bius all (omega arith) (λ t lt. sym (slot-values sc s frame slot bus value b t (omega arith))))
+        sym (take-are (with_value sc s slot value).values sc.sizes.bius all (omega arith) (λ t lt. sym (slot-values sc value b t (omega arith))))
         ∙ take-whole sc.sizes.bius all long in
         ap (λ t. owners_of sc.sizes t (map (with_value sc s slot value).values (numbers sc.sizes.bius))) (b.trusted Biu) ∙ ap (owners_of sc.sizes bus.bius) votes
 
 -- After a frame.
 
-pub bus-frame : (sc : Scenario) (s : Shared) (frame : ℕ) (bus : AbstractBus) (low : ℕ) → ((kind : Side) (j : ℕ) → has (s.trusted kind) j ≡ true → j < count_of kind sc.sizes)
+pub bus-frame : (sc : Scenario) {s : Shared} {frame : ℕ} {bus : AbstractBus} (low : ℕ) → ((kind : Side) (j : ℕ) → has (s.trusted kind) j ≡ true → j < count_of kind sc.sizes)
     → IsBusOf s frame (sync_slot_of sc.sizes) bus → IsBusOf (shared_next sc.sizes s) (frame + 1) 0 (bus_after_frame sc.sizes low bus)
-bus-frame sc s frame bus low inside b = record {
+bus-frame sc {s} {bus} low inside b = record {
   frame_is = ap (λ f. f + 1) b.frame_is;
   slot_is = refl;
   trusted = λ kind. next-trusted sc.sizes s kind ∙ ap (λ t. without t (convicted_all sc.sizes s kind)) (b.trusted kind) ∙ ap (without (trusted_on kind bus)) (convicted kind) ∙ same-kind kind;

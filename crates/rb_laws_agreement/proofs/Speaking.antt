@@ -3,7 +3,7 @@ use Rattle.std.proofs.{Common.{◌≡◌, ℕ, zero, suc, ◌<◌, ◌≤◌, �
 use Rattle.std.specs.Prelude.{IfSome, All}
 use Rattle.rb_base.specs.{Nodes.{Side, other}, Nodes.Side.{Biu, Rmu}, Sizes.Sizes, declared.values.Heard.Heard, declared.values.Heard.TheVariants.Fault}
 use Rattle.rb_base.proofs.Sets.{set_of-lt}
-use Rattle.rb_rules.specs.{declared.role.Role.Role, declared.role.Role.TheVariants.{Schedule, Data, DiagBiu, DiagRmu, Sync}, ExactStage.{own_value, is_sender, value_said, says_of, says}, Goodness.Scenario, Hearing.word_for, Lawful.IsLawful, NodeState.{NodeState, sender_at}, Ports.PortState, Slots.{Sender, same_side, sender_kind, has_third_stage, listens, role_of}, Slots.Sender.{Nobody, Node, EachTrusted}, Standing.{is_unlike, vector_of}}
+use Rattle.rb_rules.specs.{declared.role.Role.Role, declared.role.Role.TheVariants.{Schedule, Data, DiagBiu, DiagRmu, Sync}, ExactStage.{own_value, is_sender, value_said, says_of, says}, Hearing.word_for, Lawful.IsLawful, NodeState.{NodeState, sender_at}, Ports.PortState, Slots.{Sender, same_side, sender_kind, has_third_stage, listens, role_of}, Slots.Sender.{Nobody, Node, EachTrusted}, Standing.{is_unlike, vector_of}}
 use Rattle.rb_rules.proofs.{Standings.alike_is_not_unlike, Senses.IsCarried, Slots.{same_side-is, same_side_other, same_side_self}}
 
 pub not_same_side : (a b : Side) → same_side a b ≡ false → a ≡ other b
@@ -43,13 +43,13 @@ listens_third me role h = go (same_side me (sender_kind role)) refl h
 abbrev pub IsOnly : Option Heard → Heard → Type 0
 IsOnly said value = (said ≡ None) ⊎ (said ≡ Some value)
 
-pub only-some : (said : Option Heard) (value other_value : Heard) → IsOnly said value → said ≡ Some other_value → other_value ≡ value
-only-some said value w (inl none) is = let e : None ≡ Some w = sym none ∙ is in cc
-only-some said value w (inr some) is = let e : Some value ≡ Some w = sym some ∙ is in cc
+pub only-some : {said value other_value : _} → IsOnly said value → said ≡ Some other_value → other_value ≡ value
+only-some {other_value = w} (inl none) is = let e : None ≡ Some w = sym none ∙ is in cc
+only-some {value} {other_value = w} (inr some) is = let e : Some value ≡ Some w = sym some ∙ is in cc
 
-pub only-fits : (said : Option Heard) (value : Heard) → IsOnly said value → IsCarried value → IfSome said IsCarried
-only-fits said value (inl none) fits = subst (λ o. IfSome o IsCarried) (sym none) tt
-only-fits said value (inr some) fits = subst (λ o. IfSome o IsCarried) (sym some) fits
+pub only-fits : {said value : _} → IsOnly said value → IsCarried value → IfSome said IsCarried
+only-fits (inl none) fits = subst (λ o. IfSome o IsCarried) (sym none) tt
+only-fits (inr some) fits = subst (λ o. IfSome o IsCarried) (sym some) fits
 
 either-way : (a b : Bool) (x : Heard) → IsOnly (if a then (if b then Some x else None) else None) x
 either-way true true x = inr refl
@@ -99,9 +99,9 @@ says_nothing sizes me i st slot stage word deaf = go (sender_at sizes me st slot
 
 -- What is said when a node speaks.
 
-pub own_is_said : (sizes : Sizes) (me : Side) (i : ℕ) (st : NodeState) (slot word : ℕ) → sender_at sizes me st slot ≡ Node i → me ≡ sender_kind (role_of sizes slot)
+pub own_is_said : (sizes : Sizes) {me : _} (i : ℕ) (st : NodeState) (slot word : ℕ) → sender_at sizes me st slot ≡ Node i → me ≡ sender_kind (role_of sizes slot)
     → says sizes me i st slot 1 word ≡ Some (own_value st (role_of sizes slot) word)
-own_is_said sizes me i st slot word sender mine =
+own_is_said sizes {me} i st slot word sender mine =
     let role : Role = role_of sizes slot in
     let speaks : listens (other me) role 1 ≡ true = ap (λ k. listens (other k) role 1) mine ∙ relays_listen role in
     let is_me : same_side me (sender_kind role) ≡ true = ap (λ k. same_side k (sender_kind role)) mine ∙ same_side_self (sender_kind role) in
@@ -124,9 +124,9 @@ vote_is_said sizes me i p st slot word sender speaks =
     ap (λ x. says_of me i st slot role x 3 word) sender ∙ ap (λ b. if b then Some (get_or st.votes slot Fault) else None) speaks
 
 -- what is said, if it is `value` or nothing, is not unlike `value`
-pub only-alike : (said : Option Heard) (value : Heard) → IsOnly said value → is_unlike value said ≡ false
-only-alike said value (inl none) = ap (is_unlike value) none
-only-alike said value (inr some) = ap (is_unlike value) some ∙ alike_is_not_unlike value
+pub only-alike : {said value : _} → IsOnly said value → is_unlike value said ≡ false
+only-alike {value} (inl none) = ap (is_unlike value) none
+only-alike {value} (inr some) = ap (is_unlike value) some ∙ alike_is_not_unlike value
 
 -- Words are in range.
 
@@ -136,13 +136,13 @@ get-all P (x ∷ xs) zero zero_it all = All-head P x xs all
 get-all P (x ∷ xs) (suc i) zero_it all = get-all P xs i zero_it (All-tail P x xs all)
 
 -- the word for a slot has four bytes
-pub word_fits : (sc : Scenario) (ports : List PortState) (i slot : ℕ) (role : Role) → IsLawful sc → word_for sc ports i slot role < 2 ^ 32
-word_fits sc ports i slot (Schedule n) law =
+pub word_fits : {sc : _} (ports : List PortState) (i slot : ℕ) (role : Role) → IsLawful sc → word_for sc ports i slot role < 2 ^ 32
+word_fits {sc} ports i slot (Schedule n) law =
     let few : get_or sc.requests i 0 ≤ 64 = get-all (λ n. n ≤ 64) sc.requests i (omega arith) law.requests.each in omega arith
-word_fits sc ports i slot (Data n) law = omega arith
-word_fits sc ports i slot (DiagBiu n) law = omega arith
-word_fits sc ports i slot (DiagRmu n) law = omega arith
-word_fits sc ports i slot Sync law = omega arith
+word_fits ports i slot (Data n) law = omega arith
+word_fits ports i slot (DiagBiu n) law = omega arith
+word_fits ports i slot (DiagRmu n) law = omega arith
+word_fits ports i slot Sync law = omega arith
 
 pub vector_fits : (st : NodeState) → vector_of st.far < 2 ^ 16
 vector_fits st = set_of-lt _

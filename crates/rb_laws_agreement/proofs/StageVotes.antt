@@ -3,7 +3,7 @@
 use Rattle.std.proofs.{Common.{◌≡◌, ℕ, ◌<◌, ◌≤◌, ◌&&◌, not, Bool, true, false, List, Some, is_some, ◌∙◌, arith}, lemmas.Bool.{and_from, not_from_false}}
 use Rattle.rb_base.specs.{Counting.{count_if, numbers}, Nodes.{Side, has}, declared.values.Heard.Heard}
 use Rattle.rb_base.proofs.{SetSizes.size-set_of, Plain.{and_first, and_second, less-same, not_both}}
-use Rattle.rb_rules.specs.{declared.sense.Sense.Sense, ExactStage.closing_of, Goodness.{Scenario, is_good}, Judging.{JudgedStage, is_benign}, Sense.value_in, Standing.{Standing, taken_of}}
+use Rattle.rb_rules.specs.{declared.sense.Sense.Sense, ExactStage.closing_of, Goodness.is_good, Judging.{JudgedStage, is_benign}, Sense.value_in, Standing.{Standing, taken_of}}
 use Rattle.rb_rules.proofs.Votes.{closing_vote_is}
 use Rattle.rb_laws_agreement.proofs.{Numbers.{how_many, how_many-is, how_many-le}, Premises.{Premise, is_active, is_sound}}
 
@@ -16,12 +16,12 @@ pub record IsSeen (trusted : Side → ℕ) (kind : Side) (stages : List JudgedSt
   pub seen : is_benign kind stages j ≡ false
 
 -- if all good nodes of a kind are heard to say one value, this is the vote
-pub one_voice : (sc : Scenario) (frame slot : ℕ) (trusted : Side → ℕ) (stages : List JudgedStage) (kind : Side) (s : Standing) (expected : ℕ → Bool) (sense : ℕ → Sense) (value : Heard)
+pub one_voice : {sc frame slot trusted stages : _} (kind : Side) (s : Standing) (expected : ℕ → Bool) (sense : ℕ → Sense) (value : Heard)
     → Premise sc frame slot trusted stages
     → ((j : ℕ) → has (trusted kind) j ≡ true → is_good sc kind j frame slot ≡ true → taken_of value_in s expected sense j ≡ Some value)
     → ((j : ℕ) → j < 16 → is_some (taken_of value_in s expected sense j) ≡ true → IsSeen trusted kind stages j)
     → (closing_of s expected sense).voted ≡ value
-one_voice sc frame slot trusted stages kind s expected sense value premise said seen =
+one_voice {sc} {frame} {slot} {trusted} {stages} kind s expected sense value premise said seen =
     let good : ℕ → Bool = is_sound sc kind frame slot trusted in
     let others : ℕ → Bool = λ j. not (good j) && is_some (taken_of value_in s expected sense j) in
     let few : how_many others ≤ how_many (is_active sc kind frame slot trusted stages) =

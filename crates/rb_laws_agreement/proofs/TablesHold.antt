@@ -51,10 +51,10 @@ begun-state sc hands i (suc frame) table =
     ∙ begun-state sc hands i frame table)
 
 -- a table offers that state in every slot but the first
-pub held-offered : (sc : Scenario) (hands : List HandIn) → IsLawful sc → (frame slot i : ℕ) → 1 ≤ slot → slot ≤ sync_slot_of sc.sizes → IsComplete sc hands frame slot
+pub held-offered : {sc : _} (hands : List HandIn) → IsLawful sc → (frame slot i : ℕ) → 1 ≤ slot → slot ≤ sync_slot_of sc.sizes → IsComplete sc hands frame slot
     → is_good sc Biu i frame slot ≡ true → get_or sc.apps i 0 ≡ 0 → offered_in sc hands frame slot i ≡ state_held sc hands i frame % 2 ^ 32
-held-offered sc hands law frame zero i some le complete good table = absurd (omega (arith, some))
-held-offered sc hands law frame (suc slot) i some le complete good table =
+held-offered hands law frame zero i some le complete good table = absurd (omega (arith, some))
+held-offered {sc} hands law frame (suc slot) i some le complete good table =
     let port : PortState = port_begun sc hands i frame in
     let here : PortState = port_through sc hands frame (suc slot) port in
     let app : port.app ≡ 0 = begun-app sc hands i frame ∙ table in
@@ -69,8 +69,8 @@ held-offered sc hands law frame (suc slot) i some le complete good table =
 
 -- The first slot has no owner.
 
-owned-late : (sizes : Sizes) (st : NodeState) (owner : ℕ) → 1 ≤ sizes.bius → owner_at sizes st 0 ≡ Some owner → ⊥
-owned-late sizes st owner some is = by (nat_lt 0 sizes.bius) _ (grind (arith, nat_tests)) is
+owned-late : (sizes : Sizes) (st : NodeState) {owner : ℕ} → 1 ≤ sizes.bius → owner_at sizes st 0 ≡ Some owner → ⊥
+owned-late sizes st {owner} some is = by (nat_lt 0 sizes.bius) _ (grind (arith, nat_tests)) is
   where
     by : (b : Bool) (rest : Role) → b ≡ true → owner_for st (if b then Schedule 0 else rest) ≡ Some owner → ⊥
     by true rest e is = let never : None ≡ Some owner = is in cc
@@ -78,12 +78,12 @@ owned-late sizes st owner some is = by (nat_lt 0 sizes.bius) _ (grind (arith, na
 
 -- The law.
 
-pub held-delivered : (sc : Scenario) (hands : List HandIn) → IsLawful sc → DeliverTheWord sc hands → DeliverTheHeldWord sc hands
-held-delivered sc hands law words frame slot below complete me i st before owner owns good table =
+pub held-delivered : {sc hands : _} → IsLawful sc → DeliverTheWord sc hands → DeliverTheHeldWord sc hands
+held-delivered {sc} {hands} law words frame slot below complete me i st before owner owns good table =
     subst (λ (word : ℕ). HasRecord sc hands frame slot (lines_of sc frame slot owner (Word word)))
-    (held-offered sc hands law frame slot owner (late slot owns) (omega (arith, below)) complete good table)
+    (held-offered hands law frame slot owner (late slot owns) (omega (arith, below)) complete good table)
     (words frame slot below complete me i st before owner owns good)
   where
     late : (slot : ℕ) → owner_at sc.sizes st slot ≡ Some owner → 1 ≤ slot
-    late zero is = absurd (owned-late sc.sizes st owner law.sizes.some_biu is)
+    late zero is = absurd (owned-late sc.sizes st law.sizes.some_biu is)
     late (suc n) is = omega arith

@@ -43,10 +43,10 @@ passing p from (suc n) h =
 
 -- What a list has at a number.
 
-pub get-some : {X : Type 0} (xs : List X) (i : ℕ) (d x : X) → slice_get xs i ≡ Some x → get_or xs i d ≡ x
-get-some [] i d x h = cc
-get-some (y ∷ ys) zero d x h = cc
-get-some (y ∷ ys) (suc i) d x h = get-some ys i d x h
+pub get-some : {X : Type 0} (xs : List X) (i : ℕ) (d : X) {x : X} → slice_get xs i ≡ Some x → get_or xs i d ≡ x
+get-some [] i d h = cc
+get-some (y ∷ ys) zero d h = cc
+get-some (y ∷ ys) (suc i) d h = get-some ys i d h
 
 -- the option has a value
 pub record Present {X : Type 0} (o : Option X) : Type 0 where

@@ -13,8 +13,8 @@ pub voted : (sc : Scenario) (hands : List HandIn) (n : ℕ) (m : Moment) (s : Sh
 voted sc hands n m s slot c = c.agree.voted slot c.below c.at
 
 -- what good nodes say in stage 3 has four bytes
-pub carried_3 : (sc : Scenario) (hands : List HandIn) (n : ℕ) (m : Moment) (s : Shared) (slot : ℕ) → Setting sc hands n m s slot 2 → AllCarried sc m slot 3
-carried_3 sc hands n m s slot c me i st here =
+pub carried_3 : {sc hands n m s slot : _} → Setting sc hands n m s slot 2 → AllCarried sc m slot 3
+carried_3 {sc} {hands} {n} {m} {s} {slot} c me i st here =
     let role : Role = role_of sc.sizes slot in
     let word : ℕ = word_at sc m slot i in
     let v : HasVoted sc hands m s slot = voted sc hands n m s slot c in
@@ -22,20 +22,20 @@ carried_3 sc hands n m s slot c me i st here =
       | inl listens_it ↦
           let mine : me ≡ kind_in sc.sizes slot = sym (other_twice me) ∙ ap other (listens_third (other me) role listens_it) ∙ other_twice (kind_in sc.sizes slot) in
           let voter : IsGoodNode sc m (kind_in sc.sizes slot) i st = subst (λ k. IsGoodNode sc m k i st) mine here in
-          only-fits (says sc.sizes me i st slot 3 word) (get_or st.votes slot Fault) (says_vote sc.sizes me i st slot word)
+          only-fits (says_vote sc.sizes me i st slot word)
           (subst IsCarried (sym (v.held i st voter)) v.is_value.carried)
       | inr deaf ↦ subst (λ o. IfSome o IsCarried) (sym (says_nothing sc.sizes me i st slot 3 word deaf)) tt
     ]
 
 -- the vote of stage 3 is that of stage 2
-pub vote_3 : (sc : Scenario) (hands : List HandIn) (n : ℕ) (m : Moment) (s : Shared) (slot : ℕ) (c : Setting sc hands n m s slot 2) (i : ℕ) (st : NodeState)
+pub vote_3 : {sc hands n m s slot : _} (c : Setting sc hands n m s slot 2) {i st : _}
     → has_third_stage (role_of sc.sizes slot) ≡ true → IsGoodNode sc m (other (kind_in sc.sizes slot)) i st
-    → vote_of sc hands n m s slot 2 c (other (kind_in sc.sizes slot)) i st ≡ (voted sc hands n m s slot c).value
-vote_3 sc hands n m s slot c i st third here = go (sender_of sc.sizes s slot) refl
+    → vote_of c (other (kind_in sc.sizes slot)) i st ≡ (voted sc hands n m s slot c).value
+vote_3 {sc} {hands} {n} {m} {s} {slot} c {i} {st} third here = go (sender_of sc.sizes s slot) refl
   where
     go : (sender : Sender) → sender_of sc.sizes s slot ≡ sender
-        → vote_of sc hands n m s slot 2 c (other (kind_in sc.sizes slot)) i st ≡ (voted sc hands n m s slot c).value
-    go Nobody e = idle-vote sc hands n m s slot 2 c e (other (kind_in sc.sizes slot)) i st here ∙ sym ((voted sc hands n m s slot c).is_value.idle e)
+        → vote_of c (other (kind_in sc.sizes slot)) i st ≡ (voted sc hands n m s slot c).value
+    go Nobody e = idle-vote c e here ∙ sym ((voted sc hands n m s slot c).is_value.idle e)
     go EachTrusted e =
         let single : IsSingle (sender_of sc.sizes s slot) = single_sender (s.trusted Biu) (s.trusted Rmu) s.owners (role_of sc.sizes slot) (exact_role sc.sizes slot c.below) in
         absurd (subst IsSingle e single)
@@ -48,29 +48,29 @@ vote_3 sc hands n m s slot c i st third here = go (sender_of sc.sizes s slot) re
         let voter : IsGoodNode sc m k j source = subst (λ k. IsGoodNode sc m k j source) mine there in
         let listens_it : listens (other x) role 3 ≡ true =
         ap (λ x. listens (other x) role 3) mine ∙ ap (λ b. if b then false else has_third_stage role) (same_side_other k) ∙ third in
-        vote_is_said sc.sizes x j p source slot (word_at sc m slot j) (sender-held sc m s x source slot (c.agree.nodes x j source there) ∙ e) listens_it
+        vote_is_said sc.sizes x j p source slot (word_at sc m slot j) (sender-held slot (c.agree.nodes x j source there) ∙ e) listens_it
         ∙ ap Some (v.held j source voter) in
-        all_vote sc hands n m s slot 2 c (carried_3 sc hands n m s slot c) (other k) v.value (all (other (other k)) (other_twice k)) i st here
+        all_vote c (carried_3 c) v.value (all (other (other k)) (other_twice k)) here
 
 -- no good node is accused by mismatch in stage 3
-pub none_unlike_3 : (sc : Scenario) (hands : List HandIn) (n : ℕ) (m : Moment) (s : Shared) (slot : ℕ) (c : Setting sc hands n m s slot 2) → NoneUnlike sc hands n m s slot 2 c
-none_unlike_3 sc hands n m s slot c me i j st source here there value reference =
+pub none_unlike_3 : {sc hands n m s slot : _} (c : Setting sc hands n m s slot 2) → NoneUnlike c
+none_unlike_3 {sc} {hands} {n} {m} {s} {slot} c me i j st source here there value reference =
     let role : Role = role_of sc.sizes slot in
     let k : Side = kind_in sc.sizes slot in
     let v : HasVoted sc hands m s slot = voted sc hands n m s slot c in
-    let is = by_test (votes_in me role 3) (vote_of sc hands n m s slot 2 c me i st) reference in
+    let is = by_test (votes_in me role 3) (vote_of c me i st) reference in
     let listens_it : listens me role 3 ≡ true = and_first (listens me role 3) true is.0 in
     let mine : me ≡ other k = listens_third me role listens_it in
     let third : has_third_stage role ≡ true = third-from (same_side me (sender_kind role)) (has_third_stage role) listens_it in
     let listener : IsGoodNode sc m (other k) i st = subst (λ x. IsGoodNode sc m x i st) mine here in
     let voter : IsGoodNode sc m k j source = subst (λ x. IsGoodNode sc m x j source) (ap other mine ∙ other_twice k) there in
     let same : v.value ≡ value =
-    sym (ap (λ x. vote_of sc hands n m s slot 2 c x i st) mine ∙ vote_3 sc hands n m s slot c i st third listener) ∙ is.1 in
+    sym (ap (λ x. vote_of c x i st) mine ∙ vote_3 c third listener) ∙ is.1 in
     let says_it : IsOnly (says sc.sizes (other me) j source slot 3 (word_at sc m slot j)) value =
     subst (IsOnly (says sc.sizes (other me) j source slot 3 (word_at sc m slot j))) (v.held j source voter ∙ same)
     (says_vote sc.sizes (other me) j source slot (word_at sc m slot j)) in
-    ap (is_unlike value) (all_heard sc hands n m s slot 2 c (carried_3 sc hands n m s slot c) me i j st source here there).takes
-    ∙ only-alike (says sc.sizes (other me) j source slot 3 (word_at sc m slot j)) value says_it
+    ap (is_unlike value) (all_heard c (carried_3 c) here there).takes
+    ∙ only-alike says_it
   where
     by_test : (b : Bool) (voted : Heard) → (if b then Some voted else None) ≡ Some value → (b ≡ true) × (voted ≡ value)
     by_test true voted h = (refl, same_Some voted value h)
@@ -83,44 +83,44 @@ none_unlike_3 sc hands n m s slot c me i j st source here there value reference 
 -- After stage 3.
 
 -- a node whose kind does not vote in a stage keeps its votes
-pub votes_kept : (sc : Scenario) (hands : List HandIn) (n : ℕ) (m : Moment) (s : Shared) (slot q : ℕ) (c : Setting sc hands n m s slot q) (me : Side) (i : ℕ) (st now : NodeState)
+pub votes_kept : {sc hands n m s slot q : _} (c : Setting sc hands n m s slot q) {me i st now : _}
     → IsGoodNode sc m me i st → after sc m me i st ≡ now → votes_in me (role_of sc.sizes slot) (q + 1) ≡ false → now.votes ≡ st.votes
-votes_kept sc hands n m s slot q c me i st now here is none =
-    let x : Closed sc hands n m s slot q c me i st = closes sc hands n m s slot q c me i st here in
+votes_kept {sc} {hands} {n} {m} {s} {slot} {q} c {me} {i} {st} here is none =
+    let x : Closed sc hands n m s slot q c me i st = closes c here in
     ap (λ t. t.votes) (sym is ∙ x.is) ∙ x.parts.votes
-    ∙ ap (λ b. if b then slice_set st.votes slot (vote_of sc hands n m s slot q c me i st) else st.votes) none
+    ∙ ap (λ b. if b then slice_set st.votes slot (vote_of c me i st) else st.votes) none
 
-pub other_votes_kept : (sc : Scenario) (hands : List HandIn) (n : ℕ) (m : Moment) (s : Shared) (slot q : ℕ) (c : Setting sc hands n m s slot q) (me : Side) (i : ℕ) (st now : NodeState) (t : ℕ)
+pub other_votes_kept : {sc hands n m s slot q : _} (c : Setting sc hands n m s slot q) {me i st now : _} (t : ℕ)
     → IsGoodNode sc m me i st → after sc m me i st ≡ now → t < slot → get_or now.votes t Fault ≡ get_or st.votes t Fault
-other_votes_kept sc hands n m s slot q c me i st now t here is before =
-    let x : Closed sc hands n m s slot q c me i st = closes sc hands n m s slot q c me i st here in
+other_votes_kept {sc} {hands} {n} {m} {s} {slot} {q} c {me} {i} {st} t here is before =
+    let x : Closed sc hands n m s slot q c me i st = closes c here in
     ap (λ u. get_or u.votes t Fault) (sym is ∙ x.is) ∙ ap (λ v. get_or v t Fault) x.parts.votes
-    ∙ go (votes_in me (role_of sc.sizes slot) (q + 1)) (vote_of sc hands n m s slot q c me i st)
+    ∙ go (votes_in me (role_of sc.sizes slot) (q + 1)) (vote_of c me i st)
   where
     go : (b : Bool) (v : Heard) → get_or (if b then slice_set st.votes slot v else st.votes) t Fault ≡ get_or st.votes t Fault
     go true v = let apart : t ≡ slot → ⊥ = λ e. absurd (omega arith) in get_or-set_other st.votes slot t v Fault apart
     go false v = refl
 
 -- a slot's value is still what it was
-pub value_next : (sc : Scenario) (hands : List HandIn) (n : ℕ) (m : Moment) (s : Shared) (slot q : ℕ) → Setting sc hands n m s slot q → (t : ℕ) (value : Heard)
+pub value_next : {sc hands n m s slot q : _} → Setting sc hands n m s slot q → {t value : _}
     → IsValue sc hands m s t value → IsValue sc hands (next sc m) s t value
-value_next sc hands n m s slot q c t value v = record {
+value_next {sc} {m} {slot} {q} c {t} v = record {
   idle = v.idle;
-  own = λ p sender good. own_next sc hands m t p value (v.own p sender (was_good sc m (kind_in sc.sizes t) p good));
+  own = λ p sender good. own_next (v.own p sender (was_good sc m (kind_in sc.sizes t) p good));
   unseen = λ p sender benign.
       v.unseen p sender (benign-before (kind_in sc.sizes t) (judged_of sc (record { frame = m.frame; slot = slot; stage = q + 1 }) (rows_of sc m)) m.book.stages p
-      (ap (λ x. is_benign (kind_in sc.sizes t) x p) (sym (stages_after sc hands n m s slot q c)) ∙ benign));
+      (ap (λ x. is_benign (kind_in sc.sizes t) x p) (sym (stages_after c)) ∙ benign));
   carried = v.carried;
 }
 
 -- a slot that was finished still is
-pub finished_next : (sc : Scenario) (hands : List HandIn) (n : ℕ) (m : Moment) (s : Shared) (slot q : ℕ) → Setting sc hands n m s slot q → (t : ℕ) (value : Heard) → t < slot
+pub finished_next : {sc hands n m s slot q : _} → Setting sc hands n m s slot q → {t value : _} → t < slot
     → IsFinished sc hands m s t value → IsFinished sc hands (next sc m) s t value
-finished_next sc hands n m s slot q c t value before f = record {
-  is_value = value_next sc hands n m s slot q c t value f.is_value;
+finished_next {sc} {m} c {t} before f = record {
+  is_value = value_next c f.is_value;
   held = λ me i now h votes.
-      let from : CameFrom sc m me i now = came_from sc hands n m s c.agree me i now h in
-      other_votes_kept sc hands n m s slot q c me i from.st now t from.was from.is before ∙ f.held me i from.st from.was votes;
+      let from : CameFrom sc m me i now = came_from c.agree h in
+      other_votes_kept c t from.was from.is before ∙ f.held me i from.st from.was votes;
 }
 
 -- a node of the other kind votes if there is a third stage
@@ -132,9 +132,9 @@ third-voted (DiagRmu i) h = refl
 third-voted Sync h = refl
 
 -- after the slot each good node that votes on it holds the value
-pub held_3 : (sc : Scenario) (hands : List HandIn) (n : ℕ) (m : Moment) (s : Shared) (slot : ℕ) (c : Setting sc hands n m s slot 2) (me : Side) (i : ℕ) (st now : NodeState)
+pub held_3 : {sc hands n m s slot : _} (c : Setting sc hands n m s slot 2) {me i st now : _}
     → IsGoodNode sc m me i st → after sc m me i st ≡ now → votes_on sc.sizes slot me ≡ true → get_or now.votes slot Fault ≡ (voted sc hands n m s slot c).value
-held_3 sc hands n m s slot c me i st now here is votes =
+held_3 {sc} {hands} {n} {m} {s} {slot} c {me} {i} {st} here is votes =
     let k : Side = kind_in sc.sizes slot in
     let role : Role = role_of sc.sizes slot in
     let v : HasVoted sc hands m s slot = voted sc hands n m s slot c in
@@ -142,22 +142,22 @@ held_3 sc hands n m s slot c me i st now here is votes =
       | inl mine ↦
           let voter : IsGoodNode sc m k i st = subst (λ x. IsGoodNode sc m x i st) mine here in
           let none : votes_in me role 3 ≡ false = ap (λ x. votes_in x role 3) mine ∙ ap (λ b. b && true) (voters_deaf role 3 refl) in
-          ap (λ x. get_or x slot Fault) (votes_kept sc hands n m s slot 2 c me i st now here is none) ∙ v.held i st voter
+          ap (λ x. get_or x slot Fault) (votes_kept c here is none) ∙ v.held i st voter
       | inr far ↦
           let listener : IsGoodNode sc m (other k) i st = subst (λ x. IsGoodNode sc m x i st) far here in
           let third : has_third_stage role ≡ true = third-voted role (sym (ap (votes_on sc.sizes slot) far) ∙ votes) in
           let some : votes_in me role 3 ≡ true =
           ap (λ x. votes_in x role 3) far ∙ ap (λ b. (if b then false else has_third_stage role) && true) (same_side_other k) ∙ ap (λ b. b && true) third in
-          vote-held sc hands n m s slot 2 c me i st now here is some
-          ∙ ap (λ x. vote_of sc hands n m s slot 2 c x i st) far ∙ vote_3 sc hands n m s slot c i st third listener
+          vote-held c here is some
+          ∙ ap (λ x. vote_of c x i st) far ∙ vote_3 c third listener
     ]
 
 -- the slot is finished
-pub finished_3 : (sc : Scenario) (hands : List HandIn) (n : ℕ) (m : Moment) (s : Shared) (slot : ℕ) (c : Setting sc hands n m s slot 2)
+pub finished_3 : {sc hands n m s slot : _} (c : Setting sc hands n m s slot 2)
     → IsFinished sc hands (next sc m) s slot (voted sc hands n m s slot c).value
-finished_3 sc hands n m s slot c = record {
-  is_value = value_next sc hands n m s slot 2 c slot (voted sc hands n m s slot c).value (voted sc hands n m s slot c).is_value;
+finished_3 {sc} {hands} {n} {m} {s} {slot} c = record {
+  is_value = value_next c (voted sc hands n m s slot c).is_value;
   held = λ me i now h votes.
-      let from : CameFrom sc m me i now = came_from sc hands n m s c.agree me i now h in
-      held_3 sc hands n m s slot c me i from.st now from.was from.is votes;
+      let from : CameFrom sc m me i now = came_from c.agree h in
+      held_3 c from.was from.is votes;
 }

@@ -42,8 +42,8 @@ none-present (None ∷ xs) ys (suc i) x e at = none-present xs ys i x e at
 none-present (Some y ∷ xs) ys i x e at = cc
 
 -- if no BIU tells of the next frame, no BIU is good at its start
-nobody-begins : (sc : Scenario) (m : Moment) → AllStand sc m → begun_next sc m ≡ [] → (i : ℕ) → is_good sc Biu i (m.frame + 1) 0 ≡ false
-nobody-begins sc m stand none i = by (is_good sc Biu i (m.frame + 1) 0) refl
+nobody-begins : {sc m : _} → AllStand sc m → begun_next sc m ≡ [] → (i : ℕ) → is_good sc Biu i (m.frame + 1) 0 ≡ false
+nobody-begins {sc} {m} stand none i = by (is_good sc Biu i (m.frame + 1) 0) refl
   where
     turned : Side → ℕ → NodeState → NodeState
     turned me i st = turn_if_known sc.sizes sc.plan me st
@@ -167,7 +167,7 @@ begins-or-ends sc lawful hands records rest r frame are upto later below = by m.
 
     empty : (given : FrameGiven sc (m.frame + 1) [] m.book x.book) → begun_next sc m ≡ [] → BeginsOrEnds sc (frame + 1) r
     empty given none =
-        let nobody : (i : ℕ) → is_good sc Biu i (m.frame + 1) 0 ≡ false = nobody-begins sc m (moments-stand sc hands e (has_ticks sc lawful)) none in
+        let nobody : (i : ℕ) → is_good sc Biu i (m.frame + 1) 0 ≡ false = nobody-begins (moments-stand sc hands e (has_ticks lawful)) none in
         let here : (i : ℕ) → is_good sc Biu i (frame + 1) 0 ≡ false = subst (λ f. (i : ℕ) → is_good sc Biu i (f + 1) 0 ≡ false) place.0 nobody in
         let there : (i : ℕ) → is_good sc Biu i x.frame 0 ≡ false = subst (λ f. (i : ℕ) → is_good sc Biu i f 0 ≡ false) (sym next) here in
         elim (cases_lt (suc e) g.at) [

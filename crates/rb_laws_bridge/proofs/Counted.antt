@@ -25,10 +25,10 @@ found {X} passes (x ∷ xs) some = by (passes x) refl some (found passes xs)
     by false none s later = let y : Found passes xs = later s in record { item = y.item; inside = inr y.inside; is = y.is }
 
 -- an item that passes is found
-pub any_of : {X : Type 0} (passes : X → Bool) (x : X) (xs : List X) → IsIn x xs → passes x ≡ true → list_any passes xs ≡ true
-any_of passes x [] h p = absurd h
-any_of passes x (y ∷ ys) (inl same) p = ap (λ b. b || list_any passes ys) (ap passes same ∙ p)
-any_of passes x (y ∷ ys) (inr later) p = by (passes y) (any_of passes x ys later p)
+pub any_of : {X : Type 0} (passes : X → Bool) {x : X} (xs : List X) → IsIn x xs → passes x ≡ true → list_any passes xs ≡ true
+any_of passes [] h p = absurd h
+any_of passes (y ∷ ys) (inl same) p = ap (λ b. b || list_any passes ys) (ap passes same ∙ p)
+any_of passes (y ∷ ys) (inr later) p = by (passes y) (any_of passes ys later p)
   where
     by : (b : Bool) → list_any passes ys ≡ true → (b || list_any passes ys) ≡ true
     by true h = refl
@@ -39,8 +39,8 @@ any_of passes x (y ∷ ys) (inr later) p = by (passes y) (any_of passes x ys lat
 abbrev without : (ℕ → Bool) → ℕ → ℕ → Bool
 without passes x i = passes i && not (i == x)
 
-apart-from : (a b : ℕ) → a ≡ b → (a == b) ≡ false → ⊥
-apart-from a b same e = grind (arith, nat_tests)
+apart-from : {a b : ℕ} → a ≡ b → (a == b) ≡ false → ⊥
+apart-from same e = grind (arith, nat_tests)
 
 zero-more : (a b : ℕ) → a ≤ b → 0 + a ≤ b
 zero-more a b h = omega (arith, h)
@@ -101,7 +101,7 @@ one-less passes x from (suc n) low high pass =
     by false e fewer later =
         elim (cases_lt from x) [
           | inl less ↦ step (passes from) (later less)
-          | inr more ↦ let same : from ≡ x = omega arith in absurd (apart-from from x same e)
+          | inr more ↦ let same : from ≡ x = omega arith in absurd (apart-from same e)
         ]
 
 -- Items, by a number of each.

@@ -16,10 +16,10 @@ use Rattle.rb_laws_bridge.proofs.{Counted.{IsIn, any_of, items-few, numbers-few}
 -- Frames.
 
 -- a run that goes on to a frame's last stage is in one of its frames
-frame-inside : (sc : Scenario) (hands : List HandIn) → IsLawful sc → (frame slot : ℕ) → IsComplete sc hands frame slot → frame < sc.frames
-frame-inside sc hands law frame slot complete =
+frame-inside : {sc : _} (hands : List HandIn) → IsLawful sc → {frame : ℕ} (slot : ℕ) → IsComplete sc hands frame slot → frame < sc.frames
+frame-inside {sc} hands law {frame} slot complete =
     let size : ℕ = windows_in sc.sizes + 1 in
-    let early : frame * size + 3 * slot + 4 - 1 ≤ steps_of sc = is-early sc hands law (frame * size + 3 * slot + 4 - 1) complete in
+    let early : frame * size + 3 * slot + 4 - 1 ≤ steps_of sc = is-early hands law (frame * size + 3 * slot + 4 - 1) complete in
     elim (cases_lt frame sc.frames) [
       | inl less ↦ less
       | inr past ↦
@@ -36,15 +36,15 @@ earlier-complete sc hands frame slot le complete =
     later : (f s slot : ℕ) → slot ≤ s → f * (3 * s + 4 + 1) + 3 * slot + 4 - 1 ≤ (f + 1) * (3 * s + 4 + 1) + 3 * s + 4 - 1
     later f s slot h = omega (arith, h)
 
-same-frames : (b : Bridge) → IsBridge b → (bank : Bank) → (bus_on b bank).frames ≡ b.left.frames
-same-frames b is Left = refl
-same-frames b is Right = sym is.frames
+same-frames : {b : _} → IsBridge b → (bank : Bank) → (bus_on b bank).frames ≡ b.left.frames
+same-frames is Left = refl
+same-frames is Right = sym is.frames
 
 -- Slots.
 
-first-within : (owner : ℕ → Option ℕ) (i from n slot : ℕ) → first_among owner i (range_with_len from n) ≡ Some slot → (from ≤ slot) × (slot < from + n)
-first-within owner i from zero slot e = cc
-first-within owner i from (suc n) slot e = by (is_number i (owner from)) e (first-within owner i (from + 1) n slot)
+first-within : (owner : ℕ → Option ℕ) (i from n : ℕ) {slot : ℕ} → first_among owner i (range_with_len from n) ≡ Some slot → (from ≤ slot) × (slot < from + n)
+first-within owner i from zero e = cc
+first-within owner i from (suc n) {slot} e = by (is_number i (owner from)) e (first-within owner i (from + 1) n)
   where
     by : (b : Bool) → (if b then Some from else first_among owner i (range_with_len (from + 1) n)) ≡ Some slot
         → (first_among owner i (range_with_len (from + 1) n) ≡ Some slot → (from + 1 ≤ slot) × (slot < from + 1 + n))
@@ -54,10 +54,10 @@ first-within owner i from (suc n) slot e = by (is_number i (owner from)) e (firs
 
 -- One pair.
 
-all-in : {X : Type 0} (P : X → Type 0) (x : X) (xs : List X) → IsIn x xs → All P xs → P x
-all-in P x [] inside all = absurd inside
-all-in P x (y ∷ ys) (inl same) all = subst P same (All-head P y ys all)
-all-in P x (y ∷ ys) (inr later) all = all-in P x ys later (All-tail P y ys all)
+all-in : {X : Type 0} (P : X → Type 0) {x : X} (xs : List X) → IsIn x xs → All P xs → P x
+all-in P [] inside all = absurd inside
+all-in P (y ∷ ys) (inl same) all = subst P same (All-head P y ys all)
+all-in P (y ∷ ys) (inr later) all = all-in P ys later (All-tail P y ys all)
 
 -- what is known if words cross
 record IsCrossing (b : Bridge) (bank : Bank) (frame : ℕ) (owner : ℕ → Option ℕ) : Type 0 where
@@ -65,53 +65,53 @@ record IsCrossing (b : Bridge) (bank : Bank) (frame : ℕ) (owner : ℕ → Opti
   pub unbroken : AreUnbroken b (frame + 1)
   pub schedule : IsSchedule (bus_on b bank) (hands_on bank (hands_of b)) (frame + 1) owner
 
-slot-inside : (b : Bridge) → IsBridge b → (bank : Bank) → carried_slot b bank < sync_slot_of (bus_on b bank).sizes
-slot-inside b is bank = let shape : IsShape (bus_on b bank).sizes = (is.lawful bank).sizes in omega (arith, is.slots bank)
+slot-inside : {b : _} → IsBridge b → (bank : Bank) → carried_slot b bank < sync_slot_of (bus_on b bank).sizes
+slot-inside {b} is bank = let shape : IsShape (bus_on b bank).sizes = (is.lawful bank).sizes in omega (arith, is.slots bank)
 
 -- a pair carries the word of the near bus from a BIU that is good in the whole frame
-carries-word : (b : Bridge) (bank : Bank) (frame : ℕ) (owner : ℕ → Option ℕ) → IsCrossing b bank frame owner → (pair : Pair)
+carries-word : {b bank frame owner : _} → IsCrossing b bank frame owner → (pair : Pair)
     → is_good_through (bus_on b (across bank)) frame (biu_on (across bank) pair) ≡ true
     → word_carried b (hands_of b) bank frame pair ≡ word_on b (across bank) frame
-carries-word b bank frame owner c pair good =
+carries-word {b} {bank} {frame} c pair good =
     let near : Scenario = bus_on b (across bank) in
     let slot : ℕ = carried_slot b (across bank) in
-    let inside : slot < sync_slot_of near.sizes = slot-inside b c.bridge (across bank) in
+    let inside : slot < sync_slot_of near.sizes = slot-inside c.bridge (across bank) in
     let complete : IsComplete near (hands_on (across bank) (hands_of b)) frame slot =
     earlier-complete near (hands_on (across bank) (hands_of b)) frame slot (omega (arith, inside)) (c.unbroken (across bank)) in
     ap word_of (good-tell near (hands_on (across bank) (hands_of b)) (c.bridge.lawful (across bank)) frame slot inside complete (biu_on (across bank) pair)
     (good_earlier near Biu (biu_on (across bank) pair) frame slot (sync_slot_of near.sizes) (omega (arith, inside)) good))
 
-word-small : (b : Bridge) (bank : Bank) (frame : ℕ) (owner : ℕ → Option ℕ) → IsCrossing b bank frame owner → word_on b (across bank) frame < 2 ^ 32
-word-small b bank frame owner c =
+word-small : {b bank frame owner : _} → IsCrossing b bank frame owner → word_on b (across bank) frame < 2 ^ 32
+word-small {b} {bank} {frame} c =
     let near : Scenario = bus_on b (across bank) in
     let slot : ℕ = carried_slot b (across bank) in
-    let inside : slot < sync_slot_of near.sizes = slot-inside b c.bridge (across bank) in
-    word-fits near (hands_on (across bank) (hands_of b)) (c.bridge.lawful (across bank)) frame slot inside
+    let inside : slot < sync_slot_of near.sizes = slot-inside c.bridge (across bank) in
+    word-fits (hands_on (across bank) (hands_of b)) (c.bridge.lawful (across bank)) frame inside
     (earlier-complete near (hands_on (across bank) (hands_of b)) frame slot (omega (arith, inside)) (c.unbroken (across bank)))
 
 -- a sound pair offers the word of the near bus on the far bus
-sound-offers : (b : Bridge) (bank : Bank) (frame : ℕ) (owner : ℕ → Option ℕ) → IsCrossing b bank frame owner → (pair : Pair) → IsIn pair b.pairs → is_sound b bank owner frame pair ≡ true
+sound-offers : {b bank frame owner : _} → IsCrossing b bank frame owner → (pair : Pair) → IsIn pair b.pairs → is_sound b bank owner frame pair ≡ true
     → offer_of (bus_on b bank) (hands_on bank (hands_of b)) (frame + 1) owner (biu_on bank pair) ≡ Some (word_on b (across bank) frame)
-sound-offers b bank frame owner c pair inside sound =
+sound-offers {b} {bank} {frame} {owner} c pair inside sound =
     let both = and_second (counts_on b bank owner pair) (far_good && near_good) sound in
     let far : far_good ≡ true = and_first far_good near_good both in
     let near : near_good ≡ true = and_second far_good near_good both in
     let there : Present (first_slot sc.sizes owner i) = present_if (first_slot sc.sizes owner i) (and_first (counts_on b bank owner pair) (far_good && near_good) sound) in
     let slot : ℕ = there.value in
-    let within = first-within owner i sc.sizes.bius sc.sizes.data_slots slot there.is in
+    let within = first-within owner i sc.sizes.bius sc.sizes.data_slots there.is in
     let some : 1 ≤ sc.sizes.bius = (c.bridge.lawful bank).sizes.some_biu in
     let good : is_good sc Biu i (frame + 1) slot ≡ true = good_earlier sc Biu i (frame + 1) slot (sync_slot_of sc.sizes) (omega (arith, within.1)) far in
-    let head : IsHead sc i = all-in (λ pair. IsHead sc (biu_on bank pair)) pair b.pairs inside (c.bridge.heads bank) in
-    let complete : IsComplete sc hands (frame + 1) slot = slot-earlier sc hands (frame + 1) slot (sync_slot_of sc.sizes) (omega (arith, within.1)) (c.unbroken bank) in
-    let run : frame + 1 < sc.frames = frame-inside sc hands (c.bridge.lawful bank) (frame + 1) slot complete in
-    let frames : sc.frames ≡ b.left.frames = same-frames b c.bridge bank in
+    let head : IsHead sc i = all-in (λ pair. IsHead sc (biu_on bank pair)) b.pairs inside (c.bridge.heads bank) in
+    let complete : IsComplete sc hands (frame + 1) slot = slot-earlier sc hands (frame + 1) slot (omega (arith, within.1)) (c.unbroken bank) in
+    let run : frame + 1 < sc.frames = frame-inside hands (c.bridge.lawful bank) slot complete in
+    let frames : sc.frames ≡ b.left.frames = same-frames c.bridge bank in
     let handed : states_for i (suc frame) hands ≡ word ∷ [] =
     handed-one b bank frame (omega (arith, run, frames)) (c.bridge.apart bank) pair inside (good_earlier sc Biu i (frame + 1) 0 (sync_slot_of sc.sizes) (omega arith) far)
-    ∙ ap (λ w. w ∷ []) (carries-word b bank frame owner c pair near) in
+    ∙ ap (λ w. w ∷ []) (carries-word c pair near) in
     let offered : offered_in sc hands (frame + 1) slot i ≡ word =
     ap (λ f. offered_in sc hands f slot i) (plus frame)
-    ∙ table-offers sc hands (c.bridge.lawful bank) frame slot i word (omega (arith, some, within.0)) (omega (arith, within.1))
-    (subst (λ f. IsComplete sc hands f slot) (plus frame) complete) (ap (λ f. is_good sc Biu i f slot) (sym (plus frame)) ∙ good) head.table handed (word-small b bank frame owner c) in
+    ∙ table-offers hands (c.bridge.lawful bank) frame i word (omega (arith, some, within.0)) (omega (arith, within.1))
+    (subst (λ f. IsComplete sc hands f slot) (plus frame) complete) (ap (λ f. is_good sc Biu i f slot) (sym (plus frame)) ∙ good) head.table handed (word-small c) in
     ap (offer_in sc hands (frame + 1) i) there.is
     ∙ ap (λ g. if g then Some (offered_in sc hands (frame + 1) slot i) else None) good ∙ ap (λ w. Some w) offered
   where
@@ -138,15 +138,15 @@ sound-offers b bank frame owner c pair inside sound =
 
 -- Members.
 
-member-small : (b : Bridge) (bank : Bank) → IsBridge b → (pair : Pair) → IsIn pair b.pairs → biu_on bank pair < 16
-member-small b bank is pair inside =
-    let head : IsHead (bus_on b bank) (biu_on bank pair) = all-in (λ pair. IsHead (bus_on b bank) (biu_on bank pair)) pair b.pairs inside (is.heads bank) in
+member-small : {b : _} (bank : Bank) → IsBridge b → (pair : Pair) → IsIn pair b.pairs → biu_on bank pair < 16
+member-small {b} bank is pair inside =
+    let head : IsHead (bus_on b bank) (biu_on bank pair) = all-in (λ pair. IsHead (bus_on b bank) (biu_on bank pair)) b.pairs inside (is.heads bank) in
     omega (arith, head.inside, (is.lawful bank).sizes.most_bius)
 
-is-member : (b : Bridge) (bank : Bank) → IsBridge b → (pair : Pair) → IsIn pair b.pairs → has (members_on b bank) (biu_on bank pair) ≡ true
-is-member b bank is pair inside =
-    has-set_of (biu_on bank pair) (λ i. list_any (λ p. biu_on bank p == i) b.pairs) (member-small b bank is pair inside)
-    ∙ any_of (λ p. biu_on bank p == biu_on bank pair) pair b.pairs inside (eq_self (biu_on bank pair))
+is-member : {b : _} (bank : Bank) → IsBridge b → (pair : Pair) → IsIn pair b.pairs → has (members_on b bank) (biu_on bank pair) ≡ true
+is-member {b} bank is pair inside =
+    has-set_of (biu_on bank pair) (λ i. list_any (λ p. biu_on bank p == i) b.pairs) (member-small bank is pair inside)
+    ∙ any_of (λ p. biu_on bank p == biu_on bank pair) b.pairs inside (eq_self (biu_on bank pair))
 
 member-found : (b : Bridge) (bank : Bank) (i : ℕ) → has (members_on b bank) i ≡ true → list_any (λ pair. biu_on bank pair == i) b.pairs ≡ true
 member-found b bank i member =
@@ -161,17 +161,17 @@ member-found b bank i member =
 -- The vote.
 
 -- the members that offer the word outnumber the others that own a slot
-offers-outnumber : (b : Bridge) (bank : Bank) (frame : ℕ) (owner : ℕ → Option ℕ) → IsCrossing b bank frame owner → SoundPairsOutnumber b bank owner frame
+offers-outnumber : {b bank frame owner : _} → IsCrossing b bank frame owner → SoundPairsOutnumber b bank owner frame
     → Outnumber (offers (bus_on b bank) (hands_on bank (hands_of b)) (frame + 1) owner (members_on b bank) (word_on b (across bank) frame)) (has_slot (bus_on b bank) owner (members_on b bank))
 unfolding SoundPairsOutnumber Outnumber
-offers-outnumber b bank frame owner c more =
+offers-outnumber {b} {bank} {frame} {owner} c more =
     let few : count_if others (numbers 16) ≤ count_if unsound b.pairs =
     numbers-few (biu_on bank) others unsound b.pairs
     (λ i e. member-found b bank i (and_first (has members i) (is_some (first_slot sc.sizes owner i)) (and_second (not (offer i)) (has_slot sc owner members i) e)))
     (λ pair inside e. others-unsound pair inside (and_first (not (offer (biu_on bank pair))) (has_slot sc owner members (biu_on bank pair)) e)
     (and_second (has members (biu_on bank pair)) (counts_on b bank owner pair) (and_second (not (offer (biu_on bank pair))) (has_slot sc owner members (biu_on bank pair)) e))) in
     let many : count_if (is_sound b bank owner frame) b.pairs ≤ count_if offer (numbers 16) =
-    items-few (biu_on bank) (is_sound b bank owner frame) offer b.pairs (c.bridge.apart bank) (λ pair inside e. (pair-offers pair inside e, member-small b bank c.bridge pair inside)) in
+    items-few (biu_on bank) (is_sound b bank owner frame) offer b.pairs (c.bridge.apart bank) (λ pair inside e. (pair-offers pair inside e, member-small bank c.bridge pair inside)) in
     between (count_if others (numbers 16)) (count_if unsound b.pairs) (count_if (is_sound b bank owner frame) b.pairs) (count_if offer (numbers 16)) few more many
   where
     sc : Scenario
@@ -197,8 +197,8 @@ offers-outnumber b bank frame owner c more =
 
     pair-offers : (pair : Pair) → IsIn pair b.pairs → is_sound b bank owner frame pair ≡ true → offer (biu_on bank pair) ≡ true
     pair-offers pair inside sound =
-        and_from (has members (biu_on bank pair)) (is_number word (offer_of sc hands (frame + 1) owner (biu_on bank pair))) (is-member b bank c.bridge pair inside)
-        (ap (is_number word) (sound-offers b bank frame owner c pair inside sound) ∙ eq_self word)
+        and_from (has members (biu_on bank pair)) (is_number word (offer_of sc hands (frame + 1) owner (biu_on bank pair))) (is-member bank c.bridge pair inside)
+        (ap (is_number word) (sound-offers c pair inside sound) ∙ eq_self word)
 
     is-unsound : (pair : Pair) → not (offer (biu_on bank pair)) ≡ true → (is_sound b bank owner frame pair ≡ true → offer (biu_on bank pair) ≡ true)
         → (t : Bool) → is_sound b bank owner frame pair ≡ t → not t ≡ true
@@ -222,6 +222,6 @@ words-cross b is bank frame unbroken owner schedule more receiver good =
     let shape : IsShape sc.sizes = (is.lawful bank).sizes in
     let within : last_data_slot sc.sizes ≤ sync_slot_of sc.sizes = omega arith in
     let c : IsCrossing b bank frame owner = record { bridge = is; unbroken = unbroken; schedule = schedule } in
-    most-finds sc hands (is.lawful bank) (members_on b bank) (frame + 1) (slot-earlier sc hands (frame + 1) (last_data_slot sc.sizes) (sync_slot_of sc.sizes) within (unbroken bank)) owner schedule
-    (word_on b (across bank) frame) (offers-outnumber b bank frame owner c more)
+    most-finds sc hands (is.lawful bank) (members_on b bank) (frame + 1) (slot-earlier sc hands (frame + 1) (last_data_slot sc.sizes) within (unbroken bank)) owner schedule
+    (word_on b (across bank) frame) (offers-outnumber c more)
     receiver (good_earlier sc Biu receiver (frame + 1) (last_data_slot sc.sizes) (sync_slot_of sc.sizes) within good)

@@ -23,9 +23,9 @@ all-for b hands bank frame (p ∷ ps) = (refl, all-for b hands bank frame ps)
 carried-for : (b : Bridge) (hands : Hands) (bank : Bank) (frame : ℕ) → AreFor (frame + 1) (carried_to b hands bank frame)
 carried-for b hands bank frame = all-for b hands bank frame (filter (λ pair. is_good (bus_on b bank) Biu (biu_on bank pair) (frame + 1) 0) b.pairs)
 
-for-later : (frame g : ℕ) (hs : List HandIn) → frame < g → AreFor g hs → AreLater frame hs
-for-later frame g [] lt all = tt
-for-later frame g (h ∷ hs) lt all = (let e : h.frame ≡ g = all.0 in omega (arith, lt), for-later frame g hs lt all.1)
+for-later : (frame : ℕ) {g : ℕ} (hs : List HandIn) → frame < g → AreFor g hs → AreLater frame hs
+for-later frame [] lt all = tt
+for-later frame {g} (h ∷ hs) lt all = (let e : h.frame ≡ g = all.0 in omega (arith, lt), for-later frame hs lt all.1)
 
 these-for : (frame : ℕ) (hs : List HandIn) → AreFor frame hs → filter (λ h. h.frame == frame) hs ≡ hs
 these-for frame [] all = refl
@@ -71,7 +71,7 @@ more-later b bank n (suc k) =
       more = before.more ++ now;
       is = ap (λ m. hands_on bank (hands_up_to b m)) (same n k) ∙ hands-step b bank (n + k) ∙ ap (λ l. l ++ now) before.is
           ∙ append_assoc (hands_on bank (hands_up_to b n)) before.more now;
-      late = later-join n before.more now before.late (for-later n (n + k + 1) now (omega arith) (carried-for b (hands_up_to b (n + k)) bank (n + k)));
+      late = later-join n before.more now before.late (for-later n now (omega arith) (carried-for b (hands_up_to b (n + k)) bank (n + k)));
     }
   where
     same : (n k : ℕ) → n + suc k ≡ suc (n + k)

@@ -133,10 +133,10 @@ pub record IsGivenAt (sc : Scenario) (hands : List HandIn) (records : List Recor
   pub lower : (f : ℕ) → f < (moment sc hands at).frame → f < sc.frames → f < frame_told sc.frames r
   pub ends : ends_run r ≡ true → (moment sc hands at).book.ended ≡ true
 
-added-at : (sc : Scenario) (hands : List HandIn) (records rest : List Record) (a : Book) (r s : Record) (n at : ℕ) → at ≤ n
+added-at : {sc : _} (hands : List HandIn) (records rest : List Record) {a : _} (r : Record) {s : _} (n at : ℕ) → at ≤ n
     → HasOneMore sc (moment sc hands at).frame a (moment sc hands at).book s → (moment sc hands at).book.given ≡ records ++ r ∷ rest
     → ((more : List Record) → a.given ≡ records ++ r ∷ more → IsGivenAt sc hands records r n) → IsGivenAt sc hands records r n
-added-at sc hands records rest a r s n at early one are earlier =
+added-at {sc} hands records rest {a} r {s} n at early one are earlier =
     elim (split-last records r rest a.given s (sym one.given ∙ are)) [
       | inl last ↦
           let this : HasOneMore sc (moment sc hands at).frame a (moment sc hands at).book r = subst (HasOneMore sc (moment sc hands at).frame a (moment sc hands at).book) (sym last.1) one in
@@ -144,8 +144,8 @@ added-at sc hands records rest a r s n at early one are earlier =
       | inr more ↦ earlier more.0 more.1
     ]
 
-given-later : (sc : Scenario) (hands : List HandIn) (records : List Record) (r : Record) (n : ℕ) → IsGivenAt sc hands records r n → IsGivenAt sc hands records r (suc n)
-given-later sc hands records r n is = record { at = is.at; early = up is.at n is.early; given = is.given; frame = is.frame; lower = is.lower; ends = is.ends }
+given-later : {sc hands records r n : _} → IsGivenAt sc hands records r n → IsGivenAt sc hands records r (suc n)
+given-later {n} is = record { at = is.at; early = up is.at n is.early; given = is.given; frame = is.frame; lower = is.lower; ends = is.ends }
   where
     up : (a n : ℕ) → a ≤ n → a ≤ suc n
     up a n h = omega (arith, h)
@@ -155,7 +155,7 @@ pub given-at : (sc : Scenario) (hands : List HandIn) (records rest : List Record
 given-at sc hands records rest r zero are =
     elim (first-adds sc hands) [
       | inl none ↦ absurd (empty records rest (sym none ∙ are))
-      | inr one ↦ added-at sc hands records rest fresh_book r one.0 0 0 (omega arith) one.1 are (λ more e. absurd (empty records more e))
+      | inr one ↦ added-at hands records rest r 0 0 (omega arith) one.1 are (λ more e. absurd (empty records more e))
     ]
   where
     empty : (ys zs : List Record) → [] ≡ ys ++ r ∷ zs → ⊥
@@ -163,10 +163,10 @@ given-at sc hands records rest r zero are =
     empty (y ∷ ys) zs e = cc
 given-at sc hands records rest r (suc n) are =
     elim (step-adds sc hands (moment sc hands n)) [
-      | inl same ↦ given-later sc hands records r n (given-at sc hands records rest r n (sym same ∙ are))
+      | inl same ↦ given-later (given-at sc hands records rest r n (sym same ∙ are))
       | inr one ↦
-          added-at sc hands records rest (moment sc hands n).book r one.0 (suc n) (suc n) (omega arith) one.1 are
-          (λ more e. given-later sc hands records r n (given-at sc hands records more r n e))
+          added-at hands records rest r (suc n) (suc n) (omega arith) one.1 are
+          (λ more e. given-later (given-at sc hands records more r n e))
     ]
 
 -- All records are told in order.

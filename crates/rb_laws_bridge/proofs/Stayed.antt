@@ -59,9 +59,9 @@ all-steps sc frame n late few =
 
 -- The moment of the last record is one of both runs.
 
-last-stays : (sc : Scenario) (hands more : List HandIn) (before : List Record) (r : Record) (frame : ℕ) → AreLater frame more
+last-stays : {sc hands : _} (more : List HandIn) {before r frame : _} → AreLater frame more
     → IsGivenAt sc hands before r (steps_of sc) → frame_told sc.frames r ≤ frame → AreFirstOf (before ++ r ∷ []) (records_of sc (hands ++ more))
-last-stays sc hands more before r frame late g upto = record {
+last-stays {sc} {hands} more {before} {r} {frame} late g upto = record {
   first = subst (λ records. IsPrefix records (records_of sc (hands ++ more))) given (given-are sc (hands ++ more) g.at x.book refl g.early);
   whole = λ others s are ends.
       let last : ends_run r ≡ true = ap ends_run (same-last before others r s are) ∙ ends in
@@ -87,9 +87,9 @@ last-stays sc hands more before r frame late g upto = record {
     given : x.book.given ≡ before ++ r ∷ []
     given = ap (λ (m : Moment). m.book.given) same ∙ g.given
 
-pub records-stay : (sc : Scenario) (hands more : List HandIn) (records : List Record) (frame : ℕ) → AreLater frame more
+pub records-stay : (sc : Scenario) (hands more : List HandIn) {records frame : _} → AreLater frame more
     → IsPrefix records (records_of sc hands) → AreUpTo sc.frames frame records → AreFirstOf records (records_of sc (hands ++ more))
-records-stay sc hands more records frame late first upto =
+records-stay sc hands more {records} late first upto =
     elim (last-of records) [
       | inl none ↦ record {
         first = subst (λ rs. IsPrefix rs (records_of sc (hands ++ more))) (sym none) (records_of sc (hands ++ more), refl);
@@ -100,19 +100,19 @@ records-stay sc hands more records frame late first upto =
           let r : Record = some.1.0 in
           let are : records_of sc hands ≡ before ++ r ∷ first.0 = first.1 ∙ ap (λ l. l ++ first.0) some.1.1 ∙ append_assoc before (r ∷ []) first.0 in
           subst (λ rs. AreFirstOf rs (records_of sc (hands ++ more))) (sym some.1.1)
-          (last-stays sc hands more before r frame late (given-at sc hands before first.0 r (steps_of sc) (sym (records-are sc hands) ∙ are)) (upto before [] r some.1.1))
+          (last-stays more late (given-at sc hands before first.0 r (steps_of sc) (sym (records-are sc hands) ∙ are)) (upto before [] r some.1.1))
     ]
 
 pub earlier-stay : EarlierRecordsStay
-earlier-stay sc hands more records frame late first upto = records-stay sc hands more records frame (are-later frame more late) first upto
+earlier-stay sc hands more records frame late first upto = records-stay sc hands more (are-later frame more late) first upto
 
 -- The first records of a bus of a bridge, up to a frame, are those with what was handed in up to
 -- its start.
-pub first-crossed : (b : Bridge) (bank : Bank) (frame : ℕ) (records : List Record) → frame ≤ b.left.frames → IsPrefix records (records_on b (hands_up_to b frame) bank)
+pub first-crossed : (b : Bridge) (bank : Bank) {frame records : _} → frame ≤ b.left.frames → IsPrefix records (records_on b (hands_up_to b frame) bank)
     → AreUpTo (bus_on b bank).frames frame records → AreFirstOf records (records_on b (hands_of b) bank)
-first-crossed b bank frame records le first upto =
+first-crossed b bank {frame} {records} le first upto =
     let all : frame + (b.left.frames - frame) ≡ b.left.frames = add-sub_of_le le in
     let m : MoreLater b bank frame (b.left.frames - frame) = more-later b bank frame (b.left.frames - frame) in
     let before : List HandIn = hands_on bank (hands_up_to b frame) in
     let are : hands_on bank (hands_of b) ≡ before ++ m.more = ap (λ n. hands_on bank (hands_up_to b n)) (sym all) ∙ m.is in
-    subst (λ hands. AreFirstOf records (records_of (bus_on b bank) hands)) (sym are) (records-stay (bus_on b bank) before m.more records frame m.late first upto)
+    subst (λ hands. AreFirstOf records (records_of (bus_on b bank) hands)) (sym are) (records-stay (bus_on b bank) before m.more m.late first upto)

@@ -107,13 +107,13 @@ completed sc frame slot = frame * (windows_in sc.sizes + 1) + 3 * slot + 3
 abbrev pub AddsNoValue : Scenario → ℕ → ℕ → ℕ → ℕ → Type 0
 AddsNoValue sc frame slot i p = suc p ≡ completed sc frame slot → is_good sc Biu i frame slot ≡ false
 
-still-step : (sc : Scenario) (hands : List HandIn) → IsLawful sc → (frame slot i p : ℕ) → AddsNoValue sc frame slot i p
+still-step : {sc : _} (hands : List HandIn) → IsLawful sc → (frame slot i : ℕ) {p : ℕ} → AddsNoValue sc frame slot i p
     → value_by sc hands frame slot i (suc p) ≡ value_by sc hands frame slot i p
-still-step sc hands law frame slot i p adds_none =
+still-step {sc} hands law frame slot i {p} adds_none =
     elim (step-tells sc hands (moment sc hands p) frame) [
       | inl none ↦ ap (value_in slot) (none i)
       | inr adds ↦
-          let s : IsServed sc hands p = served sc hands law p adds in
+          let s : IsServed sc hands p = served hands law p adds in
           ap (λ given. value_in slot (port_deliveries frame i given)) s.given
           ∙ ap (value_in slot) (told-more frame i (moment sc hands p).book.given _)
           ∙ value_in-append slot (told_in frame i (moment sc hands p).book) _
@@ -137,25 +137,25 @@ still-step sc hands law frame slot i p adds_none =
         ∙ ap (λ s. value_in slot (deliveries_in frame s i (lines_in sc frame s owner value))) same_slot
         ∙ ap (value_in slot) (no-line-in sc frame slot owner value i (faulty same_frame same_slot))
 
-still-steps : (sc : Scenario) (hands : List HandIn) → IsLawful sc → (frame slot i p k : ℕ) → ((q : ℕ) → p ≤ q → q < p + k → AddsNoValue sc frame slot i q)
+still-steps : {sc : _} (hands : List HandIn) → IsLawful sc → (frame slot i p k : ℕ) → ((q : ℕ) → p ≤ q → q < p + k → AddsNoValue sc frame slot i q)
     → value_by sc hands frame slot i (p + k) ≡ value_by sc hands frame slot i p
-still-steps sc hands law frame slot i p zero adds_none = ap (value_by sc hands frame slot i) (same p)
+still-steps {sc} hands law frame slot i p zero adds_none = ap (value_by sc hands frame slot i) (same p)
   where
     same : (p : ℕ) → p + 0 ≡ p
     same p = omega arith
-still-steps sc hands law frame slot i p (suc k) adds_none =
+still-steps {sc} hands law frame slot i p (suc k) adds_none =
     ap (value_by sc hands frame slot i) (same p k)
-    ∙ still-step sc hands law frame slot i (p + k) (adds_none (p + k) (omega arith) (omega arith))
-    ∙ still-steps sc hands law frame slot i p k (λ q low high. adds_none q low (omega (arith, high)))
+    ∙ still-step hands law frame slot i (adds_none (p + k) (omega arith) (omega arith))
+    ∙ still-steps hands law frame slot i p k (λ q low high. adds_none q low (omega (arith, high)))
   where
     same : (p k : ℕ) → p + suc k ≡ suc (p + k)
     same p k = omega arith
 
 -- a slot has no value at a BIU as long as no moment adds one
-none-before : (sc : Scenario) (hands : List HandIn) → IsLawful sc → (frame slot i n : ℕ) → ((q : ℕ) → q < n → AddsNoValue sc frame slot i q)
+none-before : {sc : _} (hands : List HandIn) → IsLawful sc → (frame slot i n : ℕ) → ((q : ℕ) → q < n → AddsNoValue sc frame slot i q)
     → value_by sc hands frame slot i n ≡ None
-none-before sc hands law frame slot i n adds_none =
-    ap (value_by sc hands frame slot i) (from_zero n) ∙ still-steps sc hands law frame slot i 0 n (λ q low high. adds_none q (omega (arith, high)))
+none-before {sc} hands law frame slot i n adds_none =
+    ap (value_by sc hands frame slot i) (from_zero n) ∙ still-steps hands law frame slot i 0 n (λ q low high. adds_none q (omega (arith, high)))
     ∙ ap (value_in slot) (first-told sc hands frame i)
   where
     from_zero : (n : ℕ) → n ≡ 0 + n
@@ -164,7 +164,7 @@ none-before sc hands law frame slot i n adds_none =
 pub others-tell-nothing : OtherBiusTellNothing
 others-tell-nothing sc hands law frame slot i faulty =
     ap (λ given. value_in slot (port_deliveries frame i given)) (records-are sc hands)
-    ∙ none-before sc hands law frame slot i (steps_of sc) (λ q early is. faulty)
+    ∙ none-before hands law frame slot i (steps_of sc) (λ q early is. faulty)
 
 -- The slot.
 
@@ -177,26 +177,26 @@ record IsTold (sc : Scenario) (hands : List HandIn) (frame slot : ℕ) : Type 0 
   pub adds : (i : ℕ) → told_in frame i (moment sc hands (completed sc frame slot)).book
       ≡ told_in frame i (before_stage sc hands frame slot 3).book ++ deliveries_in frame slot i (lines_in sc frame slot owner value)
 
-is-told : (sc : Scenario) (hands : List HandIn) → IsLawful sc → (frame slot : ℕ) → slot < sync_slot_of sc.sizes → IsComplete sc hands frame slot → IsTold sc hands frame slot
-is-told sc hands law frame slot below complete =
-    let r : IsSlot sc hands frame slot = slot_runs sc hands law frame slot below complete in
+is-told : {sc hands : _} → IsLawful sc → {frame slot : ℕ} → slot < sync_slot_of sc.sizes → IsComplete sc hands frame slot → IsTold sc hands frame slot
+is-told {sc} {hands} law {frame} {slot} below complete =
+    let r : IsSlot sc hands frame slot = slot_runs law below complete in
     let m3 : Moment = next sc (next sc (before_slot sc hands frame slot)) in
     let owner : Option ℕ = owner_sending (role_of sc.sizes slot) (sender_of sc.sizes r.shared slot) in
-    let lines : m3.book.lines ≡ lines_in sc frame slot owner (value_of_slot sc hands frame slot r) = slot-lines sc hands frame slot r in
+    let lines : m3.book.lines ≡ lines_in sc frame slot owner (value_of_slot r) = slot-lines r in
     record {
       owner = owner;
-      value = value_of_slot sc hands frame slot r;
+      value = value_of_slot r;
       carried = (voted sc hands (suc (suc r.steps)) m3 r.shared slot r.third).is_value.carried;
       delivered = ap (λ m. value_in_lines m.book.lines) (sym r.after_second) ∙ ap value_in_lines lines;
       adds = λ i.
           ap (λ n. told_in frame i (moment sc hands n).book) (last (frame * (windows_in sc.sizes + 1)) slot)
           ∙ ap (λ m. told_in frame i m.book) (sym r.after_third)
-          ∙ ap (port_deliveries frame i) (given_after sc hands (suc (suc r.steps)) m3 r.shared slot r.third)
+          ∙ ap (port_deliveries frame i) (given_after r.third)
           ∙ told-more frame i m3.book.given _
-          ∙ ap (λ f. told_in frame i m3.book ++ told_of frame i (Slot f slot m3.book.lines)) (third_frame sc hands frame slot r)
+          ∙ ap (λ f. told_in frame i m3.book ++ told_of frame i (Slot f slot m3.book.lines)) (third_frame r)
           ∙ ap (λ b. told_in frame i m3.book ++ (if b then deliveries_in frame slot i m3.book.lines else [])) (eq_self frame)
           ∙ ap (λ l. told_in frame i m3.book ++ deliveries_in frame slot i l) lines
-          ∙ ap (λ m. told_in frame i m.book ++ deliveries_in frame slot i (lines_in sc frame slot owner (value_of_slot sc hands frame slot r))) r.after_second;
+          ∙ ap (λ m. told_in frame i m.book ++ deliveries_in frame slot i (lines_in sc frame slot owner (value_of_slot r))) r.after_second;
     }
   where
     last : (a slot : ℕ) → a + 3 * slot + 3 ≡ a + 3 * slot + 4 - 1
@@ -205,18 +205,18 @@ is-told sc hands law frame slot below complete =
 pub good-tell : GoodBiusTellTheBus
 good-tell sc hands law frame slot below complete i good =
     let a : ℕ = frame * (windows_in sc.sizes + 1) in
-    let t : IsTold sc hands frame slot = is-told sc hands law frame slot below complete in
+    let t : IsTold sc hands frame slot = is-told law below complete in
     let early : completed sc frame slot ≤ steps_of sc =
-    is-early sc hands law (completed sc frame slot) (ap (λ n. (moment sc hands n).book.ended) (last a slot) ∙ complete) in
+    is-early hands law (completed sc frame slot) (ap (λ n. (moment sc hands n).book.ended) (last a slot) ∙ complete) in
     let is : completed sc frame slot + (steps_of sc - completed sc frame slot) ≡ steps_of sc = add-sub_of_le early in
     ap (λ given. value_in slot (port_deliveries frame i given)) (records-are sc hands)
     ∙ ap (value_by sc hands frame slot i) (sym is)
-    ∙ still-steps sc hands law frame slot i (completed sc frame slot) (steps_of sc - completed sc frame slot)
+    ∙ still-steps hands law frame slot i (completed sc frame slot) (steps_of sc - completed sc frame slot)
     (λ q low high at. absurd (omega (arith, low, at)))
     ∙ ap (value_in slot) (t.adds i)
     ∙ value_in-append slot (told_in frame i (before_stage sc hands frame slot 3).book) (deliveries_in frame slot i (lines_in sc frame slot t.owner t.value))
     ∙ ap (λ o. option_or o (value_in slot (deliveries_in frame slot i (lines_in sc frame slot t.owner t.value))))
-    (none-before sc hands law frame slot i (a + 3 * slot + 3 - 1) (λ q less at. absurd (omega (arith, less, at))))
+    (none-before hands law frame slot i (a + 3 * slot + 3 - 1) (λ q less at. absurd (omega (arith, less, at))))
     ∙ line-told sc frame slot t.owner t.value i good ∙ sym t.delivered
   where
     last : (a slot : ℕ) → a + 3 * slot + 3 ≡ a + 3 * slot + 4 - 1
@@ -236,8 +236,8 @@ fits-in : (sc : Scenario) (frame slot : ℕ) (owner : Option ℕ) (value : Heard
 fits-in sc frame slot None value carried = omega arith
 fits-in sc frame slot (Some owner) value carried = fits-lines value owner carried (filter (λ i. is_good sc Biu i frame slot) (numbers sc.sizes.bius))
 
-pub word-fits : (sc : Scenario) (hands : List HandIn) → IsLawful sc → (frame slot : ℕ) → slot < sync_slot_of sc.sizes → IsComplete sc hands frame slot
+pub word-fits : {sc : _} (hands : List HandIn) → IsLawful sc → (frame : ℕ) {slot : ℕ} → slot < sync_slot_of sc.sizes → IsComplete sc hands frame slot
     → word_of (delivered_in sc hands frame slot) < 2 ^ 32
-word-fits sc hands law frame slot below complete =
-    let t : IsTold sc hands frame slot = is-told sc hands law frame slot below complete in
+word-fits {sc} hands law frame {slot} below complete =
+    let t : IsTold sc hands frame slot = is-told law below complete in
     subst (λ o. word_of o < 2 ^ 32) (sym t.delivered) (fits-in sc frame slot t.owner t.value t.carried)

@@ -82,9 +82,9 @@ settled-alone sc sites b (Stage place) shape going h = by (book_with sc sites b 
 settled-alone sc sites b End shape going h = inl (ended-end b)
 
 -- no node is beyond the start of a frame at which nobody is good
-near-alone : (sc : Scenario) (hands : List HandIn) (at : Side → ℕ → ℕ) (sites : Each Site) (frame : ℕ) → IsShape sc.sizes → nobody_good sc frame 0 ≡ true → AllTold sc hands at sites
+near-alone : {sc : Scenario} {hands : List HandIn} {at : Side → ℕ → ℕ} {sites : Each Site} (frame : ℕ) → IsShape sc.sizes → nobody_good sc frame 0 ≡ true → AllTold sc hands at sites
     → (me : Side) (i : ℕ) (s : Site) → slice_get (of_kind me sites) i ≡ Some s → at me i ≤ frame * (windows_in sc.sizes + 1) + 1
-near-alone sc hands at sites frame shape h told me i s there =
+near-alone {sc} {hands} {at} frame shape h told me i s there =
     let b : ℕ = frame * (windows_in sc.sizes + 1) in
     elim (cases_lt b (at me i)) [
       | inr le ↦ omega (arith, le)
@@ -98,25 +98,25 @@ near-alone sc hands at sites frame shape h told me i s there =
     ]
 
 -- the record of what is settled by itself
-turn-alone : (sc : Scenario) (hands : List HandIn) (at : Side → ℕ → ℕ) (w : World) (m : Milestone) (frame : ℕ) → IsShape sc.sizes → w.book.ended ≡ false → needs_no_event sc m ≡ true
+turn-alone : {sc : Scenario} {hands : List HandIn} {at : Side → ℕ → ℕ} (w : World) (m : Milestone) {frame : ℕ} → IsShape sc.sizes → w.book.ended ≡ false → needs_no_event sc m ≡ true
     → AllTold sc hands at w.sites → frame_in (record_since w (next_world sc w m)) ≡ Some frame → AfterRecord sc at (next_world sc w m) frame
-turn-alone sc hands at w (Begin its) frame shape going h told e =
+turn-alone {sc} {at} w (Begin its) {frame} shape going h told e =
     let given : FrameGiven sc its _ w.book (next_world sc w (Begin its)).book = frame-given sc its _ w.book going in
-    let same : frame ≡ its = frame-record its frame _ w.book.given (sym (ap (λ given. frame_in (slice_get given (length w.book.given))) given.given) ∙ e) in
+    let same : frame ≡ its = frame-record its _ w.book.given (sym (ap (λ given. frame_in (slice_get given (length w.book.given))) given.given) ∙ e) in
     subst (AfterRecord sc at (next_world sc w (Begin its))) (sym same) (record {
       begun = λ me i s there good. true-false (sym good ∙ nobody-each sc its 0 shape h me i);
-      near = near-alone sc hands at w.sites its shape h told;
+      near = near-alone its shape h told;
       going = given.going;
       next = given.next;
     })
-turn-alone sc hands at w (Stage place) frame shape going h told e = none-turn frame (sym (stage-silent sc place _ w.book) ∙ e)
-turn-alone sc hands at w End frame shape going h told e =
-    none-turn frame (sym (ap frame_in (ap (λ b. slice_get (elim b as (λ _. Book) [ true ↦ w.book | false ↦ record w.book { given = w.book.given ++ Ended ∷ []; ended = true } ]).given (length w.book.given)) going
-    ∙ last-one w.book.given _ Ended refl)) ∙ e)
+turn-alone {sc} w (Stage place) shape going h told e = none-turn (sym (stage-silent sc place _ w.book) ∙ e)
+turn-alone w End shape going h told e =
+    none-turn (sym (ap frame_in (ap (λ b. slice_get (elim b as (λ _. Book) [ true ↦ w.book | false ↦ record w.book { given = w.book.given ++ Ended ∷ []; ended = true } ]).given (length w.book.given)) going
+    ∙ last-one w.book.given Ended refl)) ∙ e)
 
-alone-settled : (sc : Scenario) (hands : List HandIn) (at : Side → ℕ → ℕ) (n : ℕ) (w : World) → IsShape sc.sizes → AllTold sc hands at w.sites → IsAlone sc w.book → Settled sc at (settle sc ByItself n w)
-alone-settled sc hands at zero w shape told alone = still-settled sc at w (alone-waits sc w alone)
-alone-settled sc hands at (suc n) w shape told alone = by (λ a. alone-settled sc hands at n (next_world sc w w.book.upcoming) shape told a) w.book.ended refl alone
+alone-settled : {sc : Scenario} {hands : List HandIn} {at : Side → ℕ → ℕ} (n : ℕ) (w : World) → IsShape sc.sizes → AllTold sc hands at w.sites → IsAlone sc w.book → Settled sc at (settle sc ByItself n w)
+alone-settled {sc} {at} zero w shape told alone = still-settled at w (alone-waits sc w alone)
+alone-settled {sc} {at} (suc n) w shape told alone = by (λ a. alone-settled n (next_world sc w w.book.upcoming) shape told a) w.book.ended refl alone
   where
     y : World
     y = next_world sc w w.book.upcoming
@@ -126,7 +126,7 @@ alone-settled sc hands at (suc n) w shape told alone = by (λ a. alone-settled s
     after rest (Some r) e going h = record {
       waits = alone-waits sc y (settled-alone sc w.sites w.book w.book.upcoming shape going h);
       turn = λ frame f.
-          let a : AfterRecord sc at y frame = turn-alone sc hands at w w.book.upcoming frame shape going h told (ap frame_in e ∙ f) in
+          let a : AfterRecord sc at y frame = turn-alone w w.book.upcoming shape going h told (ap frame_in e ∙ f) in
           record { begun = a.begun; near = a.near; going = a.going; next = a.next };
     }
 
@@ -134,20 +134,20 @@ alone-settled sc hands at (suc n) w shape told alone = by (λ a. alone-settled s
         → Settled sc at (settle sc ByItself (suc n) w)
     test rest false e going h =
         let still : settle_next sc ByItself w ≡ w = ap (λ b. elim b as (λ _. World) [ true ↦ y | false ↦ w ]) e in
-        subst (Settled sc at) (sym (settle-still sc ByItself (suc n) w still)) (still-settled sc at w (alone-waits sc w (inr h)))
+        subst (Settled sc at) (sym (settle-still sc ByItself (suc n) still)) (still-settled at w (alone-waits sc w (inr h)))
     test rest true e going h =
         let next : settle_next sc ByItself w ≡ y = ap (λ b. elim b as (λ _. World) [ true ↦ y | false ↦ w ]) e in
         subst (Settled sc at) (sym (ap (λ next. settle_rest sc ByItself n next (record_since w next)) next)) (after rest (record_since w y) refl going h)
 
     by : (IsAlone sc y.book → Settled sc at (settle sc ByItself n y)) → (b : Bool) → w.book.ended ≡ b → IsAlone sc w.book → Settled sc at (settle sc ByItself (suc n) w)
-    by rest true e alone = subst (Settled sc at) (sym (settle-still sc ByItself (suc n) w (ended-still sc ByItself w e))) (still-settled sc at w (alone-waits sc w (inl e)))
+    by rest true e alone = subst (Settled sc at) (sym (settle-still sc ByItself (suc n) (ended-still sc ByItself w e))) (still-settled at w (alone-waits sc w (inl e)))
     by rest false e (inl over) = true-false (sym over ∙ e)
     by rest false e (inr h) = test rest (comes_so sc ByItself w.book.upcoming && is_complete sc w.sites w.book.upcoming) refl e h
 
 -- what is given without an event
-pub go-on-settled : (sc : Scenario) (hands : List HandIn) (at : Side → ℕ → ℕ) (n : ℕ) (w : World) → IsShape sc.sizes → AllTold sc hands at w.sites → Waits sc w
+pub go-on-settled : {sc : Scenario} {hands : List HandIn} {at : Side → ℕ → ℕ} (n : ℕ) (w : World) → IsShape sc.sizes → AllTold sc hands at w.sites → Waits sc w
     → Settled sc at (settle sc ByItself n w)
-go-on-settled sc hands at n w shape told waits = by (needs_no_event sc w.book.upcoming) refl
+go-on-settled {sc} {at} n w shape told waits = by (needs_no_event sc w.book.upcoming) refl
   where
     of : (m : Milestone) → needs_no_event sc m ≡ false → comes_so sc ByItself m ≡ false
     of (Begin frame) h = h
@@ -155,8 +155,8 @@ go-on-settled sc hands at n w shape told waits = by (needs_no_event sc w.book.up
     of End h = h
 
     by : (b : Bool) → needs_no_event sc w.book.upcoming ≡ b → Settled sc at (settle sc ByItself n w)
-    by true e = alone-settled sc hands at n w shape told (inr e)
+    by true e = alone-settled n w shape told (inr e)
     by false e =
         let still : settle_next sc ByItself w ≡ w =
         ap (λ b. elim (b && is_complete sc w.sites w.book.upcoming) as (λ _. World) [ true ↦ next_world sc w w.book.upcoming | false ↦ w ]) (of w.book.upcoming e) in
-        subst (Settled sc at) (sym (settle-still sc ByItself n w still)) (still-settled sc at w waits)
+        subst (Settled sc at) (sym (settle-still sc ByItself n still)) (still-settled at w waits)

@@ -29,9 +29,9 @@ pub record WaitsAt (sc : Scenario) (hands : List HandIn) (at : Side → ℕ → 
   pub from : (n ≡ 0) ⊎ ((g : ℕ) × (IsRunning (moment sc hands g) × ((n ≡ next_stage sc.sizes (moment sc hands g) g) × (b ≡ (moment sc hands g).book))))
 
 -- a node that is good where it stands runs
-pub runs-there : (sc : Scenario) (hands : List HandIn) (now : ℕ) (at : Side → ℕ → ℕ) (sites : Each Site) → SitesStand sc hands now at sites → (me : Side) (i : ℕ) (s : Site)
+pub runs-there : {sc : Scenario} {hands : List HandIn} {now : ℕ} {at : Side → ℕ → ℕ} {sites : Each Site} → SitesStand sc hands now at sites → (me : Side) (i : ℕ) {s : Site}
     → slice_get (of_kind me sites) i ≡ Some s → is_good_at sc (moment sc hands (at me i)) me i ≡ true → s.runs ≡ true
-runs-there sc hands now at sites h me i s there good = by s.runs refl
+runs-there {sc} {hands} {at} h me i {s} there good = by s.runs refl
   where
     by : (b : Bool) → s.runs ≡ b → b ≡ true
     by true e = refl
@@ -39,10 +39,10 @@ runs-there sc hands now at sites h me i s there good = by s.runs refl
 
 -- Begins.
 
-begin-waits : (sc : Scenario) (hands : List HandIn) (now : ℕ) (at : Side → ℕ → ℕ) (sites : Each Site) (frame n : ℕ) → SitesStand sc hands now at sites → AllHaveTold sc hands at sites
+begin-waits : {sc : Scenario} {hands : List HandIn} {now : ℕ} {at : Side → ℕ → ℕ} {sites : Each Site} {frame : ℕ} (n : ℕ) → SitesStand sc hands now at sites → AllHaveTold sc hands at sites
     → (moment sc hands n).frame ≡ frame → (moment sc hands n).window ≡ 0 → ((me : Side) (i : ℕ) (s : Site) → slice_get (of_kind me sites) i ≡ Some s → at me i ≤ n)
     → is_complete sc sites (Begin frame) ≡ false → IsBehind sc hands at sites n
-begin-waits sc hands now at sites frame n stand told in_frame first bound open_still =
+begin-waits {sc} {hands} {at} {sites} {frame} n stand told in_frame first bound open_still =
     let found : HasNotTold sc frame 0 (λ s. begun_for frame s.begun) sites = not-told sc frame 0 (λ (s : Site). begun_for frame s.begun) sites open_still in
     let me : Side = found.me in
     let i : ℕ = found.i in
@@ -52,7 +52,7 @@ begin-waits sc hands now at sites frame n stand told in_frame first bound open_s
     ap (λ f. is_good sc me i f (slot_numbered sc.sizes (moment sc hands n).window)) in_frame
     ∙ ap (λ w. is_good sc me i frame (slot_numbered sc.sizes w)) first ∙ ap (is_good sc me i frame) zero_slot ∙ found.good in
     let le : at me i ≤ n = bound me i s found.there in
-    let runs : s.runs ≡ true = runs-there sc hands now at sites stand me i s found.there (good-back sc hands (at me i) n me i le good) in
+    let runs : s.runs ≡ true = runs-there stand me i found.there (good-back sc hands (at me i) n me i le good) in
     elim (cases_lt (at me i) n) [
       | inl lt ↦ record { me = me; i = i; s = s; there = found.there; runs = runs; place = inl lt }
       | inr ge ↦
@@ -69,8 +69,8 @@ begin-waits sc hands now at sites frame n stand told in_frame first bound open_s
     ]
 
 -- the moment with which a frame begins
-pub begins-at : (sc : Scenario) (hands : List HandIn) (n frame : ℕ) → n ≡ frame * (windows_in sc.sizes + 1) → ((moment sc hands n).frame ≡ frame) × ((moment sc hands n).window ≡ 0)
-begins-at sc hands n frame e =
+pub begins-at : (sc : Scenario) (hands : List HandIn) {n : ℕ} (frame : ℕ) → n ≡ frame * (windows_in sc.sizes + 1) → ((moment sc hands n).frame ≡ frame) × ((moment sc hands n).window ≡ 0)
+begins-at sc hands {n} frame e =
     let number = number-of sc hands n in
     let sum : (moment sc hands n).frame * (windows_in sc.sizes + 1) + (moment sc hands n).window ≡ frame * (windows_in sc.sizes + 1) + 0 = omega (arith, number.0, e) in
     one-begin (windows_in sc.sizes + 1) (moment sc hands n).frame (moment sc hands n).window frame sum (omega (arith, number.1)) (omega arith)
@@ -99,11 +99,11 @@ begins-at sc hands n frame e =
 pub place-same : (p : Place) → same_place p p ≡ true
 place-same p = rw (eq-eqb p.frame p.frame refl, eq-eqb p.slot p.slot refl, eq-eqb p.stage p.stage refl) refl
 
-stage-waits : (sc : Scenario) (hands : List HandIn) (now : ℕ) (at : Side → ℕ → ℕ) (sites : Each Site) (g : ℕ) → SitesStand sc hands now at sites → AllHaveTold sc hands at sites
+stage-waits : {sc : Scenario} {hands : List HandIn} {now : ℕ} {at : Side → ℕ → ℕ} {sites : Each Site} (g : ℕ) → SitesStand sc hands now at sites → AllHaveTold sc hands at sites
     → (moment sc hands g).window < stages_in sc.sizes
     → ((me : Side) (i : ℕ) (s : Site) → slice_get (of_kind me sites) i ≡ Some s → at me i ≤ next_stage sc.sizes (moment sc hands g) g)
     → is_complete sc sites (Stage (place_at sc.sizes (moment sc hands g))) ≡ false → IsBehind sc hands at sites (next_stage sc.sizes (moment sc hands g) g)
-stage-waits sc hands now at sites g stand told stage bound open_still =
+stage-waits {sc} {hands} {at} {sites} g stand told stage bound open_still =
     let m : Moment = moment sc hands g in
     let place : Place = place_at sc.sizes m in
     let next : NextIsStage sc hands g = next-is-stage sc hands g (omega arith) in
@@ -122,7 +122,7 @@ stage-waits sc hands now at sites g stand told stage bound open_still =
           ∙ ap (λ t. is_some (elim t as (λ _. Option Row) [ true ↦ Some row.0 | false ↦ None ])) (place-same place) in
           absurd (true≢false (sym some ∙ found.untold))
     ] in
-    let runs : s.runs ≡ true = runs-there sc hands now at sites stand me i s found.there (good-back sc hands (at me i) g me i le found.good) in
+    let runs : s.runs ≡ true = runs-there stand me i found.there (good-back sc hands (at me i) g me i le found.good) in
     record { me = me; i = i; s = s; there = found.there; runs = runs; place = inl (omega arith) }
 
 -- what comes after a moment's stage has the number of the next stage
@@ -156,9 +156,9 @@ pub settled-next : (sc : Scenario) (hands : List HandIn) (g : ℕ) → IsRunning
 unfolding SettlesNext
 settled-next sc hands g running = settles-next sc hands g running
 
-of-moment : (sc : Scenario) (hands : List HandIn) (now : ℕ) (at : Side → ℕ → ℕ) (sites : Each Site) (b : Book) (g : ℕ) → SitesStand sc hands now at sites → AllHaveTold sc hands at sites
+of-moment : {sc hands now at sites b : _} (g : ℕ) → SitesStand sc hands now at sites → AllHaveTold sc hands at sites
     → Paced sc at sites b → b.ended ≡ false → needs_no_event sc b.upcoming ≡ false → b ≡ (moment sc hands g).book → (n : ℕ) × WaitsAt sc hands at sites b n
-of-moment sc hands now at sites b g stand told paced going needs is =
+of-moment {sc} {hands} {at} {sites} {b} g stand told paced going needs is =
     let m : Moment = moment sc hands g in
     let number = number-of sc hands g in
     let running : IsRunning m = sym (ap (λ (b : Book). b.ended) is) ∙ going in
@@ -180,7 +180,7 @@ of-moment sc hands now at sites b g stand told paced going needs is =
                 λ me i s there.
                 subst (λ k. at me i ≤ k) (after-number sc hands g stage e) (subst (λ m. IsWithin sc.sizes m (at me i)) at_stage (paced.bound going me i s there)) in
                 let open_still : is_complete sc sites (Stage (place_at sc.sizes m)) ≡ false = subst (λ m. is_complete sc sites m ≡ false) at_stage (paced.waits going needs) in
-                (n, record { stage = next.window; bound = bound; within = λ p le. subst (λ m. IsWithin sc.sizes m p) (sym at_stage) (subst (λ k. p ≤ k) (sym (after-number sc hands g stage e)) le); behind = stage-waits sc hands now at sites g stand told stage bound open_still; from = inr (g, (running, (refl, is))) })
+                (n, record { stage = next.window; bound = bound; within = λ p le. subst (λ m. IsWithin sc.sizes m p) (sym at_stage) (subst (λ k. p ≤ k) (sym (after-number sc hands g stage e)) le); behind = stage-waits g stand told stage bound open_still; from = inr (g, (running, (refl, is))) })
           ] in
           by (m.frame == sc.frames) refl
       | inr over ↦
@@ -189,26 +189,26 @@ of-moment sc hands now at sites b g stand told paced going needs is =
           let n_is : n ≡ (m.frame + 1) * (windows_in sc.sizes + 1) = omega (arith, is_next, number.0, number.1, more) in
           let begin : b.upcoming ≡ Begin (m.frame + 1) =
           up ∙ ap (λ b. if b then (if m.frame == sc.frames then End else Stage (place_at sc.sizes m)) else Begin (m.frame + 1)) (le-ltb m.window (stages_in sc.sizes) over) in
-          let places = begins-at sc hands n (m.frame + 1) n_is in
+          let places = begins-at sc hands (m.frame + 1) n_is in
           let bound : (me : Side) (i : ℕ) (s : Site) → slice_get (of_kind me sites) i ≡ Some s → at me i ≤ n =
           λ me i s there. subst (λ k. at me i ≤ k) (sym n_is) (subst (λ m. IsWithin sc.sizes m (at me i)) begin (paced.bound going me i s there)) in
           let open_still : is_complete sc sites (Begin (m.frame + 1)) ≡ false = subst (λ m. is_complete sc sites m ≡ false) begin (paced.waits going needs) in
           let first : (moment sc hands n).window ≡ 0 = places.1 in
-          (n, record { stage = omega arith; bound = bound; within = λ p le. subst (λ m. IsWithin sc.sizes m p) (sym begin) (subst (λ k. p ≤ k) n_is le); behind = begin-waits sc hands now at sites (m.frame + 1) n stand told places.0 places.1 bound open_still; from = inr (g, (running, (refl, is))) })
+          (n, record { stage = omega arith; bound = bound; within = λ p le. subst (λ m. IsWithin sc.sizes m p) (sym begin) (subst (λ k. p ≤ k) n_is le); behind = begin-waits n stand told places.0 places.1 bound open_still; from = inr (g, (running, (refl, is))) })
     ]
 
-pub waits-at : (sc : Scenario) (hands : List HandIn) (now : ℕ) (at : Side → ℕ → ℕ) (sites : Each Site) (b : Book) → SitesStand sc hands now at sites → AllHaveTold sc hands at sites
+pub waits-at : {sc hands now at sites b : _} → SitesStand sc hands now at sites → AllHaveTold sc hands at sites
     → Paced sc at sites b → b.ended ≡ false → needs_no_event sc b.upcoming ≡ false → IsOfMoment sc hands b → (n : ℕ) × WaitsAt sc hands at sites b n
-waits-at sc hands now at sites b stand told paced going needs (inr of) = of-moment sc hands now at sites b of.0 stand told paced going needs of.1
-waits-at sc hands now at sites b stand told paced going needs (inl fresh) =
+waits-at stand told paced going needs (inr of) = of-moment of.0 stand told paced going needs of.1
+waits-at {sc} {hands} {at} {sites} {b} stand told paced going needs (inl fresh) =
     let begin : b.upcoming ≡ Begin 0 = ap (λ (b : Book). b.upcoming) fresh in
     let none : 0 ≡ 0 * (windows_in sc.sizes + 1) = omega arith in
-    let places = begins-at sc hands 0 0 none in
+    let places = begins-at sc hands 0 none in
     let bound : (me : Side) (i : ℕ) (s : Site) → slice_get (of_kind me sites) i ≡ Some s → at me i ≤ 0 =
     λ me i s there. subst (λ k. at me i ≤ k) (sym none) (subst (λ m. IsWithin sc.sizes m (at me i)) begin (paced.bound going me i s there)) in
     let first : (moment sc hands 0).window ≡ 0 = places.1 in
     let open_still : is_complete sc sites (Begin 0) ≡ false = subst (λ m. is_complete sc sites m ≡ false) begin (paced.waits going needs) in
-    (0, record { stage = omega arith; bound = bound; within = λ p le. subst (λ m. IsWithin sc.sizes m p) (sym begin) (subst (λ k. p ≤ k) none le); behind = begin-waits sc hands now at sites 0 0 stand told places.0 places.1 bound open_still; from = inl refl })
+    (0, record { stage = omega arith; bound = bound; within = λ p le. subst (λ m. IsWithin sc.sizes m p) (sym begin) (subst (λ k. p ≤ k) none le); behind = begin-waits 0 stand told places.0 places.1 bound open_still; from = inl refl })
 
 -- A close.
 
@@ -216,16 +216,16 @@ waits-at sc hands now at sites b stand told paced going needs (inl fresh) =
 begins-first : (p f h k u d dmax mine yours end : ℕ) → p + d * (f + h) + dmax + (1 + h) * u ≤ (k + 1) * u → 1 ≤ dmax → mine ≤ yours + p → yours + k * u ≤ end → mine < end
 begins-first p f h k u d dmax mine yours end room some near on = omega (arith, room, some, near, on)
 
-first-ends : (sc : Scenario) (hands : List HandIn) → IsLawful sc → (n : ℕ) → BegunWell sc (moment sc hands n) → (moment sc hands n).window ≡ 0 → (me you : Side) (i j : ℕ) (mine yours : NodeState)
+first-ends : {sc : _} (hands : List HandIn) → IsLawful sc → (n : ℕ) → BegunWell sc (moment sc hands n) → (moment sc hands n).window ≡ 0 → (me you : Side) (i j : ℕ) {mine yours : _}
     → slice_get (of_kind me (moment sc hands n).nodes) i ≡ Some mine → is_good_at sc (moment sc hands n) me i ≡ true
     → slice_get (of_kind you (moment sc hands n).nodes) j ≡ Some yours → is_good_at sc (moment sc hands n) you j ≡ true
     → time_of (clock_of sc me i) mine.epoch < time_of (clock_of sc you j) (last_tick sc (moment sc hands n) you yours)
-first-ends sc hands lawful n well first me you i j mine yours there good other_there other_good =
+first-ends {sc} hands lawful n well first me you i j {mine} {yours} there good other_there other_good =
     let m : Moment = moment sc hands n in
     let near : time_of (clock_of sc me i) mine.epoch ≤ time_of (clock_of sc you j) yours.epoch + sc.plan.p =
-    well.together me you i j mine yours (good-in sc m me i mine there good) (good-in sc m you j yours other_there other_good) in
-    let steady : Steady (shortest_of sc.plan) (drift_of sc.plan) (clock_of sc you j) = clock_now sc lawful m you j yours (good-node sc m you j yours other_there other_good) in
-    let fit : plan_fits sc = lawful_fits sc lawful in
+    well.together me you i j mine yours (good-in sc m me i there good) (good-in sc m you j other_there other_good) in
+    let steady : Steady (shortest_of sc.plan) (drift_of sc.plan) (clock_of sc you j) = clock_now lawful (good-node sc m you j other_there other_good) in
+    let fit : plan_fits sc = lawful_fits lawful in
     let some : 1 ≤ sc.plan.l = lawful.plan.l.0 in
     let last : last_of sc.sizes sc.plan you yours m.window ≡ m.window * sc.plan.l + sc.plan.l - 1 = last-same sc.sizes sc.plan you yours m.window (omega arith) in
     let none : m.window * sc.plan.l ≡ 0 * sc.plan.l = ap (λ n. n * sc.plan.l) first in
@@ -251,17 +251,17 @@ pub record ClosesNow (sc : Scenario) (hands : List HandIn) (t : ℕ) (me : Side)
   pub time : t ≡ time_of (clock_of sc me i) (last_tick sc (moment sc hands p) me st)
 
 -- a node closes a window only if another has not passed it
-pub closes-before : (sc : Scenario) (hands : List HandIn) (now t : ℕ) (at : Side → ℕ → ℕ) (sites : Each Site) (n : ℕ) → IsLawful sc → now ≤ t → SitesStand sc hands now at sites
+pub closes-before : {sc hands now t at sites n : _} → IsLawful sc → now ≤ t → SitesStand sc hands now at sites
     → HavePassed sc hands now at → AllPend t sites → (moment sc hands n).window < stages_in sc.sizes → IsBehind sc hands at sites n
     → ((q : ℕ) → q < n → (moment sc hands q).window ≤ stages_in sc.sizes → InTime sc (moment sc hands q) (moment sc hands (next_stage sc.sizes (moment sc hands q) q)))
-    → BegunWell sc (moment sc hands n) → (me : Side) (i p : ℕ) → p ≡ at me i → ClosesNow sc hands t me i p → p ≤ n → p < n
-closes-before sc hands now t at sites n lawful le stand passed pend stage behind times well me i p is close within =
+    → BegunWell sc (moment sc hands n) → {me i p : _} → p ≡ at me i → ClosesNow sc hands t me i p → p ≤ n → p < n
+closes-before {sc} {hands} {now} {t} {at} {sites} {n} lawful le stand passed pend stage behind times well {me} {i} {p} is close within =
     let k : Side = behind.me in
     let j : ℕ = behind.i in
     let z : Site = behind.s in
     let up : IsUp sc hands (sent_by sc hands at sites) now k j (at k j) z = stand.up k j z behind.there behind.runs in
     let q : ℕ = at k j in
-    let after : t ≤ up.a.time = tick-after t z.ahead up.a z.coming up.stands.receives.pends (pend-of t sites pend k j z behind.there) in
+    let after : t ≤ up.a.time = tick-after t z.ahead z.coming up.stands.receives.pends (pend-of t sites pend k j z behind.there) in
     let at_time : up.a.time ≡ time_of (clock_of sc k j) up.a.tick = up.stands.receives.at_time in
     elim (cases_lt p n) [
       | inl lt ↦ lt
@@ -277,7 +277,7 @@ closes-before sc hands now t at sites n lawful le stand passed pend stage behind
                   | inl lt_y ↦ let tail = next.between n lt lt_y in absurd (omega (arith, tail.0, stage))
                 ] in
                 let good_y : is_good_at sc (moment sc hands y) me i ≡ true = good-back sc hands y p me i y_le close.good in
-                let state = good-state sc hands y me i (has_ticks sc lawful) good_y in
+                let state = good-state sc hands y me i (has_ticks lawful) good_y in
                 let order : time_of (clock_of sc k j) (last_tick sc (moment sc hands q) k up.st) < time_of (clock_of sc me i) (last_tick sc (moment sc hands y) me state.0) =
                 here.order k me j i up.st state.0 up.stands.state up.stands.good state.1 good_y in
                 let ends : time_of (clock_of sc me i) (last_tick sc (moment sc hands y) me state.0) ≤ t = elim (cases_lt y p) [
@@ -300,7 +300,7 @@ closes-before sc hands now t at sites n lawful le stand passed pend stage behind
                 let st_is : up.st ≡ first.2.st = same_Some up.st first.2.st (sym up.stands.state ∙ first.2.state) in
                 let tick : up.a.tick ≡ up.st.epoch = ap (λ (a : Timed). a.tick) a_is ∙ first.2.first ∙ sym (ap (λ (z : NodeState). z.epoch) st_is) in
                 let ends : time_of (clock_of sc k j) up.st.epoch < time_of (clock_of sc me i) (last_tick sc (moment sc hands n) me close.st) =
-                first-ends sc hands lawful n well first.1 k me j i up.st close.st (ap (λ q. slice_get (of_kind k (moment sc hands q).nodes) j) (sym first.0) ∙ up.stands.state)
+                first-ends hands lawful n well first.1 k me j i (ap (λ q. slice_get (of_kind k (moment sc hands q).nodes) j) (sym first.0) ∙ up.stands.state)
                 (ap (λ q. is_good_at sc (moment sc hands q) k j) (sym first.0) ∙ up.stands.good)
                 (ap (λ q. slice_get (of_kind me (moment sc hands q).nodes) i) (sym same) ∙ close.state) (ap (λ q. is_good_at sc (moment sc hands q) me i) (sym same) ∙ close.good) in
                 let own : time_of (clock_of sc me i) (last_tick sc (moment sc hands n) me close.st) ≡ t =

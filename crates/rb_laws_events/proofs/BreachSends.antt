@@ -3,9 +3,9 @@
 -- the verdict on it.
 use Rattle.std.proofs.Common.{◌≡◌, ℕ, zero, suc, ◌+◌, ◌*◌, ◌<◌, ◌≤◌, true, false, List, refl, ap, sym, ◌∙◌, subst, arith, Some, slice_get, lit<}
 use Rattle.rb_base.specs.{Nodes.{Side, other}, Nodes.Side.{Biu, Rmu}, Sizes.sync_slot_of}
-use Rattle.rb_rules.specs.{declared.role.Role.TheVariants.Sync, declared.plan.Window.Window, Book.of_kind, Clock.time_of, Goodness.{Scenario, clock_of}, Hearing.{Sending, sending}, Lawful.IsLawful, Moments.IsRunning, NodeState.NodeState, Plan.f0_of, Ports.HandIn, Rounds.{Moment, moment}, Slots.listens}
+use Rattle.rb_rules.specs.{declared.role.Role.TheVariants.Sync, declared.plan.Window.Window, Book.of_kind, Clock.time_of, Goodness.{Scenario, clock_of}, Hearing.{Sending, sending}, Lawful.IsLawful, Moments.IsRunning, NodeState.NodeState, Ports.HandIn, Rounds.{Moment, moment}, Slots.listens}
 use Rattle.rb_laws_agreement.proofs.{Invariant.IsGoodNode, NodeWindows.sync_windows_are}
-use Rattle.rb_laws_synchrony.proofs.{StageCalls.{CallWell, first_about, first_calls, second_about, second_calls, third_about, third_calls}, Synchronous.{from_1, from_2, from_3, to_1, to_2, to_3}, Synchrony.{IsSynchronous, synchrony}, TakenCalls.{IsStage, call_sent, is_set}, TimelyWindows.{IsSet, LieAbout}}
+use Rattle.rb_laws_synchrony.proofs.{StageCalls.{CallWell, first_about, first_calls, second_about, second_calls, third_about, third_calls}, Synchrony.{IsSynchronous, synchrony}, TakenCalls.{IsStage, call_sent, is_set}, TimelyWindows.{IsSet, LieAbout}}
 use Rattle.rb_laws_events.proofs.{FrameTimes.good-node, Invariant.{is_good_at, last_tick, sending_of, word_at}, NodeSends.sending_at, SentChanges.sending-of-is, StageOrder.last_of}
 
 -- what a node sends has come everywhere by the time of the last tick of another node
@@ -22,15 +22,15 @@ only Rmu Rmu stage h k = refl
 
 -- if the calls of a kind are sent in time for the windows of the stage, what a good node sends has
 -- come to each good node
-by-calls : (sc : Scenario) (m : Moment) (q : ℕ) (c : IsSet sc m (sync_slot_of sc.sizes) (q + 1)) → q < 3 → m.window ≡ 3 * sync_slot_of sc.sizes + q → (kind : Side) (first last from to : ℕ)
+by-calls : {sc m : _} (q : ℕ) (c : IsSet sc m (sync_slot_of sc.sizes) (q + 1)) → q < 3 → m.window ≡ 3 * sync_slot_of sc.sizes + q → {kind first last from to : _}
     → listens (other (other kind)) Sync (q + 1) ≡ false → CallWell sc m kind (q + 1) first last from to → LieAbout sc m (sync_slot_of sc.sizes) (q + 1) c.ws from to
-    → (me : Side) (i : ℕ) (st : NodeState) → IsGoodNode sc m me i st → (sender : Side) (j : ℕ) (source : NodeState) → IsGoodNode sc m sender j source → HasComeBy sc m me i st sender j
-by-calls sc m q c small at kind first last from to deaf calls about me i st here sender j source there s e =
+    → {me i st : _} → IsGoodNode sc m me i st → {sender j source : _} → IsGoodNode sc m sender j source → HasComeBy sc m me i st sender j
+by-calls {sc} {m} q c small at {kind} {first} {last} {from} {to} deaf calls about {me} {i} {st} here {sender} {j} {source} there s e =
     let word : ℕ = word_at sc m sender j source in
-    let is : sending_of sc m sender j ≡ sending_at sc.sizes sc.plan sender j source m.window word = sending-of-is sc m sender j source there.there in
+    let is : sending_of sc m sender j ≡ sending_at sc.sizes sc.plan sender j source m.window word = sending-of-is sc m sender j there.there in
     let window : sending_at sc.sizes sc.plan sender j source m.window word ≡ sending sc.sizes sc.plan sender j source (sync_slot_of sc.sizes) (q + 1) word =
     ap (λ (w : Window). sending sc.sizes sc.plan sender j source w.slot w.stage word) ((sync_windows_are sc m q small at).are sender source) in
-    let sends = call_sent sc.sizes sc.plan sender j source (q + 1) word s (sym window ∙ sym is ∙ e) in
+    let sends = call_sent sc.sizes sc.plan sender j source (q + 1) word (sym window ∙ sym is ∙ e) in
     let same : kind ≡ sender = sym (only kind sender (q + 1) sends.1 deaf) in
     let own : CallWell sc m sender (q + 1) first last from to = subst (λ k. CallWell sc m k (q + 1) first last from to) same calls in
     let between = own.between j source s.tick there sends.0 in
@@ -38,39 +38,39 @@ by-calls sc m q c small at kind first last from to deaf calls about me i st here
     let end : time_of (clock_of sc me i) (st.epoch + c.ws.last me st) ≡ time_of (clock_of sc me i) (last_tick sc m me st) = ap (λ o. time_of (clock_of sc me i) (st.epoch + o)) its_last in
     omega (arith, between.most, about.late me i st here, end)
 
-pub sent-before : (sc : Scenario) (hands : List HandIn) → IsLawful sc → (p q : ℕ) → IsRunning (moment sc hands p) → q < 3 → (moment sc hands p).window ≡ 3 * sync_slot_of sc.sizes + q
-    → (me : Side) (i : ℕ) (st : NodeState) → slice_get (of_kind me (moment sc hands p).nodes) i ≡ Some st → is_good_at sc (moment sc hands p) me i ≡ true
-    → (kind : Side) (j : ℕ) (source : NodeState) → slice_get (of_kind kind (moment sc hands p).nodes) j ≡ Some source → is_good_at sc (moment sc hands p) kind j ≡ true
+pub sent-before : {sc : _} (hands : List HandIn) → IsLawful sc → (p q : ℕ) → IsRunning (moment sc hands p) → q < 3 → (moment sc hands p).window ≡ 3 * sync_slot_of sc.sizes + q
+    → (me : Side) (i : ℕ) {st : _} → slice_get (of_kind me (moment sc hands p).nodes) i ≡ Some st → is_good_at sc (moment sc hands p) me i ≡ true
+    → (kind : Side) (j : ℕ) {source : _} → slice_get (of_kind kind (moment sc hands p).nodes) j ≡ Some source → is_good_at sc (moment sc hands p) kind j ≡ true
     → HasComeBy sc (moment sc hands p) me i st kind j
-sent-before sc hands lawful p q running small at me i st there good kind j source there2 good2 =
+sent-before {sc} hands lawful p q running small at me i {st} there good kind j {source} there2 good2 =
     by q small at
   where
     m : Moment
     m = moment sc hands p
 
     s : IsSynchronous sc hands p
-    s = synchrony sc hands lawful p running
+    s = synchrony hands lawful p running
 
     here : IsGoodNode sc m me i st
-    here = good-node sc m me i st there good
+    here = good-node sc m me i there good
 
     source_here : IsGoodNode sc m kind j source
-    source_here = good-node sc m kind j source there2 good2
+    source_here = good-node sc m kind j there2 good2
 
     stage : (q : ℕ) → q < 3 → m.window ≡ 3 * sync_slot_of sc.sizes + q → IsStage sc hands p m s.shared q
     stage q small at = record { law = lawful; agree = s.agree; small = small; at = at }
 
     by : (q : ℕ) → q < 3 → m.window ≡ 3 * sync_slot_of sc.sizes + q → HasComeBy sc m me i st kind j
     by zero small at =
-        let c : IsSet sc m (sync_slot_of sc.sizes) 1 = is_set sc hands p m s.shared 0 (stage 0 (lit< tt) at) in
-        by-calls sc m 0 c (lit< tt) at Biu (f0_of sc.sizes sc.plan) (f0_of sc.sizes sc.plan + sc.plan.l) (from_1 sc s.low) (to_1 sc s.low) refl
-        (first_calls sc lawful m s.low s.near.begun) (first_about sc m c at s.low s.near.begun) me i st here kind j source source_here
+        let c : IsSet sc m (sync_slot_of sc.sizes) 1 = is_set (stage 0 (lit< tt) at) in
+        by-calls 0 c (lit< tt) at refl
+        (first_calls lawful s.near.begun) (first_about c at s.near.begun) here source_here
     by (suc zero) small at =
-        let c : IsSet sc m (sync_slot_of sc.sizes) 2 = is_set sc hands p m s.shared 1 (stage 1 (lit< tt) at) in
-        by-calls sc m 1 c (lit< tt) at Rmu (f0_of sc.sizes sc.plan + sc.plan.l) (f0_of sc.sizes sc.plan + sc.plan.l + sc.plan.v) (from_2 sc s.low) (to_2 sc s.low) refl
-        (second_calls sc lawful m s.shared s.low s.near at) (second_about sc m c at s.low s.near.begun) me i st here kind j source source_here
+        let c : IsSet sc m (sync_slot_of sc.sizes) 2 = is_set (stage 1 (lit< tt) at) in
+        by-calls 1 c (lit< tt) at refl
+        (second_calls lawful s.near at) (second_about c at s.near.begun) here source_here
     by (suc (suc zero)) small at =
-        let c : IsSet sc m (sync_slot_of sc.sizes) 3 = is_set sc hands p m s.shared 2 (stage 2 (lit< tt) at) in
-        by-calls sc m 2 c (lit< tt) at Biu (f0_of sc.sizes sc.plan + sc.plan.l + sc.plan.v) (f0_of sc.sizes sc.plan + sc.plan.l + sc.plan.v + sc.plan.z) (from_3 sc s.low) (to_3 sc s.low) refl
-        (third_calls sc lawful m s.shared s.low s.near at) (third_about sc m c at s.low s.near.begun) me i st here kind j source source_here
+        let c : IsSet sc m (sync_slot_of sc.sizes) 3 = is_set (stage 2 (lit< tt) at) in
+        by-calls 2 c (lit< tt) at refl
+        (third_calls lawful s.near at) (third_about c at s.near.begun) here source_here
     by (suc (suc (suc q))) small at = absurd (omega arith)

@@ -18,16 +18,16 @@ pub record Came (sc : Scenario) (m : Moment) (me : Side) (i : ℕ) (now : NodeSt
   pub node : IsGoodNode sc m me i st
   pub is : after sc m me i st ≡ now
 
-pub came : (sc : Scenario) (hands : List HandIn) → IsLawful sc → (p : ℕ) → (moment sc hands p).window < windows_in sc.sizes → (me : Side) (i : ℕ) (now : NodeState)
+pub came : {sc : _} (hands : List HandIn) → IsLawful sc → (p : ℕ) → (moment sc hands p).window < windows_in sc.sizes → {me i now : _}
     → IsGoodNode sc (moment sc hands (suc p)) me i now → Came sc (moment sc hands p) me i now
-came sc hands lawful p inside me i now h =
+came {sc} hands lawful p inside {me} {i} {now} h =
     let m : Moment = moment sc hands p in
     let next : IsWindowLater sc m (moment sc hands (suc p)) = window-later sc hands m inside in
     let good : is_good_at sc m me i ≡ true = good-back sc hands p (suc p) me i (omega arith) h.good in
-    let old = good-state sc hands p me i (has_ticks sc lawful) good in
+    let old = good-state sc hands p me i (has_ticks lawful) good in
     record {
       st = old.0;
-      node = good-node sc m me i old.0 old.1 good;
+      node = good-node sc m me i old.1 good;
       is = same_Some (after sc m me i old.0) now (sym (state-after sc m me i old.0 old.1) ∙ ap (λ nodes. slice_get (of_kind me nodes) i) (sym next.nodes) ∙ h.there);
     }
 
@@ -36,16 +36,16 @@ pub record Turned (sc : Scenario) (m : Moment) (me : Side) (i : ℕ) (now : Node
   pub node : IsGoodNode sc m me i st
   pub is : turn_if_known sc.sizes sc.plan me st ≡ now
 
-pub turned : (sc : Scenario) (hands : List HandIn) → IsLawful sc → (p : ℕ) → windows_in sc.sizes ≤ (moment sc hands p).window → (me : Side) (i : ℕ) (now : NodeState)
+pub turned : {sc : _} (hands : List HandIn) → IsLawful sc → (p : ℕ) → windows_in sc.sizes ≤ (moment sc hands p).window → {me i now : _}
     → IsGoodNode sc (moment sc hands (suc p)) me i now → Turned sc (moment sc hands p) me i now
-turned sc hands lawful p over me i now h =
+turned {sc} hands lawful p over {me} {i} {now} h =
     let m : Moment = moment sc hands p in
     let next : IsFrameLater sc hands m (moment sc hands (suc p)) = frame-later sc hands m over in
     let good : is_good_at sc m me i ≡ true = good-back sc hands p (suc p) me i (omega arith) h.good in
-    let old = good-state sc hands p me i (has_ticks sc lawful) good in
+    let old = good-state sc hands p me i (has_ticks lawful) good in
     record {
       st = old.0;
-      node = good-node sc m me i old.0 old.1 good;
+      node = good-node sc m me i old.1 good;
       is = same_Some (turn_if_known sc.sizes sc.plan me old.0) now
           (sym (state-turned sc hands m me i old.0 old.1) ∙ ap (λ nodes. slice_get (of_kind me nodes) i) (sym next.nodes) ∙ h.there);
     }
@@ -57,9 +57,9 @@ pub record KnewThen (sc : Scenario) (m : Moment) (me : Side) (i epoch : ℕ) : T
   pub node : IsGoodNode sc m me i st
   pub known : new_epoch_of sc.plan me (after sc m me i st) ≡ Some epoch
 
-pub knew-then : (sc : Scenario) (hands : List HandIn) → IsLawful sc → (p : ℕ) → (moment sc hands p).window + 1 ≡ stages_in sc.sizes → (me : Side) (i : ℕ) (now : NodeState)
+pub knew-then : {sc : _} (hands : List HandIn) → IsLawful sc → (p : ℕ) → (moment sc hands p).window + 1 ≡ stages_in sc.sizes → {me i now : _}
     → IsGoodNode sc (moment sc hands (suc (suc (suc p)))) me i now → KnewThen sc (moment sc hands p) me i now.epoch
-knew-then sc hands lawful p last me i now h =
+knew-then {sc} hands lawful p last {me} {i} {now} h =
     let m : Moment = moment sc hands p in
     let m1 : Moment = moment sc hands (suc p) in
     let m2 : Moment = moment sc hands (suc (suc p)) in
@@ -67,19 +67,19 @@ knew-then sc hands lawful p last me i now h =
     let e1 : m1.window ≡ m.window + 1 = w1.window in
     let w2 : IsWindowLater sc m1 m2 = window-later sc hands m1 (omega arith) in
     let e2 : m2.window ≡ m1.window + 1 = w2.window in
-    let t : Turned sc m2 me i now = turned sc hands lawful (suc (suc p)) (omega arith) me i now h in
-    let b : Came sc m1 me i t.st = came sc hands lawful (suc p) (omega arith) me i t.st t.node in
-    let a : Came sc m me i b.st = came sc hands lawful p (omega arith) me i b.st b.node in
-    let good : is_good sc me i m1.frame (sync_slot_of sc.sizes) ≡ true = ap (is_good sc me i m1.frame) (sym (slot_last sc.sizes m1.window 3 (omega arith))) ∙ b.node.good in
-    let left : Leaves b.st (after sc m1 me i b.st) = tail_leaves sc m1 (tail_windows sc m1 (omega arith)) me i b.st good in
-    let stood : Stands sc m2 me t.st = (moments-stand sc hands (suc (suc p)) (has_ticks sc lawful)).stands me i t.st t.node.there t.node.good in
+    let t : Turned sc m2 me i now = turned hands lawful (suc (suc p)) (omega arith) h in
+    let b : Came sc m1 me i t.st = came hands lawful (suc p) (omega arith) t.node in
+    let a : Came sc m me i b.st = came hands lawful p (omega arith) b.node in
+    let good : is_good sc me i m1.frame (sync_slot_of sc.sizes) ≡ true = ap (is_good sc me i m1.frame) (sym (slot_last sc.sizes 3 (omega arith))) ∙ b.node.good in
+    let left : Leaves b.st (after sc m1 me i b.st) = tail_leaves (tail_windows sc m1 (omega arith)) me i b.st good in
+    let stood : Stands sc m2 me t.st = (moments-stand sc hands (suc (suc p)) (has_ticks lawful)).stands me i t.st t.node.there t.node.good in
     let known : Knows sc.sizes me (windows_in sc.sizes) t.st = subst (λ n. Knows sc.sizes me n t.st) (omega arith) stood.knows in
-    let x = the-epoch (new_epoch_of sc.plan me t.st) (epoch-known sc.sizes sc.plan me t.st known) in
-    let e : x.0 ≡ now.epoch = sym (turned-epoch sc.sizes sc.plan me t.st x.0 x.1) ∙ ap (λ z. z.epoch) t.is in
+    let x = the-epoch (new_epoch_of sc.plan me t.st) (epoch-known sc.plan me known) in
+    let e : x.0 ≡ now.epoch = sym (turned-epoch sc.sizes sc.plan me t.st x.1) ∙ ap (λ z. z.epoch) t.is in
     record {
       st = a.st;
       node = a.node;
-      known = ap (new_epoch_of sc.plan me) a.is ∙ same-next sc.plan me b.st (after sc m1 me i b.st) left ∙ ap (new_epoch_of sc.plan me) b.is ∙ x.1 ∙ ap Some e;
+      known = ap (new_epoch_of sc.plan me) a.is ∙ same-next sc.plan me left ∙ ap (new_epoch_of sc.plan me) b.is ∙ x.1 ∙ ap Some e;
     }
   where
     the-epoch : (o : Option ℕ) → is_some o ≡ true → (x : ℕ) × (o ≡ Some x)

@@ -1,9 +1,9 @@
 -- For the law that events are rounds if the premise on faults is broken in a sync slot: how a node
 -- goes on if the run breaks off with the first or the second stage of the sync slot. After its row
 -- it stays in the frame, and it says nothing to those that listen.
-use Rattle.std.proofs.{Common.{◌≡◌, ℕ, zero, suc, ◌+◌, ◌*◌, ◌<◌, Bool, true, false, List, refl, ap, sym, ◌∙◌, arith, None}}
+use Rattle.std.proofs.Common.{◌≡◌, ℕ, zero, suc, ◌+◌, ◌*◌, ◌<◌, Bool, true, false, refl, ap, sym, ◌∙◌, arith, None}
 use Rattle.rb_base.specs.{Nodes.{Side, other}, Nodes.Side.{Biu, Rmu}, Sizes.sync_slot_of}
-use Rattle.rb_rules.specs.{declared.plan.Window.Window, declared.role.Role.TheVariants.Sync, Goodness.{Scenario}, Lawful.IsLawful, Moments.IsRunning, NodeState.NodeState, Ports.{HandIn, PortState}, Rounds.{Moment, moment, window_in}, Slots.{listens, same_side}, WorldStep.{Site, Timed, pass_and_tick}}
+use Rattle.rb_rules.specs.{declared.plan.Window.Window, declared.role.Role.TheVariants.Sync, Goodness.{Scenario}, Lawful.IsLawful, Moments.IsRunning, NodeState.NodeState, Rounds.{Moment, moment, window_in}, Slots.{listens, same_side}, WorldStep.pass_and_tick}
 use Rattle.rb_rules.proofs.Slots.{same_side-is}
 use Rattle.rb_laws_agreement.proofs.NodeWindows.{sync_windows_are}
 use Rattle.rb_laws_events.proofs.{BreakEnters.{TickBreaks, hearing-closes}, BreakKeeps.TellsOn, BreakSites.{HasClosed, InFrame, WaitsAhead, closed-arrives}, BreakTicks.{before-next, closed-goes-on, closed-silent}, TailTicks.none-some, DeafEnds.deaf-closes, NodeActs.{HasRoom}, StageOrder.last_of}
@@ -27,10 +27,10 @@ stage-is : (sc : Scenario) (m : Moment) (q : ℕ) → q < 3 → m.window ≡ 3 *
 stage-is sc m q small at me st = ap (λ (w : Window). w.stage) ((sync_windows_are sc m q small at).are me st)
 
 -- a node that has told its row says nothing with its due tick as long as another listens
-closed-quiet : (sc : Scenario) (hands : List HandIn) → IsLawful sc → HasRoom sc.plan → (sent : Side → ℕ → ℕ → Bool) (ports : List PortState) (p q : ℕ) → IsRunning (moment sc hands p) → q < 2
-    → (moment sc hands p).window ≡ 3 * sync_slot_of sc.sizes + q → (me : Side) (i : ℕ) (s : Site) (a : Timed) → TickBreaks sc hands sent ports p me i s a → HasClosed sc hands me i p s
-    → (side : Side) (n : ℕ) (z : Site) → WaitsAhead sc hands sent side n p z → same_side side (other me) ≡ true → (pass_and_tick sc ports me i a.tick s.core).message ≡ None
-closed-quiet sc hands lawful room sent ports p q running small at me i s a t h side n z w kind = by (listens me Sync (window_in sc m me h.st).stage) refl
+closed-quiet : {sc hands : _} → IsLawful sc → HasRoom sc.plan → {sent ports p : _} (q : ℕ) → IsRunning (moment sc hands p) → q < 2
+    → (moment sc hands p).window ≡ 3 * sync_slot_of sc.sizes + q → {me i s a : _} → TickBreaks sc hands sent ports p me i s a → HasClosed sc hands me i p s
+    → {side n z : _} → WaitsAhead sc hands sent side n p z → same_side side (other me) ≡ true → (pass_and_tick sc ports me i a.tick s.core).message ≡ None
+closed-quiet {sc} {hands} lawful room {ports} {p} q running small at {me} {i} {s} {a} t h {side} w kind = by (listens me Sync (window_in sc m me h.st).stage) refl
   where
     m : Moment
     m = moment sc hands p
@@ -45,19 +45,19 @@ closed-quiet sc hands lawful room sent ports p q running small at me i s a t h s
         let is = h.course.ahead a t.pend in
         let n_is : m.window + 1 ≡ 3 * sync_slot_of sc.sizes + (q + 1) = omega (arith, at) in
         let before : a.tick < s.core.state.epoch + last_of sc.sizes sc.plan me s.core.state (m.window + 1) =
-        before-next sc hands lawful room p q running small at me i s h t.you t.j t.yours t.there t.good a is.1 t.first in
+        before-next lawful room q running small at h t.you t.j t.there t.good a is.1 t.first in
         let window : last_of sc.sizes sc.plan me s.core.state (m.window + 1) ≡ last_of sc.sizes sc.plan me s.core.state (3 * sync_slot_of sc.sizes + (q + 1)) =
         ap (last_of sc.sizes sc.plan me s.core.state) n_is in
-        closed-silent sc hands ports p q a.tick room (omega arith) at me i s h e
+        closed-silent ports q a.tick room (omega arith) at h e
         (unheard-next q small me (ap (listens me Sync) (sym (stage-is sc m q (omega arith) at me h.st)) ∙ e)) is.0 (omega (arith, before, window))
 
-pub early-tells : (sc : Scenario) → IsLawful sc → HasRoom sc.plan → (q : ℕ) → q < 2 → TellsOn sc q (InFrame sc)
-early-tells sc lawful room q early = record {
+pub early-tells : {sc : _} → IsLawful sc → HasRoom sc.plan → (q : ℕ) → q < 2 → TellsOn sc q (InFrame sc)
+early-tells {sc} lawful room q early = record {
   ahead = λ hands b me i s a h e. h.course.ahead a e;
-  arrives = closed-arrives sc;
-  hears = λ hands b off sent now ports me i s h frame. hearing-closes sc hands lawful room sent now ports b q off.running off.small off.window me i s h frame;
-  deaf = λ hands b off ports me i s h. deaf-closes sc hands room ports b q off.small off.window me i s h;
-  ticks = λ hands b off sent ports me i s a t h. closed-goes-on sc hands lawful room ports b q off.running early off.window me i s h t.you t.j t.yours t.there t.good a t.pend t.first;
+  arrives = closed-arrives;
+  hears = λ hands b off sent now ports me i s h frame. hearing-closes lawful room ports q off.running off.small off.window h frame;
+  deaf = λ hands b off ports me i s h. deaf-closes room ports q off.small off.window h;
+  ticks = λ hands b off sent ports me i s a t h. closed-goes-on lawful room ports q off.running early off.window h t.you t.j t.there t.good t.pend t.first;
   late = λ hands b off sent ports me i s a t h frame side n z w kind msg.
-      none-some (pass_and_tick sc ports me i a.tick s.core).message msg (closed-quiet sc hands lawful room sent ports b q off.running early off.window me i s a t h side n z w kind);
+      none-some (pass_and_tick sc ports me i a.tick s.core).message (closed-quiet lawful room q off.running early off.window t h w kind);
 }

@@ -15,16 +15,16 @@ every-left P (x ∷ xs) ys e = (e.0, every-left P xs ys e.1)
 
 -- an item that comes by time `t` is not among those that come after it
 stands-left : (n : ℕ) (c : Coming) (t : ℕ) (xs ys : List Coming) → Every (λ y. t < y.time) ys → c.time ≤ t → StandsAt n c (xs ++ ys) → StandsAt n c xs × (remove (xs ++ ys) n ≡ remove xs n ++ ys)
-stands-left n c t [] ys all le s = let after : t < c.time = every-stands (λ y. t < y.time) n c ys s all in absurd (omega (arith, after, le))
+stands-left n c t [] ys all le s = let after : t < c.time = every-stands (λ y. t < y.time) n ys s all in absurd (omega (arith, after, le))
 stands-left zero c t (x ∷ xs) ys all le s = (s, refl)
 stands-left (suc n) c t (x ∷ xs) ys all le s =
     let others = stands-left n c t xs ys all le s in
     (others.0, ap (λ l. x ∷ l) others.1)
 
-ahead-arrives : (sc : Scenario) (hands : List HandIn) (sent : Side → ℕ → ℕ → Bool) (me : Side) (i p n : ℕ) (c : Coming) (s : Site) → Moves (clock_of sc me i)
+ahead-arrives : {sc hands sent me i p n c s : _} → Moves (clock_of sc me i)
     → (h : WaitsAhead sc hands sent me i p s) → ArrivesNow n c s h.waits.a → WaitsAhead sc hands sent me i p (after_arrival sc me i n c s)
 unfolding after_arrival
-ahead-arrives sc hands sent me i p n c s moves h due =
+ahead-arrives {n} {c} {s} moves h due =
     let base : Site = record s { coming = h.mine } in
     let split = stands-left n c h.waits.a.time h.mine h.more h.later due.before_tick (subst (StandsAt n c) h.is due.at) in
     let its : ArrivesNow n c base h.waits.a = record {
@@ -40,26 +40,26 @@ ahead-arrives sc hands sent me i p n c s moves h due =
       waits = record {
         st = h.waits.st;
         a = h.waits.a;
-        stands = stands-arrival sc hands sent h.now me i p n c base h.waits.st h.waits.a moves its h.waits.stands;
+        stands = stands-arrival moves its h.waits.stands;
         hears = h.waits.hears;
         last = h.waits.last;
       };
       later = h.later;
     }
 
-pub site-comes : (sc : Scenario) (hands : List HandIn) (C : Course) → ArrivalsKeep sc C → (sent : Side → ℕ → ℕ → Bool) (p : ℕ) (me : Side) (i n : ℕ) (c : Coming) (s : Site) → (is_good_at sc (moment sc hands p) me i ≡ true → Moves (clock_of sc me i)) → StandsAt n c s.coming
+pub site-comes : {sc : Scenario} {hands : List HandIn} (C : Course) → ArrivalsKeep sc C → {sent : Side → ℕ → ℕ → Bool} {p : ℕ} {me : Side} {i n : ℕ} {c : Coming} {s : Site} → (is_good_at sc (moment sc hands p) me i ≡ true → Moves (clock_of sc me i)) → StandsAt n c s.coming
     → ((a : Timed) → s.ahead ≡ Some a → ArrivesNow n c s a) → SiteBreaks sc hands C sent p me i s → SiteBreaks sc hands C sent p me i (after_arrival sc me i n c s)
 unfolding after_arrival
-site-comes sc hands C its sent p me i n c s moves stands due (inl stopped) = absurd (none-stands n c s.coming stopped.coming stands)
-site-comes sc hands C its sent p me i n c s moves stands due (inr (inl h)) = inr (inl (ahead-arrives sc hands sent me i p n c s (moves h.waits.stands.good) h (due h.waits.a h.waits.stands.receives.pends)))
-site-comes sc hands C its sent p me i n c s moves stands due (inr (inr (inl h))) = inr (inr (inl (deaf-arrives sc hands me i p n c s (moves h.good) h (due h.a h.pends).before_tick)))
-site-comes sc hands C its sent p me i n c s moves stands due (inr (inr (inr h))) =
-    inr (inr (inr (told-on sc hands C me i p s (after_arrival sc me i n c s) h refl (its hands me i p n c s h.st (moves h.good) h.course (λ a e. (due a e).before_tick)))))
+site-comes C its {n} {c} {s} moves stands due (inl stopped) = absurd (none-stands n c s.coming stopped.coming stands)
+site-comes C its moves stands due (inr (inl h)) = inr (inl (ahead-arrives (moves h.waits.stands.good) h (due h.waits.a h.waits.stands.receives.pends)))
+site-comes C its {n} {c} moves stands due (inr (inr (inl h))) = inr (inr (inl (deaf-arrives n c (moves h.good) h (due h.a h.pends).before_tick)))
+site-comes {sc} {hands} C its {p} {me} {i} {n} {c} {s} moves stands due (inr (inr (inr h))) =
+    inr (inr (inr (told-on C (after_arrival sc me i n c s) h refl (its hands me i p n c s h.st (moves h.good) h.course (λ a e. (due a e).before_tick)))))
 
 -- A message on its way.
 
-deaf-more : (sc : Scenario) (hands : List HandIn) (p : ℕ) (side : Side) (j : ℕ) (s : Site) (more : List Coming) → WaitsDeaf sc hands side j p s → WaitsDeaf sc hands side j p (record s { coming = more })
-deaf-more sc hands p side j s more h = record {
+deaf-more : {sc hands p side j s : _} (more : List Coming) → WaitsDeaf sc hands side j p s → WaitsDeaf sc hands side j p (record s { coming = more })
+deaf-more more h = record {
   st = h.st;
   a = h.a;
   state = h.state;
@@ -75,9 +75,9 @@ deaf-more sc hands p side j s more h = record {
   last = h.last;
 }
 
-ahead-more : (sc : Scenario) (hands : List HandIn) (sent : Side → ℕ → ℕ → Bool) (p : ℕ) (side : Side) (j : ℕ) (s : Site) (c : Coming) → (h : WaitsAhead sc hands sent side j p s) → h.waits.a.time < c.time
+ahead-more : {sc hands sent p side j s : _} (c : Coming) → (h : WaitsAhead sc hands sent side j p s) → h.waits.a.time < c.time
     → WaitsAhead sc hands sent side j p (record s { coming = s.coming ++ c ∷ [] })
-ahead-more sc hands sent p side j s c h after = record {
+ahead-more c h after = record {
   now = h.now;
   mine = h.mine;
   more = h.more ++ c ∷ [];
@@ -86,11 +86,11 @@ ahead-more sc hands sent p side j s c h after = record {
   later = each-append (λ x. h.waits.a.time < x.time) h.more (c ∷ []) h.later (after, tt);
 }
 
-pub message-comes : (sc : Scenario) (hands : List HandIn) (C : Course) (sent : Side → ℕ → ℕ → Bool) (p : ℕ) (me : Side) (i frame k : ℕ) (m : Option Message) (side : Side) (j : ℕ) (z : Site)
+pub message-comes : {sc hands : _} (C : Course) {sent p : _} (me : Side) (i frame k : ℕ) (m : Option Message) {side j z : _}
     → ((h : WaitsAhead sc hands sent side j p z) → same_side side (other me) ≡ true → (x : Message) → m ≡ Some x → h.waits.a.time < (coming_of sc side j i frame (record { tick = k; message = x })).time)
     → SiteBreaks sc hands C sent p side j z → SiteBreaks sc hands C sent p side j (reached sc me i frame k m side j z)
-message-comes sc hands C sent p me i frame k None side j z late h = h
-message-comes sc hands C sent p me i frame k (Some m) side j z late h = by (same_side side (other me)) z.runs refl refl h
+message-comes C me i frame k None late h = h
+message-comes {sc} {hands} C {sent} {p} me i frame k (Some m) {side} {j} {z} late h = by (same_side side (other me)) z.runs refl refl h
   where
     c : Coming
     c = coming_of sc side j i frame (record { tick = k; message = m })
@@ -102,9 +102,9 @@ message-comes sc hands C sent p me i frame k (Some m) side j z late h = by (same
     by false b e f h = h
     by true false e f h = h
     by true true e f (inl stopped) = let both : true ≡ false = sym f ∙ stopped.runs in absurd (cc)
-    by true true e f (inr (inl ahead)) = inr (inl (ahead-more sc hands sent p side j z c ahead (late ahead e m refl)))
-    by true true e f (inr (inr (inl deaf))) = inr (inr (inl (deaf-more sc hands p side j z (z.coming ++ c ∷ []) deaf)))
-    by true true e f (inr (inr (inr told))) = inr (inr (inr (told-on sc hands C side j p z (more true) told refl told.course)))
+    by true true e f (inr (inl ahead)) = inr (inl (ahead-more c ahead (late ahead e m refl)))
+    by true true e f (inr (inr (inl deaf))) = inr (inr (inl (deaf-more (z.coming ++ c ∷ []) deaf)))
+    by true true e f (inr (inr (inr told))) = inr (inr (inr (told-on C (more true) told refl told.course)))
 
 -- What comes to a node matters not to what it tells.
 
@@ -141,6 +141,6 @@ act-same sc ports me i x s l =
     epoch-same None s = refl
     epoch-same (Some e) s = refl
 
-pub told-same : (sc : Scenario) (hands : List HandIn) (C : Course) (me : Side) (i p : ℕ) (a b : Site) → IsSame a b → HasTold sc hands C me i p a → HasTold sc hands C me i p b
-told-same sc hands C me i p a b same h = told-on sc hands C me i p a b h (sym same.row)
+pub told-same : {sc hands : _} (C : Course) {me i p a b : _} → IsSame a b → HasTold sc hands C me i p a → HasTold sc hands C me i p b
+told-same {hands} C {me} {i} {p} {a} {b} same h = told-on C b h (sym same.row)
     (subst (λ o. C hands p me i h.st b.core o) same.ahead (subst (λ c. C hands p me i h.st c a.ahead) same.core h.course))

@@ -46,9 +46,9 @@ record WaitsForStage (sc : Scenario) (hands : List HandIn) (b : ℕ) (book : Boo
   upcoming : book.upcoming ≡ Stage (place_at sc.sizes (moment sc hands b))
   not_last : ((moment sc hands b).frame == sc.frames) ≡ false
 
-waits-for : (sc : Scenario) (hands : List HandIn) (b q : ℕ) (book : Book) → BreaksAt sc hands b q → book ≡ (moment sc hands b).book → needs_no_event sc book.upcoming ≡ false
+waits-for : {sc hands b q book : _} → BreaksAt sc hands b q → book ≡ (moment sc hands b).book → needs_no_event sc book.upcoming ≡ false
     → WaitsForStage sc hands b book
-waits-for sc hands b q book off is needs = by (m.frame == sc.frames) refl
+waits-for {sc} {hands} {b} {book} off is needs = by (m.frame == sc.frames) refl
   where
     m : Moment
     m = moment sc hands b
@@ -69,24 +69,24 @@ waits-for sc hands b q book off is needs = by (m.frame == sc.frames) refl
 -- What is settled.
 
 -- a node that runs was good, and has ticks left
-pub runs-small : (sc : Scenario) (N : ℕ → List HandIn → ℕ → (Side → ℕ → ℕ → Bool) → Each Site → Type 0) (hands : List HandIn) (b q : ℕ) (sent : Side → ℕ → ℕ → Bool) (sites : Each Site) → KeepsNodes sc q (N q)
+pub runs-small : {sc : _} (N : ℕ → List HandIn → ℕ → (Side → ℕ → ℕ → Bool) → Each Site → Type 0) {hands b q sent sites : _} → KeepsNodes sc q (N q)
     → BreaksAt sc hands b q → NodesOff sc N hands b q sent sites → (me : Side) (i : ℕ) (s : Site) → slice_get (of_kind me sites) i ≡ Some s → s.runs ≡ true → s.core.had < 2 ^ 31
-runs-small sc N hands b q sent sites keeps off h me i s there runs = elim (keeps.goes hands b off sent sites h.nodes me i s there) [
+runs-small N {hands} {b} {sent} {sites} keeps off h me i s there runs = elim (keeps.goes hands b off sent sites h.nodes me i s there) [
   | inl stopped ↦ true-false (sym runs ∙ stopped.runs)
   | inr good ↦ h.small me i s there good
 ]
 
 -- after an event that leaves the book as it was, the stage is not complete or the run is over
-settles-off : (sc : Scenario) (N : ℕ → List HandIn → ℕ → (Side → ℕ → ℕ → Bool) → Each Site → Type 0) (hands : List HandIn) (b q : ℕ) (sent : Side → ℕ → ℕ → Bool) (x : World) → HasRoom sc.plan → x.hands ≡ hands
+settles-off : {sc : Scenario} (N : ℕ → List HandIn → ℕ → (Side → ℕ → ℕ → Bool) → Each Site → Type 0) {hands : List HandIn} {b q : ℕ} {sent : Side → ℕ → ℕ → Bool} (x : World) → HasRoom sc.plan → x.hands ≡ hands
     → KeepsNodes sc q (N q) → BreaksAt sc hands b q → AllSent sc hands b sent → NodesOff sc N hands b q sent x.sites → x.book ≡ (moment sc hands b).book → needs_no_event sc x.book.upcoming ≡ false
     → PortsBreak sc x → BreaksOff sc N (settle sc ByAnEvent 2 x) ⊎ IsOver sc N (settle sc ByAnEvent 2 x)
-settles-off sc N hands b q sent x room hands_are keeps off all_sent nodes is needs ports = by (is_complete sc x.sites (Stage place)) refl
+settles-off {sc} N {hands} {b} {q} {sent} x room hands_are keeps off all_sent nodes is needs ports = by (is_complete sc x.sites (Stage place)) refl
   where
     place : Place
     place = place_at sc.sizes (moment sc hands b)
 
     it : WaitsForStage sc hands b x.book
-    it = waits-for sc hands b q x.book off is needs
+    it = waits-for off is needs
 
     y : World
     y = settle sc ByAnEvent 2 x
@@ -100,8 +100,8 @@ settles-off sc N hands b q sent x room hands_are keeps off all_sent nodes is nee
     by : (t : Bool) → is_complete sc x.sites (Stage place) ≡ t → BreaksOff sc N y ⊎ IsOver sc N y
     by false e =
         let open_still : is_complete sc x.sites x.book.upcoming ≡ false = ap (is_complete sc x.sites) it.upcoming ∙ e in
-        let still : settle_next sc ByAnEvent x ≡ x = waits-still sc x (λ going. and_right (comes_so sc ByAnEvent x.book.upcoming) (is_complete sc x.sites x.book.upcoming) open_still) in
-        let y_is : y ≡ record x { turn = None } = settle-still sc ByAnEvent 2 x still in
+        let still : settle_next sc ByAnEvent x ≡ x = waits-still sc (λ going. and_right (comes_so sc ByAnEvent x.book.upcoming) (is_complete sc x.sites x.book.upcoming) open_still) in
+        let y_is : y ≡ record x { turn = None } = settle-still sc ByAnEvent 2 still in
         let stands : BreakStands sc N hands x.sites x.book = record {
           b = b;
           q = q;
@@ -126,7 +126,7 @@ settles-off sc N hands b q sent x room hands_are keeps off all_sent nodes is nee
         let ended : next.book.ended ≡ true = ap (λ (b : Book). b.ended) book ∙ off.ends in
         let still : settle_next sc ByAnEvent next ≡ next = ended-still sc ByAnEvent next ended in
         let y_is : y ≡ record next { turn = record_since x next } =
-        ap (λ n. settle_rest sc ByAnEvent 1 n (record_since x n)) next_is ∙ rest-still sc ByAnEvent 1 next (record_since x next) still in
+        ap (λ n. settle_rest sc ByAnEvent 1 n (record_since x n)) next_is ∙ rest-still sc ByAnEvent 1 (record_since x next) still in
         let silent : frame_in (record_since x next) ≡ None = ap (λ m. frame_in (record_since x (record x { book = book_with sc x.sites x.book m }))) it.upcoming ∙ stage-silent sc place _ x.book in
         inr (subst (IsOver sc N) (sym y_is) (record {
           b = b;
@@ -135,49 +135,49 @@ settles-off sc N hands b q sent x room hands_are keeps off all_sent nodes is nee
           of = inr (suc b, book ∙ ap (λ hands. (moment sc hands (suc b)).book) (sym hands_are));
           ended = ended;
           silent = silent;
-          small = runs-small sc N hands b q sent x.sites keeps off nodes;
+          small = runs-small N keeps off nodes;
           sent = sent;
           nodes = subst (λ hands. N q hands b sent x.sites) (sym hands_are) nodes.nodes;
           ports = ports;
         }))
 
 -- after the first due event the run still breaks off, or it is over
-happens-off : (sc : Scenario) (N : ℕ → List HandIn → ℕ → (Side → ℕ → ℕ → Bool) → Each Site → Type 0) (b q : ℕ) (sent : Side → ℕ → ℕ → Bool) (w : World) (d : Due) → IsLawful sc → HasRoom sc.plan → KeepsNodes sc q (N q)
+happens-off : {sc : Scenario} (N : ℕ → List HandIn → ℕ → (Side → ℕ → ℕ → Bool) → Each Site → Type 0) {b q : ℕ} {sent : Side → ℕ → ℕ → Bool} {w : World} {d : Due} → IsLawful sc → HasRoom sc.plan → KeepsNodes sc q (N q)
     → BreaksAt sc w.hands b q → AllSent sc w.hands b sent → NodesOff sc N w.hands b q sent w.sites → w.book ≡ (moment sc w.hands b).book → needs_no_event sc w.book.upcoming ≡ false
     → (due : IsDue w d) → FirstOf sc w.hands b due.t → PortsBreak sc w → BreaksOff sc N (take_if_due sc w (Some d)) ⊎ IsOver sc N (take_if_due sc w (Some d))
-happens-off sc N b q sent w d lawful room keeps off all_sent nodes is needs due first ports =
+happens-off {sc} N {b} {q} {sent} {w} {d} lawful room keeps off all_sent nodes is needs due first ports =
     let x : World = happens sc w d in
-    let x_is : x ≡ with_pending sc w d.side d.node due.s d.pending = happens-is sc w d due.s due.there in
-    let after = pending-off sc N b q sent w d.side d.node due.t due.s d.pending lawful room keeps off all_sent nodes due.there due.ready (all-pend w due.t due.first) first in
+    let x_is : x ≡ with_pending sc w d.side d.node due.s d.pending = happens-is sc w d due.there in
+    let after = pending-off N w d.side d.node d.pending lawful room keeps off all_sent nodes due.there due.ready (all-pend w due.t due.first) first in
     let same : x.book ≡ w.book = happens-book sc w d in
     let then_ports : PortsOff sc w.hands b (with_pending sc w d.side d.node due.s d.pending).ports (with_pending sc w d.side d.node due.s d.pending).sites =
-    ports-off sc N b q sent w d.side d.node due.t due.s d.pending lawful keeps off nodes due.there due.ready first (ports b q off) in
-    settles-off sc N w.hands b q sent x room (ap (λ (w : World). w.hands) x_is ∙ after.1) keeps off all_sent
+    ports-off N w d.side d.node d.pending lawful keeps off nodes due.there due.ready first (ports b q off) in
+    settles-off N x room (ap (λ (w : World). w.hands) x_is ∙ after.1) keeps off all_sent
     (subst (λ (x : World). NodesOff sc N w.hands b q sent x.sites) (sym x_is) after.0) (same ∙ is) (ap (λ (b : Book). needs_no_event sc b.upcoming) same ∙ needs)
-    (subst (PortsBreak sc) (sym x_is) (ports-break sc b q (with_pending sc w d.side d.node due.s d.pending) (subst (λ hands. BreaksAt sc hands b q) (sym after.1) off)
+    (subst (PortsBreak sc) (sym x_is) (ports-break (with_pending sc w d.side d.node due.s d.pending) (subst (λ hands. BreaksAt sc hands b q) (sym after.1) off)
     (subst (λ hands. PortsOff sc hands b (with_pending sc w d.side d.node due.s d.pending).ports (with_pending sc w d.side d.node due.s d.pending).sites) (sym after.1) then_ports)))
 
-pub take-off : (sc : Scenario) (N : ℕ → List HandIn → ℕ → (Side → ℕ → ℕ → Bool) → Each Site → Type 0) (w : World) (d : Due) → IsLawful sc → HasRoom sc.plan → ((q : ℕ) → q < 3 → KeepsNodes sc q (N q))
+pub take-off : {sc : _} (N : ℕ → List HandIn → ℕ → (Side → ℕ → ℕ → Bool) → Each Site → Type 0) {w d : _} → IsLawful sc → HasRoom sc.plan → ((q : ℕ) → q < 3 → KeepsNodes sc q (N q))
     → BreaksOff sc N w → IsDue w d → BreaksOff sc N (take_if_due sc w (Some d)) ⊎ IsOver sc N (take_if_due sc w (Some d))
-take-off sc N w d lawful room keeps h due =
+take-off {sc} N {w} lawful room keeps h due =
     let k : BreakStands sc N w.hands w.sites w.book = h.stands in
-    let yet : WaitsYet sc w.hands k.b w.sites = waits-yet sc N w.hands k.b k.q k.sent w.sites (keeps k.q k.off.small) k.off k.nodes k.open_still in
-    happens-off sc N k.b k.q k.sent w d lawful room (keeps k.q k.off.small) k.off k.all_sent k.nodes k.is k.needs due (first-of sc w.hands k.b due.t w.sites yet (all-pend w due.t due.first)) h.ports
+    let yet : WaitsYet sc w.hands k.b w.sites = waits-yet N (keeps k.q k.off.small) k.off k.nodes k.open_still in
+    happens-off N lawful room (keeps k.q k.off.small) k.off k.all_sent k.nodes k.is k.needs due (first-of due.t yet (all-pend w due.t due.first)) h.ports
 
 -- The first close.
 
 -- the run begins to break off when a node closes the stage while none is beyond it
-pub begins-off : (sc : Scenario) (N : ℕ → List HandIn → ℕ → (Side → ℕ → ℕ → Bool) → Each Site → Type 0) (now : ℕ) (at : Side → ℕ → ℕ) (w : World) (b q : ℕ) (d : Due) (k : ℕ) (st : NodeState) → IsLawful sc → HasRoom sc.plan
+pub begins-off : {sc : Scenario} (N : ℕ → List HandIn → ℕ → (Side → ℕ → ℕ → Bool) → Each Site → Type 0) {now : ℕ} {at : Side → ℕ → ℕ} {w : World} {b q : ℕ} {d : Due} {k : ℕ} {st : NodeState} → IsLawful sc → HasRoom sc.plan
     → KeepsNodes sc q (N q) → BreaksAt sc w.hands b q → WorldInRounds sc now at w → ((me : Side) (i : ℕ) (s : Site) → slice_get (of_kind me w.sites) i ≡ Some s → at me i ≤ b)
     → w.book ≡ (moment sc w.hands b).book → needs_no_event sc w.book.upcoming ≡ false → (due : IsDue w d) → d.pending ≡ Tick k → at d.side d.node ≡ b
     → slice_get (of_kind d.side (moment sc w.hands b).nodes) d.node ≡ Some st → is_good_at sc (moment sc w.hands b) d.side d.node ≡ true → k ≡ last_tick sc (moment sc w.hands b) d.side st
     → now ≤ due.t → due.t ≡ time_of (clock_of sc d.side d.node) k
     → BreaksOff sc N (take_if_due sc w (Some d)) ⊎ IsOver sc N (take_if_due sc w (Some d))
-begins-off sc N now at w b q d k st lawful room keeps off h bound is needs due tick here state good last later at_time =
+begins-off {sc} N {now} {at} {w} {b} {q} {d} {st} lawful room keeps off h bound is needs due tick here state good last later at_time =
     let hands : List HandIn = w.hands in
     let m : Moment = moment sc hands b in
     let stage : m.window < stages_in sc.sizes = let small = off.small in let window = off.window in omega (arith, small, window) in
-    let up_to : UpTo sc hands b = from-running sc hands lawful b stage off.running in
+    let up_to : UpTo sc hands b = from-running hands lawful b stage off.running in
     let pend : AllPend due.t w.sites = all-pend w due.t due.first in
     let time : due.t ≡ time_of (clock_of sc d.side d.node) (last_tick sc m d.side st) = at_time ∙ ap (time_of (clock_of sc d.side d.node)) last in
     let first : FirstCloses sc hands now at w.sites b due.t = record {
@@ -188,8 +188,8 @@ begins-off sc N now at w b q d k st lawful room keeps off h bound is needs due t
             | inr ge ↦ omega (arith, le, ge)
             | inl lt ↦
                 let no : b < b =
-                closes-before sc hands now due.t at w.sites b lawful later h.sites h.passed pend stage (record { me = side; i = j; s = z; there = there; runs = runs; place = inl lt })
-                (λ q lt within. up_to.times q (omega arith) within) up_to.well d.side d.node b (sym here) (record { st = st; state = state; good = good; time = time }) (omega arith) in
+                closes-before lawful later h.sites h.passed pend stage (record { me = side; i = j; s = z; there = there; runs = runs; place = inl lt })
+                (λ q lt within. up_to.times q (omega arith) within) up_to.well (sym here) (record { st = st; state = state; good = good; time = time }) (omega arith) in
                 absurd (omega (arith, no))
           ];
       me = d.side;
@@ -201,7 +201,7 @@ begins-off sc N now at w b q d k st lawful room keeps off h bound is needs due t
       pend = pend;
     } in
     let runs : (me : Side) (i : ℕ) (s : Site) → slice_get (of_kind me w.sites) i ≡ Some s → is_good_at sc m me i ≡ true → s.runs ≡ true =
-    λ me i s there good. runs-there sc hands now at w.sites h.sites me i s there (good-back sc hands (at me i) b me i (bound me i s there) good) in
+    λ me i s there good. runs-there h.sites me i there (good-back sc hands (at me i) b me i (bound me i s there) good) in
     let sent : Side → ℕ → ℕ → Bool = sent_by sc hands at w.sites in
     let nodes : NodesOff sc N hands b q sent w.sites = record {
       nodes = keeps.begins hands b off now at w.sites due.t first;
@@ -218,10 +218,10 @@ begins-off sc N now at w b q d k st lawful room keeps off h bound is needs due t
     let counted : n < count_of (other me) sc.sizes = good_counts sc (other me) n m.frame (slot_numbered sc.sizes m.window) good in
     let long : length (of_kind (other me) w.sites) ≡ count_of (other me) sc.sizes = h.sites.counts (other me) in
     let z = item-at (of_kind (other me) w.sites) n (omega (arith, counted, long)) in
-    all-have-sent sc hands lawful now at w.sites b q due.t off.running off.small off.window first me i n z.0 z.1 (runs (other me) n z.0 z.1 good) in
-    happens-off sc N b q sent w d lawful room keeps off all_sent nodes is needs due
+    all-have-sent lawful q off.running off.small off.window first me i n z.1 (runs (other me) n z.0 z.1 good) in
+    happens-off N lawful room keeps off all_sent nodes is needs due
     (record { you = d.side; j = d.node; yours = st; there = state; good = good; first = omega (arith, time) })
-    (ports-break sc b q w off (λ i s there good.
+    (ports-break w off (λ i s there good.
     let up : s.runs ≡ true = runs Biu i s there good in
     let here : at Biu i ≡ b = first.together Biu i s there up in
     inl (record {
@@ -230,15 +230,15 @@ begins-off sc N now at w b q d k st lawful room keeps off h bound is needs due t
     })))
 
 -- a node whose tick may come next has ticks left
-pub left-off : (sc : Scenario) (N : ℕ → List HandIn → ℕ → (Side → ℕ → ℕ → Bool) → Each Site → Type 0) (w : World) → IsLawful sc → ((q : ℕ) → q < 3 → KeepsNodes sc q (N q)) → BreaksOff sc N w
+pub left-off : {sc : _} (N : ℕ → List HandIn → ℕ → (Side → ℕ → ℕ → Bool) → Each Site → Type 0) {w : _} → IsLawful sc → ((q : ℕ) → q < 3 → KeepsNodes sc q (N q)) → BreaksOff sc N w
     → (me : Side) (i : ℕ) (s : Site) (a : Timed) → slice_get (of_kind me w.sites) i ≡ Some s → s.ahead ≡ Some a → AllPend a.time w.sites → (s.core.had ≤ a.tick) × (a.tick < 2 ^ 31)
-left-off sc N w lawful keeps h me i s a there pend first =
+left-off {sc} N {w} lawful keeps h me i s a there pend first =
     let k : BreakStands sc N w.hands w.sites w.book = h.stands in
     let its : KeepsNodes sc k.q (N k.q) = keeps k.q k.off.small in
-    let yet : WaitsYet sc w.hands k.b w.sites = waits-yet sc N w.hands k.b k.q k.sent w.sites its k.off k.nodes k.open_still in
+    let yet : WaitsYet sc w.hands k.b w.sites = waits-yet N its k.off k.nodes k.open_still in
     let ahead = its.ahead w.hands k.b k.off k.sent w.sites k.nodes.nodes me i s there a pend in
     let good : is_good_at sc (moment sc w.hands k.b) me i ≡ true = elim (its.goes w.hands k.b k.off k.sent w.sites k.nodes.nodes me i s there) [ inl stopped ↦ none-some a s.ahead stopped.ahead pend | inr good ↦ good ] in
-    let later : HasLater sc a.time me i = has-later sc w.hands lawful k.b k.q a.time k.off (first-of sc w.hands k.b a.time w.sites yet first) me i good in
+    let later : HasLater sc a.time me i = has-later lawful k.off (first-of a.time yet first) me i good in
     let small = later.small in
     let after = later.later in
     elim (cases_lt a.tick later.k) [

@@ -33,42 +33,42 @@ abbrev pub PortsBreak : Scenario → World → Type 0
 PortsBreak sc w = (b q : ℕ) → BreaksAt sc w.hands b q → PortsOff sc w.hands b w.ports w.sites
 
 -- the run breaks off once
-pub breaks-once : (sc : Scenario) (hands : List HandIn) (b q c r : ℕ) → BreaksAt sc hands b q → BreaksAt sc hands c r → b ≡ c
-breaks-once sc hands b q c r off other =
-    let le : c ≤ b = breaks-later sc hands b q c off other.running in
-    let ge : b ≤ c = breaks-later sc hands c r b other off.running in
+pub breaks-once : {sc hands b q c r : _} → BreaksAt sc hands b q → BreaksAt sc hands c r → b ≡ c
+breaks-once {b} {c} off other =
+    let le : c ≤ b = breaks-later c off other.running in
+    let ge : b ≤ c = breaks-later b other off.running in
     omega (arith, le, ge)
 
-pub ports-break : (sc : Scenario) (b q : ℕ) (w : World) → BreaksAt sc w.hands b q → PortsOff sc w.hands b w.ports w.sites → PortsBreak sc w
-ports-break sc b q w off ports c r other = subst (λ n. PortsOff sc w.hands n w.ports w.sites) (breaks-once sc w.hands b q c r off other) ports
+pub ports-break : {sc b q : _} (w : World) → BreaksAt sc w.hands b q → PortsOff sc w.hands b w.ports w.sites → PortsBreak sc w
+ports-break {sc} w off ports c r other = subst (λ n. PortsOff sc w.hands n w.ports w.sites) (breaks-once off other) ports
 
 -- What stays.
 
 -- what holds at a site holds at one with the same row and port and no fewer ticks
-port-stays : (sc : Scenario) (hands : List HandIn) (b : ℕ) (ports more : List PortState) (i : ℕ) (s z : Site) → port_at sc more i ≡ port_at sc ports i → z.row ≡ s.row
+port-stays : {sc : Scenario} {hands : List HandIn} {b : ℕ} {ports : List PortState} (more : List PortState) {i : ℕ} {s : Site} (z : Site) → port_at sc more i ≡ port_at sc ports i → z.row ≡ s.row
     → s.core.had ≤ z.core.had → PortAt sc hands b ports i s → PortAt sc hands b more i z
-port-stays sc hands b ports more i s z port row had (inl waits) = inl (record { port = port ∙ waits.port; untold = λ r e. waits.untold r (sym row ∙ e) })
-port-stays sc hands b ports more i s z port row had (inr last) = inr (λ st there. let h = last st there in omega (arith, h, had))
+port-stays more z port row had (inl waits) = inl (record { port = port ∙ waits.port; untold = λ r e. waits.untold r (sym row ∙ e) })
+port-stays more z port row had (inr last) = inr (λ st there. let h = last st there in omega (arith, h, had))
 
-same-had : (a b : ℕ) → a ≡ b → b ≤ a
-same-had a b e = omega (arith, e)
+same-had : {a b : ℕ} → a ≡ b → b ≤ a
+same-had e = omega (arith, e)
 
 -- if one node changes and a message is on its way, the other ports stay
-changes-ports : (sc : Scenario) (hands : List HandIn) (b : ℕ) (ports more : List PortState) (sites : Each Site) (me : Side) (i frame k : ℕ) (m : Option Message) (change : Site → Site) (s : Site)
+changes-ports : {sc hands b ports : _} (more : List PortState) (sites : Each Site) (me : Side) (i frame k : ℕ) (m : Option Message) (change : Site → Site) {s : _}
     → slice_get (of_kind me sites) i ≡ Some s
     → ((j : ℕ) → is_node me i Biu j ≡ false → port_at sc more j ≡ port_at sc ports j)
     → (me ≡ Biu → is_good_at sc (moment sc hands b) Biu i ≡ true → PortAt sc hands b more i (change s))
     → PortsOff sc hands b ports sites → PortsOff sc hands b more (with_message sc me i frame k m (at_node me i change sites))
-changes-ports sc hands b ports more sites me i frame k m change s there same own h j z at good =
-    one-changes (λ side j r z. side ≡ Biu → is_good_at sc (moment sc hands b) Biu j ≡ true → PortAt sc hands b more j z) sc (λ side j. 0) sites me i frame k 0 m change s
+changes-ports {sc} {hands} {b} more sites me i frame k m change there same own h j z at good =
+    one-changes (λ side j r z. side ≡ Biu → is_good_at sc (moment sc hands b) Biu j ≡ true → PortAt sc hands b more j z) sc (λ side j. 0) sites me i frame k 0 m change
     (λ side j r z was is good.
-    port-stays sc hands b more more j z (reached sc me i frame k m side j z) refl (reached-tells sc me i frame k m side j z).0
-    (same-had (reached sc me i frame k m side j z).core.had z.core.had (ap (λ (c : Core). c.had) (reached-core sc me i frame k m side j z))) (was is good))
+    port-stays more (reached sc me i frame k m side j z) refl (reached-tells sc me i frame k m side j z).0
+    (same-had (ap (λ (c : Core). c.had) (reached-core sc me i frame k m side j z))) (was is good))
     there own others Biu j z at refl good
   where
     others : (side : Side) (j : ℕ) (z : Site) → is_node me i side j ≡ false → slice_get (of_kind side sites) j ≡ Some z → side ≡ Biu → is_good_at sc (moment sc hands b) Biu j ≡ true
         → PortAt sc hands b more j z
-    others Biu j z other e is good = port-stays sc hands b ports more j z z (same j other) refl (omega arith) (h j z e good)
+    others Biu j z other e is good = port-stays more z (same j other) refl (omega arith) (h j z e good)
     others Rmu j z other e is good = absurd (cc)
 
 -- A tick.
@@ -97,11 +97,11 @@ others-stay sc ports Biu i k c j other = port-kept sc i j (option_and_then (λ (
 others-stay sc ports Rmu i k c j other = ap (λ d. port_at sc (with_delivery sc i d ports) j) (rmu-ticks sc ports i k c)
 
 -- the next tick of a BIU is the last of the stage, or comes after it
-last-or-later : (sc : Scenario) (N : ℕ → List HandIn → ℕ → (Side → ℕ → ℕ → Bool) → Each Site → Type 0) (hands : List HandIn) (b q : ℕ) (sent : Side → ℕ → ℕ → Bool) (ports : List PortState) (sites : Each Site)
-    → (i : ℕ) (s : Site) (a : Timed) → IsLawful sc → KeepsNodes sc q (N q) → BreaksAt sc hands b q → NodesOff sc N hands b q sent sites → slice_get (of_kind Biu sites) i ≡ Some s → s.ahead ≡ Some a
+last-or-later : {sc : _} (N : ℕ → List HandIn → ℕ → (Side → ℕ → ℕ → Bool) → Each Site → Type 0) {hands b q sent ports sites : _}
+    → {i s a : _} → IsLawful sc → KeepsNodes sc q (N q) → BreaksAt sc hands b q → NodesOff sc N hands b q sent sites → slice_get (of_kind Biu sites) i ≡ Some s → s.ahead ≡ Some a
     → is_good_at sc (moment sc hands b) Biu i ≡ true → PortAt sc hands b ports i s
-    → (st : NodeState) → slice_get (of_kind Biu (moment sc hands b).nodes) i ≡ Some st → last_tick sc (moment sc hands b) Biu st ≤ a.tick
-last-or-later sc N hands b q sent ports sites i s a lawful keeps off h there pend good port st state = of-port port
+    → {st : _} → slice_get (of_kind Biu (moment sc hands b).nodes) i ≡ Some st → last_tick sc (moment sc hands b) Biu st ≤ a.tick
+last-or-later {sc} N {hands} {b} {sent} {ports} {sites} {i} {s} {a} lawful keeps off h there pend good port {st} state = of-port port
   where
     m : Moment
     m = moment sc hands b
@@ -110,7 +110,7 @@ last-or-later sc N hands b q sent ports sites i s a lawful keeps off h there pen
     clock = clock_of sc Biu i
 
     moves : Moves clock
-    moves = moves-of sc lawful Biu i (good-clock sc lawful Biu i m.frame (slot_numbered sc.sizes m.window) good)
+    moves = moves-of lawful Biu i (good-clock lawful Biu i m.frame (slot_numbered sc.sizes m.window) good)
 
     ahead : (s.core.had ≤ a.tick) × (a.time ≡ time_of clock a.tick)
     ahead = keeps.ahead hands b off sent sites h.nodes Biu i s there a pend
@@ -144,12 +144,12 @@ last-or-later sc N hands b q sent ports sites i s a lawful keeps off h there pen
       | inl runs ↦ elim (keeps.waits hands b off sent sites h.nodes Biu i s there runs good) [ inl last ↦ of-waits waits last | inr tells ↦ of-tells waits tells ]
     ]
 
-own-last : (sc : Scenario) (N : ℕ → List HandIn → ℕ → (Side → ℕ → ℕ → Bool) → Each Site → Type 0) (hands : List HandIn) (b q : ℕ) (sent : Side → ℕ → ℕ → Bool) (ports : List PortState) (sites : Each Site)
-    → (me : Side) (i : ℕ) (s : Site) (a : Timed) → IsLawful sc → KeepsNodes sc q (N q) → BreaksAt sc hands b q → NodesOff sc N hands b q sent sites → slice_get (of_kind me sites) i ≡ Some s → s.ahead ≡ Some a
+own-last : {sc : _} (N : ℕ → List HandIn → ℕ → (Side → ℕ → ℕ → Bool) → Each Site → Type 0) {hands b q sent ports sites : _}
+    → (me : Side) (i : ℕ) {s a : _} → IsLawful sc → KeepsNodes sc q (N q) → BreaksAt sc hands b q → NodesOff sc N hands b q sent sites → slice_get (of_kind me sites) i ≡ Some s → s.ahead ≡ Some a
     → FirstOf sc hands b a.time → PortsOff sc hands b ports sites → me ≡ Biu → is_good_at sc (moment sc hands b) Biu i ≡ true
     → HasHadLast sc hands b i (after_act sc ports me i (pass_and_tick sc ports me i a.tick s.core) s)
-own-last sc N hands b q sent ports sites Rmu i s a lawful keeps off h there pend first old is good = absurd (cc)
-own-last sc N hands b q sent ports sites Biu i s a lawful keeps off h there pend first old is good = λ st state.
+own-last N Rmu i lawful keeps off h there pend first old is good = absurd (cc)
+own-last {sc} N {hands} {b} {sent} {ports} {sites} Biu i {s} {a} lawful keeps off h there pend first old is good = λ st state.
     let ahead = keeps.ahead hands b off sent sites h.nodes Biu i s there a pend in
     let clock : Timeline = clock_of sc Biu i in
     let soon : a.time ≤ time_of (clock_of sc first.you first.j) (last_tick sc (moment sc hands b) first.you first.yours) = first.first in
@@ -161,9 +161,9 @@ own-last sc N hands b q sent ports sites Biu i s a lawful keeps off h there pend
       good = first.good;
       first = omega (arith, soon, ahead.1);
     } in
-    let le : last_tick sc (moment sc hands b) Biu st ≤ a.tick = last-or-later sc N hands b q sent ports sites i s a lawful keeps off h there pend good (old i s there good) st state in
+    let le : last_tick sc (moment sc hands b) Biu st ≤ a.tick = last-or-later N lawful keeps off h there pend good (old i s there good) state in
     let counted : (after_act sc ports Biu i (pass_and_tick sc ports Biu i a.tick s.core) s).core.had ≡ a.tick + 1 =
-    acted-had sc ports Biu i a.tick s (has-later sc hands lawful b q (time_of clock a.tick) off at_tick Biu i good) ahead.0 in
+    acted-had ports a.tick s (has-later lawful off at_tick Biu i good) ahead.0 in
     omega (arith, le, counted)
 
 -- Events.
@@ -175,25 +175,25 @@ arrival-had sc me i n c s =
     omega (arith, same.1)
 
 -- an event leaves the ports as they are in a run that breaks off
-pub ports-off : (sc : Scenario) (N : ℕ → List HandIn → ℕ → (Side → ℕ → ℕ → Bool) → Each Site → Type 0) (b q : ℕ) (sent : Side → ℕ → ℕ → Bool) (w : World) (me : Side) (i t : ℕ) (s : Site) (p : Pending)
+pub ports-off : {sc : _} (N : ℕ → List HandIn → ℕ → (Side → ℕ → ℕ → Bool) → Each Site → Type 0) {b q sent : _} (w : World) (me : Side) (i : ℕ) {t s : _} (p : Pending)
     → IsLawful sc → KeepsNodes sc q (N q) → BreaksAt sc w.hands b q → NodesOff sc N w.hands b q sent w.sites → slice_get (of_kind me w.sites) i ≡ Some s
     → IsReady t s p → FirstOf sc w.hands b t → PortsOff sc w.hands b w.ports w.sites
     → PortsOff sc w.hands b (with_pending sc w me i s p).ports (with_pending sc w me i s p).sites
 unfolding with_act
-ports-off sc N b q sent w me i t s (Tick k) lawful keeps off h there ready first old =
+ports-off {sc} N {b} w me i {t} {s} (Tick k) lawful keeps off h there ready first old =
     let a : Timed = ready.0 in
     let time : a.time ≡ t = ready.1.1.1.0 in
     let x : Act = pass_and_tick sc w.ports me i a.tick s.core in
     let more : List PortState = with_delivery sc i (option_and_then (λ (c : Closed). c.delivered) x.closed) w.ports in
     let soon : FirstOf sc w.hands b a.time = subst (FirstOf sc w.hands b) (sym time) first in
     let after : PortsOff sc w.hands b (with_act sc w me i a.tick x).ports (with_act sc w me i a.tick x).sites =
-    changes-ports sc w.hands b w.ports more w.sites me i x.core.state.frame a.tick x.message (after_act sc w.ports me i x) s there
+    changes-ports more w.sites me i x.core.state.frame a.tick x.message (after_act sc w.ports me i x) there
     (others-stay sc w.ports me i a.tick s.core)
-    (λ is good. inr (own-last sc N w.hands b q sent w.ports w.sites me i s a lawful keeps off h there ready.1.0 soon old is good)) old in
+    (λ is good. inr (own-last N me i lawful keeps off h there ready.1.0 soon old is good)) old in
     subst (λ k. PortsOff sc w.hands b (with_act sc w me i k (pass_and_tick sc w.ports me i k s.core)).ports (with_act sc w me i k (pass_and_tick sc w.ports me i k s.core)).sites) ready.1.1.0 after
-ports-off sc N b q sent w me i t s (Arrival n c) lawful keeps off h there ready first old =
+ports-off {sc} N w me i {s} (Arrival n c) lawful keeps off h there ready first old =
     let none : Option Message = None in
-    changes-ports sc w.hands b w.ports w.ports w.sites me i 0 0 none (after_arrival sc me i n c) s there (λ j other. refl)
+    changes-ports w.ports w.sites me i 0 0 none (after_arrival sc me i n c) there (λ j other. refl)
     (λ is good.
-    port-stays sc w.hands b w.ports w.ports i s (after_arrival sc me i n c s) refl (arrival-keeps sc me i n c s).0 (arrival-had sc me i n c s)
+    port-stays w.ports (after_arrival sc me i n c s) refl (arrival-keeps sc me i n c s).0 (arrival-had sc me i n c s)
     (old i s (subst (λ side. slice_get (of_kind side w.sites) i ≡ Some s) is there) good)) old

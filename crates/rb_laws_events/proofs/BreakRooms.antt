@@ -2,7 +2,7 @@
 -- which the run breaks off, no other has had all its ticks.
 use Rattle.std.proofs.{Common.{◌≡◌, ℕ, ◌+◌, ◌-◌, ◌*◌, ◌^◌, ◌<◌, ◌≤◌, true, List, ap, ◌∙◌, arith, inl, inr, lit≤}, lemmas.Bool.cases_lt, lemmas.Nat.mul-le}
 use Rattle.rb_base.specs.{Nodes.Side, Sizes.sync_slot_of}
-use Rattle.rb_rules.specs.{Clock.{stamp_of, time_of}, Core.{Act, Core, pass_to}, Goodness.{Scenario, clock_of, is_good}, Hearing.Coming, Lawful.IsLawful, NodeState.NodeState, Plan.tail_start_of, Ports.{HandIn, PortState}, Rounds.{Moment, moment}, WorldStep.{Site, after_act, after_arrival, pass_and_tick}}
+use Rattle.rb_rules.specs.{Clock.{stamp_of, time_of}, Core.{Act, Core, pass_to}, Goodness.{Scenario, clock_of, is_good}, Hearing.Coming, Lawful.IsLawful, NodeState.NodeState, Plan.tail_start_of, Ports.PortState, Rounds.{Moment, moment}, WorldStep.{Site, after_act, after_arrival, pass_and_tick}}
 use Rattle.rb_rules.proofs.{Drift.times_rise_to, QuietTicks.arrive-same, Stamps.Moves, WindowNumbers.sync-numbered}
 use Rattle.rb_laws_synchrony.proofs.{EpochTicks.frame_ticks, Times.stamp_to}
 use Rattle.rb_laws_agreement.proofs.{FrameTimes.good-clock, ExactAgrees.has_ticks}
@@ -15,38 +15,38 @@ pub record HasLater (sc : Scenario) (t : ℕ) (me : Side) (i : ℕ) : Type 0 whe
   pub small : k < 2 ^ 31
   pub later : t < time_of (clock_of sc me i) k
 
-pub has-later : (sc : Scenario) (hands : List HandIn) → IsLawful sc → (b q t : ℕ) → BreaksAt sc hands b q → FirstOf sc hands b t → (me : Side) (i : ℕ)
+pub has-later : {sc hands : _} → IsLawful sc → {b q t : ℕ} → BreaksAt sc hands b q → FirstOf sc hands b t → (me : Side) (i : ℕ)
     → is_good_at sc (moment sc hands b) me i ≡ true → HasLater sc t me i
-has-later sc hands lawful b q t off first me i good =
+has-later {sc} {hands} lawful {b} off first me i good =
     let m : Moment = moment sc hands b in
     let you : Side = first.you in
     let j : ℕ = first.j in
     let yours : NodeState = first.yours in
-    let state = good-state sc hands b me i (has_ticks sc lawful) good in
+    let state = good-state sc hands b me i (has_ticks lawful) good in
     let st : NodeState = state.0 in
-    let well : BegunWell sc m = begun-well sc hands lawful b off.running in
+    let well : BegunWell sc m = begun-well hands lawful b off.running in
     let small = off.small in
     let window = off.window in
     let a : ℕ = last_of sc.sizes sc.plan you yours (3 * sync_slot_of sc.sizes + 2) in
     let end : ℕ = tail_start_of sc.sizes sc.plan + last_of sc.sizes sc.plan me st 0 in
-    let rooms : Apart sc.plan a end = apart-turn sc.sizes sc.plan you me yours st (fits sc.sizes sc.plan lawful.plan lawful.feasible) lawful.plan.l.0 (shortest-some sc lawful) in
-    let yours_good = good-node sc m you j yours first.there first.good in
+    let rooms : Apart sc.plan a end = apart-turn you me yours st (fits lawful.plan lawful.feasible) lawful.plan.l.0 (shortest-some lawful) in
+    let yours_good = good-node sc m you j first.there first.good in
     let early : time_of (clock_of sc you j) (yours.epoch + a) < time_of (clock_of sc me i) (st.epoch + end) =
-    times-apart sc lawful (clock_of sc you j) (clock_of sc me i) yours.epoch st.epoch a end (good-clock sc lawful you j m.frame (slot_numbered sc.sizes m.window) first.good)
-    (good-clock sc lawful me i m.frame (slot_numbered sc.sizes m.window) good)
+    times-apart lawful (clock_of sc you j) (clock_of sc me i) yours.epoch st.epoch (good-clock lawful you j m.frame (slot_numbered sc.sizes m.window) first.good)
+    (good-clock lawful me i m.frame (slot_numbered sc.sizes m.window) good)
     (well.together you me j i yours st (first.there, ap (is_good sc you j m.frame) (slot-is sc.sizes sc.plan you yours m.window) ∙ first.good)
     (state.1, ap (is_good sc me i m.frame) (slot-is sc.sizes sc.plan me st m.window) ∙ good)) rooms in
     let before : last_of sc.sizes sc.plan you yours m.window < first_of sc.sizes sc.plan you yours (stages_in sc.sizes) =
-    ends-before-later sc.sizes sc.plan you yours m.window (stages_in sc.sizes) (has_ticks sc lawful) (omega (arith, small, window)) (omega arith) in
+    ends-before-later sc.sizes you yours m.window (stages_in sc.sizes) (has_ticks lawful) (omega (arith, small, window)) (omega arith) in
     let tail : first_of sc.sizes sc.plan you yours (stages_in sc.sizes) ≡ tail_start_of sc.sizes sc.plan = ap (λ w. w.first) (sync-numbered sc.sizes sc.plan you yours 3) in
     let last : a ≡ _ = last-third-call sc.sizes sc.plan you yours in
     let up : time_of (clock_of sc you j) (last_tick sc m you yours) ≤ time_of (clock_of sc you j) (yours.epoch + a) =
     times_rise_to (clock_of sc you j) (last_tick sc m you yours) (yours.epoch + a) (omega (arith, before, tail, last)) in
     let ft : ℕ = frame_ticks sc.sizes sc.plan in
-    let few : ft ≤ 341000 = few-ticks sc.sizes sc.plan lawful.sizes lawful.plan in
+    let few : ft ≤ 341000 = few-ticks lawful.sizes lawful.plan in
     let all : m.frame * ft ≤ 4096 * 341000 = mul-le m.frame ft 4096 341000 well.within few in
     let big : 4096 * 341000 + 341000 + 1000 ≤ 2 ^ 31 = lit≤ tt in
-    let begun : st.epoch ≤ m.frame * ft = well.by_then me i st (good-node sc m me i st state.1 good) in
+    let begun : st.epoch ≤ m.frame * ft = well.by_then me i st (good-node sc m me i state.1 good) in
     let first_last : last_of sc.sizes sc.plan me st 0 ≡ 0 * sc.plan.l + sc.plan.l - 1 = last-same sc.sizes sc.plan me st 0 (omega arith) in
     let l : sc.plan.l ≤ 1000 = lawful.plan.l.1 in
     let some : 1 ≤ sc.plan.l = lawful.plan.l.0 in
@@ -54,8 +54,8 @@ has-later sc hands lawful b q t off first me i good =
     record { k = st.epoch + end; small = omega (arith, all, few, big, begun, first_last, l, some); later = omega (arith, le, up, early) }
 
 -- a tick that comes before that one is below 2^31
-before-later : (sc : Scenario) (me : Side) (i k : ℕ) → (h : HasLater sc (time_of (clock_of sc me i) k) me i) → k < h.k
-before-later sc me i k h = elim (cases_lt k h.k) [
+before-later : {sc me i : _} (k : ℕ) → (h : HasLater sc (time_of (clock_of sc me i) k) me i) → k < h.k
+before-later {sc} {me} {i} k h = elim (cases_lt k h.k) [
   | inl lt ↦ lt
   | inr ge ↦
       let up : time_of (clock_of sc me i) h.k ≤ time_of (clock_of sc me i) k = times_rise_to (clock_of sc me i) h.k k ge in
@@ -63,13 +63,13 @@ before-later sc me i k h = elim (cases_lt k h.k) [
       absurd (omega (arith, up, later))
 ]
 
-pub acted-had : (sc : Scenario) (ports : List PortState) (me : Side) (i k : ℕ) (s : Site) (h : HasLater sc (time_of (clock_of sc me i) k) me i) → s.core.had ≤ k
+pub acted-had : {sc : _} (ports : List PortState) {me i : _} (k : ℕ) (s : Site) (h : HasLater sc (time_of (clock_of sc me i) k) me i) → s.core.had ≤ k
     → (after_act sc ports me i (pass_and_tick sc ports me i k s.core) s).core.had ≡ k + 1
 unfolding pass_and_tick
-acted-had sc ports me i k s h had =
+acted-had {sc} ports {me} {i} k s h had =
     let x : Act = pass_and_tick sc ports me i k s.core in
     let z : Site = after_act sc ports me i x s in
-    let below : k < h.k = before-later sc me i k h in
+    let below : k < h.k = before-later k h in
     let small = h.small in
     let passed : (pass_to k s.core).had ≡ k = omega (arith, had) in
     let ticked : x.core.had ≡ (pass_to k s.core).had + 1 = tick-had sc.sizes sc.plan me i (pass_to k s.core) _ (omega (arith, passed, below, small)) in
@@ -77,17 +77,17 @@ acted-had sc ports me i k s h had =
     omega (arith, core, ticked, passed)
 
 -- after an act the core has still had fewer than 2^31 ticks
-pub acted-small : (sc : Scenario) (ports : List PortState) (me : Side) (i k : ℕ) (s : Site) (h : HasLater sc (time_of (clock_of sc me i) k) me i) → s.core.had ≤ k
+pub acted-small : {sc : _} (ports : List PortState) {me i : _} (k : ℕ) (s : Site) (h : HasLater sc (time_of (clock_of sc me i) k) me i) → s.core.had ≤ k
     → (after_act sc ports me i (pass_and_tick sc ports me i k s.core) s).core.had < 2 ^ 31
-acted-small sc ports me i k s h had =
-    let counted : (after_act sc ports me i (pass_and_tick sc ports me i k s.core) s).core.had ≡ k + 1 = acted-had sc ports me i k s h had in
-    let below : k < h.k = before-later sc me i k h in
+acted-small {sc} ports {me} {i} k s h had =
+    let counted : (after_act sc ports me i (pass_and_tick sc ports me i k s.core) s).core.had ≡ k + 1 = acted-had ports k s h had in
+    let below : k < h.k = before-later k h in
     let small = h.small in
     omega (arith, counted, below, small)
 
-pub arrived-small : (sc : Scenario) (me : Side) (i n : ℕ) (c : Coming) (s : Site) → Moves (clock_of sc me i) → HasLater sc c.time me i → s.core.had < 2 ^ 31 → (after_arrival sc me i n c s).core.had < 2 ^ 31
+pub arrived-small : {sc me i : _} (n : ℕ) (c : Coming) (s : Site) → Moves (clock_of sc me i) → HasLater sc c.time me i → s.core.had < 2 ^ 31 → (after_arrival sc me i n c s).core.had < 2 ^ 31
 unfolding after_arrival
-arrived-small sc me i n c s moves h had =
+arrived-small {sc} {me} {i} n c s moves h had =
     let stamp : ℕ = stamp_of (clock_of sc me i) c.time in
     let later = h.later in
     let in_time : stamp ≤ h.k = stamp_to (clock_of sc me i) moves c.time h.k (omega (arith, later)) in

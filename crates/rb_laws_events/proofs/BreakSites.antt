@@ -58,9 +58,9 @@ pub record HasTold (sc : Scenario) (hands : List HandIn) (C : Course) (me : Side
   pub course : C hands p me i st s.core s.ahead
 
 -- a node that has told its row goes on if its row stays
-unfoldable pub told-on : (sc : Scenario) (hands : List HandIn) (C : Course) (me : Side) (i p : ℕ) (s z : Site) → (h : HasTold sc hands C me i p s) → z.row ≡ s.row → C hands p me i h.st z.core z.ahead
+unfoldable pub told-on : {sc hands : _} (C : Course) {me i p s : _} (z : Site) → (h : HasTold sc hands C me i p s) → z.row ≡ s.row → C hands p me i h.st z.core z.ahead
     → HasTold sc hands C me i p z
-told-on sc hands C me i p s z h row course = record { st = h.st; state = h.state; good = h.good; row = h.row; told = row ∙ h.told; is = h.is; course = course }
+told-on C z h row course = record { st = h.st; state = h.state; good = h.good; row = h.row; told = row ∙ h.told; is = h.is; course = course }
 
 -- a node at which nothing happens any more
 pub record HasStopped (s : Site) : Type 0 where
@@ -105,10 +105,10 @@ arrival-had sc me i n c s a moves before at_time had =
     let least : s.core.had ≤ passed.had = omega arith in
     (same.0, (omega (arith, same.1, most), omega (arith, same.1, least)))
 
-pub deaf-arrives : (sc : Scenario) (hands : List HandIn) (me : Side) (i p n : ℕ) (c : Coming) (s : Site) → Moves (clock_of sc me i) → (h : WaitsDeaf sc hands me i p s) → c.time ≤ h.a.time
+pub deaf-arrives : {sc hands me i p : _} (n : ℕ) (c : Coming) {s : _} → Moves (clock_of sc me i) → (h : WaitsDeaf sc hands me i p s) → c.time ≤ h.a.time
     → WaitsDeaf sc hands me i p (after_arrival sc me i n c s)
 unfolding after_arrival
-deaf-arrives sc hands me i p n c s moves h before =
+deaf-arrives {sc} {hands} {me} {i} {p} n c {s} moves h before =
     let m : Moment = moment sc hands p in
     let kept = arrival-had sc me i n c s h.a moves before h.at_time h.had in
     record {
@@ -127,18 +127,18 @@ deaf-arrives sc hands me i p n c s moves h before =
       last = h.last;
     }
 
-pub closed-arrives : (sc : Scenario) (hands : List HandIn) (me : Side) (i p n : ℕ) (c : Coming) (s : Site) (st : NodeState) → Moves (clock_of sc me i) → InFrame sc hands p me i st s.core s.ahead
+pub closed-arrives : {sc : _} (hands : List HandIn) (me : Side) (i p n : ℕ) (c : Coming) (s : Site) (st : NodeState) → Moves (clock_of sc me i) → InFrame sc hands p me i st s.core s.ahead
     → ((a : Timed) → s.ahead ≡ Some a → c.time ≤ a.time) → InFrame sc hands p me i st (after_arrival sc me i n c s).core (after_arrival sc me i n c s).ahead
 unfolding after_arrival
-closed-arrives sc hands me i p n c s st moves h before =
+closed-arrives {sc} hands me i p n c s st moves h before =
     let m : Moment = moment sc hands p in
     let passed : Core = pass_to (stamp_of (clock_of sc me i) c.time) s.core in
     let more : s.core.had ≤ passed.had = omega arith in
     let later : IsPast sc.sizes sc.plan me st.frame st.epoch (m.window + 1) passed.state passed.had =
-    past-kept sc.sizes sc.plan me i st.frame st.epoch (m.window + 1) s.core.state s.core.state s.core.had passed.had (like-itself sc.sizes sc.plan me i s.core.state) refl more h.past in
+    past-kept passed.had (like-itself sc.sizes sc.plan me i s.core.state) refl more h.past in
     record {
       keeps = λ deaf. subst (KeepsTime sc.sizes sc.plan me) (sym (arrive-same sc.sizes me passed c.from c.bytes).0) (h.keeps deaf);
-      past = past-arrival sc.sizes sc.plan me st.frame st.epoch (m.window + 1) passed c.from c.bytes later;
+      past = past-arrival passed c.from c.bytes later;
       ahead = λ a e.
           let was = h.ahead a e in
           ((arrival-had sc me i n c s a moves (before a e) was.1 was.0).1.0, was.1);
@@ -171,7 +171,7 @@ awaits sc me i more s = record {
     by (Some k) is a e =
         let same : (let t : Timed = record { tick = k; time = time_of (clock_of sc me i) k } in t) ≡ a = cc in
         subst (λ (a : Timed). PendsNext sc me i s.core a) same
-        (record { next = is; later = busy-later sc.sizes sc.plan me i s.core.state (2 ^ 31 - s.core.had) s.core.had k is; at_time = refl })
+        (record { next = is; later = busy-later sc.sizes sc.plan me i s.core.state (2 ^ 31 - s.core.had) s.core.had is; at_time = refl })
 
 none-pends : (sc : Scenario) (me : Side) (i : ℕ) (s : Site) → Proceeds sc me i s.row s.core (stop s)
 none-pends sc me i s = record { row_is = refl; core_is = refl; ahead = λ a e. absurd (cc) }
@@ -210,34 +210,34 @@ acted sc ports me i x s =
     close-core (Some c) s = refl
 
 -- a node that has told its row tells nothing at a tick before the last of the next window
-pub closed-ticks : (sc : Scenario) (hands : List HandIn) (ports : List PortState) (me : Side) (i p k : ℕ) (s : Site) → HasTicks sc.plan → (moment sc hands p).window + 1 ≤ stages_in sc.sizes
+pub closed-ticks : {sc : Scenario} {hands : List HandIn} (ports : List PortState) {me : Side} {i p : ℕ} (k : ℕ) {s : Site} → HasTicks sc.plan → (moment sc hands p).window + 1 ≤ stages_in sc.sizes
     → (h : HasClosed sc hands me i p s) → s.core.had ≤ k → k < s.core.state.epoch + last_of sc.sizes sc.plan me s.core.state ((moment sc hands p).window + 1)
     → HasClosed sc hands me i p (after_act sc ports me i (pass_and_tick sc ports me i k s.core) s)
 unfolding pass_and_tick
-closed-ticks sc hands ports me i p k s ticks le h had before =
+closed-ticks {sc} {hands} ports {me} {i} {p} k {s} ticks le h had before =
     let n : ℕ = (moment sc hands p).window + 1 in
     let c : Core = pass_to k s.core in
     let c_had : c.had ≡ k = omega arith in
     let x : Act = pass_and_tick sc ports me i k s.core in
     let later : IsPast sc.sizes sc.plan me h.st.frame h.st.epoch n c.state c.had =
-    past-kept sc.sizes sc.plan me i h.st.frame h.st.epoch n s.core.state s.core.state s.core.had c.had (like-itself sc.sizes sc.plan me i s.core.state) refl (omega arith) h.course.past in
-    let none : TellsNone sc.sizes sc.plan me i h.st.frame h.st.epoch n s.core.state x = past-tick sc.sizes sc.plan me i h.st.frame h.st.epoch n c _ ticks le later (omega arith) in
+    past-kept c.had (like-itself sc.sizes sc.plan me i s.core.state) refl (omega arith) h.course.past in
+    let none : TellsNone sc.sizes sc.plan me i h.st.frame h.st.epoch n s.core.state x = past-tick i c _ ticks le later (omega arith) in
     let z : Site = after_act sc ports me i x s in
     let go : Proceeds sc me i (with_close me i x.core.state x.closed (record s { core = x.core })).row x.core z = acted sc ports me i x s in
     let row : z.row ≡ s.row = go.row_is ∙ ap (λ c. (with_close me i x.core.state c (record s { core = x.core })).row) none.closed in
-    told-on sc hands (InFrame sc) me i p s z h row (record {
+    told-on (InFrame sc) z h row (record {
       past = subst (λ (c : Core). IsPast sc.sizes sc.plan me h.st.frame h.st.epoch n c.state c.had) (sym go.core_is) none.past;
-      keeps = λ deaf. subst (λ (c : Core). KeepsTime sc.sizes sc.plan me c.state) (sym go.core_is) (like-keeps sc.sizes sc.plan me i s.core.state x.core.state none.like (h.course.keeps deaf));
+      keeps = λ deaf. subst (λ (c : Core). KeepsTime sc.sizes sc.plan me c.state) (sym go.core_is) (like-keeps none.like (h.course.keeps deaf));
       ahead = λ a e. let was = go.ahead a e in (subst (λ (c : Core). c.had ≤ a.tick) (sym go.core_is) was.later, was.at_time);
     })
 
 -- a node that closes the window with what the rounds tell of it has told its row
-pub closes-told : (sc : Scenario) (hands : List HandIn) (ports : List PortState) (me : Side) (i p k : ℕ) (s : Site) (st : NodeState) (x : Act)
+pub closes-told : {sc : _} (hands : List HandIn) (ports : List PortState) {me i : _} (p : ℕ) {k s st x : _}
     → slice_get (of_kind me (moment sc hands p).nodes) i ≡ Some st → is_good_at sc (moment sc hands p) me i ≡ true → ShowsRounds sc (moment sc hands p) me i st s k x → ((window_in sc (moment sc hands p) me st).stage == 4) ≡ false
     → IsPast sc.sizes sc.plan me st.frame st.epoch ((moment sc hands p).window + 1) x.core.state x.core.had
     → (listens me Sync (window_in sc (moment sc hands p) me st).stage ≡ false → KeepsTime sc.sizes sc.plan me x.core.state)
     → HasClosed sc hands me i p (after_act sc ports me i x s)
-closes-told sc hands ports me i p k s st x there good h stage past keeps =
+closes-told {sc} hands ports {me} {i} p {s} {st} {x} there good h stage past keeps =
     let m : Moment = moment sc hands p in
     let w : Window = window_in sc m me st in
     let z : Site = after_act sc ports me i x s in

@@ -12,10 +12,10 @@ use Rattle.rb_laws_events.proofs.{PlanNumbers.{fits, closes-first}, RoundNodes.{
 
 -- a node that closes at offset o is before one that closes at offset m, if the two began at most p
 -- apart
-pub times-apart : (sc : Scenario) → IsLawful sc → (a b : Timeline) (mine yours o m : ℕ) → HasLengths (shortest_of sc.plan) (longest_of sc.plan) a
+pub times-apart : {sc : _} → IsLawful sc → (a b : Timeline) (mine yours : ℕ) {o m : ℕ} → HasLengths (shortest_of sc.plan) (longest_of sc.plan) a
     → HasLengths (shortest_of sc.plan) (longest_of sc.plan) b → time_of a mine ≤ time_of b yours + sc.plan.p → Apart sc.plan o m
     → time_of a (mine + o) < time_of b (yours + m)
-times-apart sc lawful a b mine yours o m lengths_a lengths_b apart rooms =
+times-apart {sc} lawful a b mine yours {o} {m} lengths_a lengths_b apart rooms =
     let u : ℕ = shortest_of sc.plan in
     let d : ℕ = 2 * sc.plan.r in
     let r : sc.plan.r < sc.plan.u = lawful.plan.r in
@@ -66,9 +66,9 @@ pub record WasGood (sc : Scenario) (m : Moment) (me : Side) (i : ℕ) (epoch : �
   pub good : IsGoodIn sc m me i st
   pub epoch_is : epoch ≡ st.epoch
 
-pub was-good : (sc : Scenario) (hands : List HandIn) (m : Moment) (me : Side) (i : ℕ) (st : NodeState) → m.window < windows_in sc.sizes → AllStand sc m
+pub was-good : {sc : Scenario} (hands : List HandIn) {m : Moment} {me : Side} {i : ℕ} {st : NodeState} → m.window < windows_in sc.sizes → AllStand sc m
     → IsGoodIn sc (step sc hands m) me i st → WasGood sc m me i st.epoch
-was-good sc hands m me i st inside stand good =
+was-good {sc} hands {m} {me} {i} {st} inside stand good =
     let next : IsWindowLater sc m (step sc hands m) = window-later sc hands m inside in
     let at : ℕ = slot_numbered sc.sizes (step sc hands m).window in
     let slots : is_good sc me i (step sc hands m).frame at ≡ true =
@@ -91,28 +91,27 @@ was-good sc hands m me i st inside stand good =
       epoch_is = ap (λ s. s.epoch) (sym same) ∙ (through-stays sc m (sent_in sc m) me i old.0 (window_in sc m me old.0)).epoch;
     }
 
-pub shortest-some : (sc : Scenario) → IsLawful sc → 1 ≤ shortest_of sc.plan
-shortest-some sc lawful = let r : sc.plan.r < sc.plan.u = lawful.plan.r in omega arith
+pub shortest-some : {sc : _} → IsLawful sc → 1 ≤ shortest_of sc.plan
+shortest-some {sc} lawful = let r : sc.plan.r < sc.plan.u = lawful.plan.r in omega arith
 
 -- In a frame.
 
-pub next-in-order : (sc : Scenario) (hands : List HandIn) → IsLawful sc → (n : ℕ) → HaveBegunTogether sc (moment sc hands n)
+pub next-in-order : {sc : _} (hands : List HandIn) → IsLawful sc → (n : ℕ) → HaveBegunTogether sc (moment sc hands n)
     → (moment sc hands n).window + 1 < stages_in sc.sizes → CloseInOrder sc (moment sc hands n) (moment sc hands (suc n))
-next-in-order sc hands lawful n together below me you i j mine yours good other =
+next-in-order {sc} hands lawful n together below me you i j mine yours good other =
     let m : Moment = moment sc hands n in
     let inside : m.window < windows_in sc.sizes = omega arith in
-    let was : WasGood sc m you j yours.epoch = was-good sc hands m you j yours inside (moments-stand sc hands n (has_ticks sc lawful)) other in
+    let was : WasGood sc m you j yours.epoch = was-good hands inside (moments-stand sc hands n (has_ticks lawful)) other in
     let rooms : Apart sc.plan (last_of sc.sizes sc.plan me mine m.window) (last_of sc.sizes sc.plan you yours (m.window + 1)) =
-    apart-next sc.sizes sc.plan me you mine yours m.window (fits sc.sizes sc.plan lawful.plan lawful.feasible) lawful.plan.l.0
-    (shortest-some sc lawful) below in
+    apart-next me you mine yours m.window (fits lawful.plan lawful.feasible) lawful.plan.l.0
+    (shortest-some lawful) below in
     let e : was.st.epoch ≡ yours.epoch = sym was.epoch_is in
     let apart : time_of (clock_of sc me i) mine.epoch ≤ time_of (clock_of sc you j) yours.epoch + sc.plan.p =
     subst (λ k. time_of (clock_of sc me i) mine.epoch ≤ time_of (clock_of sc you j) k + sc.plan.p) e (together me you i j mine was.st good was.good) in
     let now : time_of (clock_of sc me i) (mine.epoch + last_of sc.sizes sc.plan me mine m.window)
     < time_of (clock_of sc you j) (yours.epoch + last_of sc.sizes sc.plan you yours (m.window + 1)) =
-    times-apart sc lawful (clock_of sc me i) (clock_of sc you j) mine.epoch yours.epoch (last_of sc.sizes sc.plan me mine m.window)
-    (last_of sc.sizes sc.plan you yours (m.window + 1)) (good-clock sc lawful me i m.frame (window_in sc m me mine).slot good.1)
-    (good-clock sc lawful you j m.frame (window_in sc m you was.st).slot was.good.1) apart rooms in
+    times-apart lawful (clock_of sc me i) (clock_of sc you j) mine.epoch yours.epoch (good-clock lawful me i m.frame (window_in sc m me mine).slot good.1)
+    (good-clock lawful you j m.frame (window_in sc m you was.st).slot was.good.1) apart rooms in
     subst (λ w. time_of (clock_of sc me i) (mine.epoch + last_of sc.sizes sc.plan me mine m.window)
     < time_of (clock_of sc you j) (yours.epoch + last_of sc.sizes sc.plan you yours w)) (sym (window-later sc hands m inside).window) now
 
@@ -133,10 +132,10 @@ turns-after sc hands n e =
     let second : (moment sc hands (suc (suc n))).window ≡ (moment sc hands (suc n)).window + 1 = b.window in
     record { in_tail = a; at_end = b; turned = frame-later sc hands (moment sc hands (suc (suc n))) (omega arith) }
 
-pub turn-in-order : (sc : Scenario) (hands : List HandIn) → IsLawful sc → (n : ℕ) → HaveBegunTogether sc (moment sc hands n)
+pub turn-in-order : {sc : _} (hands : List HandIn) → IsLawful sc → (n : ℕ) → HaveBegunTogether sc (moment sc hands n)
     → (moment sc hands n).window + 1 ≡ stages_in sc.sizes → HaveBegunAFrame sc (moment sc hands n) (moment sc hands (suc (suc (suc n))))
     → CloseInOrder sc (moment sc hands n) (moment sc hands (suc (suc (suc n))))
-turn-in-order sc hands lawful n together at_last frame me you i j mine yours good other =
+turn-in-order {sc} hands lawful n together at_last frame me you i j mine yours good other =
     let m : Moment = moment sc hands n in
     let later : Moment = moment sc hands (suc (suc (suc n))) in
     let turns : TurnsAfter sc hands m (moment sc hands (suc n)) (moment sc hands (suc (suc n))) later = turns-after sc hands n at_last in
@@ -145,7 +144,7 @@ turn-in-order sc hands lawful n together at_last frame me you i j mine yours goo
     ap (λ f. is_good sc you j f (window_in sc later you yours).slot) (sym frames) ∙ other.1 in
     let before : is_good sc you j m.frame (slot_numbered sc.sizes m.window) ≡ true =
     good_before sc you j m.frame (m.frame + 1) (slot_numbered sc.sizes m.window) (window_in sc later you yours).slot (omega arith) now in
-    let stand : AllStand sc m = moments-stand sc hands n (has_ticks sc lawful) in
+    let stand : AllStand sc m = moments-stand sc hands n (has_ticks lawful) in
     let long : length (of_kind you m.nodes) ≡ count_of you sc.sizes = stand.counts you in
     let counted : j < count_of you sc.sizes = good_counts sc you j m.frame (slot_numbered sc.sizes m.window) before in
     let old = item-at (of_kind you m.nodes) j (omega arith) in
@@ -154,12 +153,11 @@ turn-in-order sc hands lawful n together at_last frame me you i j mine yours goo
     let place : 3 * sync_slot_of sc.sizes + 2 ≡ m.window = omega arith in
     let rooms : Apart sc.plan (last_of sc.sizes sc.plan me mine m.window) (tail_start_of sc.sizes sc.plan + last_of sc.sizes sc.plan you yours 0) =
     subst (λ w. Apart sc.plan (last_of sc.sizes sc.plan me mine w) (tail_start_of sc.sizes sc.plan + last_of sc.sizes sc.plan you yours 0)) place
-    (apart-turn sc.sizes sc.plan me you mine yours (fits sc.sizes sc.plan lawful.plan lawful.feasible) lawful.plan.l.0 (shortest-some sc lawful)) in
+    (apart-turn me you mine yours (fits lawful.plan lawful.feasible) lawful.plan.l.0 (shortest-some lawful)) in
     let early : time_of (clock_of sc me i) (mine.epoch + last_of sc.sizes sc.plan me mine m.window)
     < time_of (clock_of sc you j) (old.0.epoch + (tail_start_of sc.sizes sc.plan + last_of sc.sizes sc.plan you yours 0)) =
-    times-apart sc lawful (clock_of sc me i) (clock_of sc you j) mine.epoch old.0.epoch (last_of sc.sizes sc.plan me mine m.window)
-    (tail_start_of sc.sizes sc.plan + last_of sc.sizes sc.plan you yours 0) (good-clock sc lawful me i m.frame (window_in sc m me mine).slot good.1)
-    (good-clock sc lawful you j m.frame (slot_numbered sc.sizes m.window) before) (together me you i j mine old.0 good was) rooms in
+    times-apart lawful (clock_of sc me i) (clock_of sc you j) mine.epoch old.0.epoch (good-clock lawful me i m.frame (window_in sc m me mine).slot good.1)
+    (good-clock lawful you j m.frame (slot_numbered sc.sizes m.window) before) (together me you i j mine old.0 good was) rooms in
     let up : time_of (clock_of sc you j) (old.0.epoch + (tail_start_of sc.sizes sc.plan + last_of sc.sizes sc.plan you yours 0))
     ≤ time_of (clock_of sc you j) (yours.epoch + last_of sc.sizes sc.plan you yours 0) =
     times_rise_to (clock_of sc you j) (old.0.epoch + (tail_start_of sc.sizes sc.plan + last_of sc.sizes sc.plan you yours 0))

@@ -21,7 +21,7 @@ abbrev pub closing_of : Scenario → Moment → Side → ℕ → NodeState → W
 closing_of sc m me i st w inbox = close_window sc.sizes sc.plan me i (spoken sc m me i st w) w (of_source inbox)
 
 -- what the rounds make of the window is what the core makes of its close
-pub result-is : (sc : Scenario) (m : Moment) (sent : Each (Option Sending)) (me : Side) (i : ℕ) (st : NodeState) (w : Window) (inbox : List (ℕ × Arrival)) (got : List Coming)
+pub result-is : {sc m sent me i st w inbox got : _}
     → HoldsHeard sc m sent me i st w inbox got
     → go_through sc m sent me i st w
     ≡ record {
@@ -29,12 +29,12 @@ pub result-is : (sc : Scenario) (m : Moment) (sent : Each (Option Sending)) (me 
       row = Some (row_of me i (closing_of sc m me i st w inbox).state (coming_from got) (closing_of sc m me i st w inbox).closed);
     }
 unfolding go_through close_on
-result-is sc m sent me i st w inbox got h =
+result-is {sc} {m} {sent} {me} {i} {st} {w} {inbox} {got} h =
     let kept : NodeState = spoken sc m me i st w in
     let heard : ℕ → List Coming = heard_at sc me i st w sent in
     let both : (is_good sc me i m.frame w.slot && nat_le w.first w.last) ≡ true = ap (λ b. b && nat_le w.first w.last) h.good ∙ h.some_tick in
     let same : closing_of sc m me i st w inbox ≡ close_window sc.sizes sc.plan me i kept w (λ j. map (arrival_of (clock_of sc me i)) (heard j)) =
-    close-is sc.sizes sc.plan me i kept w (clock_of sc me i) inbox got heard h.stamped h.all in
+    close-is sc.sizes sc.plan me i kept w (clock_of sc me i) got heard h.stamped h.all in
     ap (λ b. elim b as (λ _. Result) [ true ↦ close_on sc me i kept w heard | false ↦ record { state = st; row = None } ]) both
     ∙ ap (λ (x : Outcome). let r : Result = record { state = x.state; row = Some (row_of me i x.state heard x.closed) } in r) (sym same)
     ∙ ap (λ row. let r : Result = record { state = (closing_of sc m me i st w inbox).state; row = Some row } in r)

@@ -37,13 +37,13 @@ not-complete true b c h k = h
 not-complete false b c h k = cc
 
 -- a stage that an event completes is the one in which the event's node stood
-stage-completed : (sc : Scenario) (hands : List HandIn) (at now_at : Side → ℕ → ℕ) (sites now_sites : Each Site) (place : Place) → (event : EventAt sc hands at now_at sites now_sites)
+stage-completed : {sc hands at now_at sites now_sites : _} (place : Place) → (event : EventAt sc hands at now_at sites now_sites)
     → is_due sc sites (Stage place) ≡ false → is_due sc now_sites (Stage place) ≡ true → number_at sc.sizes place ≡ at event.me event.i
-stage-completed sc hands at now_at sites now_sites place event old new =
+stage-completed {sc} {sites} {now_sites} place event old new =
     let tells : Site → Option Row = λ s. row_for place s.row in
     let now : is_complete sc now_sites (Stage place) ≡ true = complete-of sc now_sites (Stage place) new in
     let c : Completes sc place.frame place.slot tells event.me event.i event.s (event.change event.s) =
-    completes sc place.frame place.slot tells sites event.me event.i event.frame event.tick event.message event.change event.s
+    completes sc place.frame place.slot tells sites event.me event.i event.frame event.tick event.message event.change
     (λ side j z. ap (row_for place) (reached-tells sc event.me event.i event.frame event.tick event.message side j z).0) event.there
     (not-complete (comes_so sc ByAnEvent (Stage place)) (is_complete sc sites (Stage place)) (is_complete sc now_sites (Stage place)) old new)
     (sym (ap (λ sites. is_complete sc sites (Stage place)) event.is) ∙ now) in
@@ -59,13 +59,13 @@ record BeginCompleted (sc : Scenario) (at now_at : Side → ℕ → ℕ) (me : S
   stood : at me i ≡ frame * (windows_in sc.sizes + 1)
   stays : now_at me i ≡ at me i
 
-begin-completed : (sc : Scenario) (hands : List HandIn) (at now_at : Side → ℕ → ℕ) (sites now_sites : Each Site) (frame : ℕ) → (event : EventAt sc hands at now_at sites now_sites)
+begin-completed : {sc hands at now_at sites now_sites : _} (frame : ℕ) → (event : EventAt sc hands at now_at sites now_sites)
     → is_due sc sites (Begin frame) ≡ false → is_due sc now_sites (Begin frame) ≡ true → BeginCompleted sc at now_at event.me event.i frame
-begin-completed sc hands at now_at sites now_sites frame event old new =
+begin-completed {sc} {sites} {now_sites} frame event old new =
     let tells : Site → Option Begun = λ s. begun_for frame s.begun in
     let now : is_complete sc now_sites (Begin frame) ≡ true = complete-of sc now_sites (Begin frame) new in
     let c : Completes sc frame 0 tells event.me event.i event.s (event.change event.s) =
-    completes sc frame 0 tells sites event.me event.i event.frame event.tick event.message event.change event.s
+    completes sc frame 0 tells sites event.me event.i event.frame event.tick event.message event.change
     (λ side j z. ap (begun_for frame) (reached-tells sc event.me event.i event.frame event.tick event.message side j z).1) event.there
     (not-complete (comes_so sc ByAnEvent (Begin frame)) (is_complete sc sites (Begin frame)) (is_complete sc now_sites (Begin frame)) old new)
     (sym (ap (λ sites. is_complete sc sites (Begin frame)) event.is) ∙ now) in
@@ -84,13 +84,13 @@ record IsStageOf (sc : Scenario) (hands : List HandIn) (place : Place) : Type 0 
   place_is : place ≡ place_at sc.sizes (moment sc hands g)
   not_last : ((moment sc hands g).frame == sc.frames) ≡ false
 
-stage-of : (sc : Scenario) (hands : List HandIn) (b : Book) (place : Place) → IsOfMoment sc hands b → b.ended ≡ false → b.upcoming ≡ Stage place → IsStageOf sc hands place
+stage-of : {sc hands b : _} (place : Place) → IsOfMoment sc hands b → b.ended ≡ false → b.upcoming ≡ Stage place → IsStageOf sc hands place
 unfolding SettlesNext
-stage-of sc hands b place (inl fresh) going up = absurd (other (sym (ap (λ (b : Book). b.upcoming) fresh) ∙ up))
+stage-of {b} place (inl fresh) going up = absurd (other (sym (ap (λ (b : Book). b.upcoming) fresh) ∙ up))
   where
     other : Begin 0 ≡ Stage place → ⊥
     other e = cc
-stage-of sc hands b place (inr at) going up =
+stage-of {sc} {hands} {b} place (inr at) going up =
     let m : Moment = moment sc hands at.0 in
     let next : Stage place ≡ next_of sc m.frame m.window =
     sym up ∙ ap (λ (b : Book). b.upcoming) at.1 ∙ settles-next sc hands at.0 (sym (ap (λ (b : Book). b.ended) at.1) ∙ going) in
@@ -124,10 +124,10 @@ next-frame-is sc hands g outer =
     one-more a n = omega arith
 
 -- after a frame's start its first stage waits for a node that has only begun
-first-waits : (sc : Scenario) (hands : List HandIn) (at : Side → ℕ → ℕ) (sites : Each Site) (m : Milestone) (frame : ℕ)
+first-waits : (sc : Scenario) (hands : List HandIn) (at : Side → ℕ → ℕ) (sites : Each Site) {m : _} (frame : ℕ)
     → m ≡ (if frame == sc.frames then End else Stage (record { frame = frame; slot = 0; stage = 1 }))
     → is_due sc sites (Stage (record { frame = frame; slot = 0; stage = 1 })) ≡ false → is_due sc sites m ≡ false
-first-waits sc hands at sites m frame is first = ap (is_due sc sites) is ∙ by (frame == sc.frames)
+first-waits sc hands at sites frame is first = ap (is_due sc sites) is ∙ by (frame == sc.frames)
   where
     by : (b : Bool) → is_due sc sites (if b then End else Stage (record { frame = frame; slot = 0; stage = 1 })) ≡ false
     by true = refl
@@ -138,20 +138,20 @@ first-waits sc hands at sites m frame is first = ap (is_due sc sites) is ∙ by 
 abbrev pub next_world : Scenario → World → Milestone → World
 next_world sc x m = record x { book = book_with sc x.sites x.book m }
 
-next-is : (sc : Scenario) (x : World) (m : Milestone) → x.book.upcoming ≡ m → is_due sc x.sites m ≡ true → settle_next sc ByAnEvent x ≡ next_world sc x m
-next-is sc x m up due =
+next-is : (sc : Scenario) (x : World) {m : _} → x.book.upcoming ≡ m → is_due sc x.sites m ≡ true → settle_next sc ByAnEvent x ≡ next_world sc x m
+next-is sc x {m} up due =
     ap (λ m. elim (is_due sc x.sites m) as (λ _. World) [ true ↦ next_world sc x m | false ↦ x ]) up
     ∙ ap (λ b. elim b as (λ _. World) [ true ↦ next_world sc x m | false ↦ x ]) due
 
-settle-is : (sc : Scenario) (n : ℕ) (x y : World) → settle_next sc ByAnEvent x ≡ y → settle sc ByAnEvent (suc n) x ≡ settle_rest sc ByAnEvent n y (record_since x y)
-settle-is sc n x y e = ap (λ next. settle_rest sc ByAnEvent n next (record_since x next)) e
+settle-is : (sc : Scenario) (n : ℕ) (x : World) {y : _} → settle_next sc ByAnEvent x ≡ y → settle sc ByAnEvent (suc n) x ≡ settle_rest sc ByAnEvent n y (record_since x y)
+settle-is sc n x e = ap (λ next. settle_rest sc ByAnEvent n next (record_since x next)) e
 
 -- if what comes after the first milestone waits, only that milestone is settled
-one-settled : (sc : Scenario) (at : Side → ℕ → ℕ) (n : ℕ) (x y : World) → settle_next sc ByAnEvent x ≡ y → Waits sc y
+one-settled : {sc : _} (at : Side → ℕ → ℕ) (n : ℕ) (x : World) {y : _} → settle_next sc ByAnEvent x ≡ y → Waits sc y
     → ((frame : ℕ) → frame_in (record_since x y) ≡ Some frame → AfterRecord sc at y frame) → Settled sc at (settle sc ByAnEvent (suc n) x)
-one-settled sc at n x y e waits turn =
+one-settled {sc} at n x {y} e waits turn =
     let is : settle sc ByAnEvent (suc n) x ≡ record y { turn = record_since x y } =
-    settle-is sc n x y e ∙ rest-still sc ByAnEvent n y (record_since x y) (waits-still sc y waits) in
+    settle-is sc n x e ∙ rest-still sc ByAnEvent n (record_since x y) (waits-still sc waits) in
     subst (Settled sc at) (sym is) (record {
       waits = waits;
       turn = λ frame e.
@@ -166,27 +166,27 @@ begin-settled : (sc : Scenario) (hands : List HandIn) (at : Side → ℕ → ℕ
 begin-settled sc hands at n x frame going up due first near =
     let y : World = next_world sc x (Begin frame) in
     let given : FrameGiven sc frame _ x.book y.book = frame-given sc frame _ x.book going in
-    one-settled sc at n x y (next-is sc x (Begin frame) up due) (λ e. first-waits sc hands at x.sites y.book.upcoming frame given.next first)
-    (λ its e. after-frame sc hands at y frame its _ x.book going refl (complete-of sc x.sites (Begin frame) due) near e)
+    one-settled at n x (next-is sc x up due) (λ e. first-waits sc hands at x.sites frame given.next first)
+    (λ its e. after-frame sc hands at y frame _ x.book going refl (complete-of sc x.sites (Begin frame) due) near e)
 
-stage-settled-next : (sc : Scenario) (hands : List HandIn) (at now_at : Side → ℕ → ℕ) (sites : Each Site) (x : World) (place : Place) → EventAt sc hands at now_at sites x.sites
+stage-settled-next : {sc hands at now_at sites : _} (x : World) (place : Place) → EventAt sc hands at now_at sites x.sites
     → x.book.ended ≡ false → IsOfMoment sc hands x.book → x.book.upcoming ≡ Stage place → is_due sc sites (Stage place) ≡ false → is_due sc x.sites (Stage place) ≡ true
     → Settled sc now_at (settle sc ByAnEvent 2 x)
-stage-settled-next sc hands at now_at sites x place event going is up old due =
+stage-settled-next {sc} {hands} {at} {now_at} x place event going is up old due =
     let y : World = next_world sc x (Stage place) in
-    let stage : IsStageOf sc hands place = stage-of sc hands x.book place is going up in
+    let stage : IsStageOf sc hands place = stage-of place is going up in
     let g : ℕ = stage.g in
     let m : Moment = moment sc hands g in
     let stood : g ≡ at event.me event.i =
-    sym (number-is sc hands g stage.stage) ∙ sym (ap (number_at sc.sizes) stage.place_is) ∙ stage-completed sc hands at now_at sites x.sites place event old due in
+    sym (number-is sc hands g stage.stage) ∙ sym (ap (number_at sc.sizes) stage.place_is) ∙ stage-completed place event old due in
     let near : (me : Side) (i : ℕ) (s : Site) → slice_get (of_kind me x.sites) i ≡ Some s → now_at me i ≤ next_stage sc.sizes m g =
     λ me i s there. subst (λ p. now_at me i ≤ next_stage sc.sizes (moment sc hands p) p) (sym stood) (event.near me i s there) in
     let silent : (frame : ℕ) → frame_in (record_since x y) ≡ Some frame → AfterRecord sc now_at y frame =
-    λ frame e. none-turn frame (sym (stage-silent sc place _ x.book) ∙ e) in
-    let next : settle_next sc ByAnEvent x ≡ y = next-is sc x (Stage place) up due in
+    λ frame e. none-turn (sym (stage-silent sc place _ x.book) ∙ e) in
+    let next : settle_next sc ByAnEvent x ≡ y = next-is sc x up due in
     let by : (b : Bool) → y.book.ended ≡ b → Settled sc now_at (settle sc ByAnEvent 2 x) =
     λ b. elim b as (λ b. y.book.ended ≡ b → Settled sc now_at (settle sc ByAnEvent 2 x)) [
-      | true ↦ λ e. one-settled sc now_at 1 x y next (λ on. true-false (sym e ∙ on)) silent
+      | true ↦ λ e. one-settled now_at 1 x next (λ on. true-false (sym e ∙ on)) silent
       | false ↦ λ e.
           let upcoming : y.book.upcoming ≡ next_of sc m.frame (m.window + 1) =
           stage-book-next sc place _ x.book e ∙ ap (after_stage sc.sizes) stage.place_is ∙ stage-next sc m.frame m.window stage.stage stage.not_last in
@@ -201,8 +201,8 @@ stage-settled-next sc hands at now_at sites x place event going is up old due =
                 let number2 : number_at sc.sizes place2 ≡ g + 1 =
                 ap (λ w. m.frame * (windows_in sc.sizes + 1) + w) window ∙ omega (arith, number.0) in
                 let later : next_stage sc.sizes m g ≡ g + 1 = next-stage-is sc hands g inner in
-                one-settled sc now_at 1 x y next
-                (λ on. ap (is_due sc x.sites) up2 ∙ stage-waits sc hands now_at x.sites place2 event.counts event.told
+                one-settled now_at 1 x next
+                (λ on. ap (is_due sc x.sites) up2 ∙ stage-waits place2 event.counts event.told
                 (λ me i s there. let le : now_at me i ≤ next_stage sc.sizes m g = near me i s there in omega (arith, le, later, number2))) silent
             | inr outer ↦
                 let at_end : m.window + 1 ≡ stages_in sc.sizes = let lt : m.window < stages_in sc.sizes = stage.stage in omega (arith, outer, lt) in
@@ -213,14 +213,14 @@ stage-settled-next sc hands at now_at sites x place event going is up old due =
                 let later : next_stage sc.sizes m g ≡ frame * (windows_in sc.sizes + 1) = next-frame-is sc hands g at_end in
                 let begin_by : (b : Bool) → is_due sc x.sites (Begin frame) ≡ b → Settled sc now_at (settle sc ByAnEvent 2 x) =
                 λ b. elim b as (λ b. is_due sc x.sites (Begin frame) ≡ b → Settled sc now_at (settle sc ByAnEvent 2 x)) [
-                  | false ↦ λ f. one-settled sc now_at 1 x y next (λ on. ap (is_due sc x.sites) up2 ∙ f) silent
+                  | false ↦ λ f. one-settled now_at 1 x next (λ on. ap (is_due sc x.sites) up2 ∙ f) silent
                   | true ↦ λ f.
                       let slot : place.slot ≡ slot_numbered sc.sizes m.window = ap (λ (p : Place). p.slot) stage.place_is in
                       let none : record_since x y ≡ None = sync-silent sc place _ x.book (omega (arith, slot, at_end)) e in
-                      let then_is : settle sc ByAnEvent 2 x ≡ settle sc ByAnEvent 1 y = settle-is sc 1 x y next ∙ ap (settle_rest sc ByAnEvent 1 y) none in
+                      let then_is : settle sc ByAnEvent 2 x ≡ settle sc ByAnEvent 1 y = settle-is sc 1 x next ∙ ap (settle_rest sc ByAnEvent 1 y) none in
                       subst (Settled sc now_at) (sym then_is)
                       (begin-settled sc hands now_at 0 y frame e up2 f
-                      (stage-waits sc hands now_at x.sites (record { frame = frame; slot = 0; stage = 1 }) event.counts event.told
+                      (stage-waits (record { frame = frame; slot = 0; stage = 1 }) event.counts event.told
                       (λ me i s there. let le : now_at me i ≤ next_stage sc.sizes m g = near me i s there in omega (arith, le, later)))
                       (λ me i s there. let le : now_at me i ≤ next_stage sc.sizes m g = near me i s there in omega (arith, le, later)))
                 ] in
@@ -229,14 +229,14 @@ stage-settled-next sc hands at now_at sites x place event going is up old due =
     ] in
     by y.book.ended refl
 
-begin-settled-next : (sc : Scenario) (hands : List HandIn) (at now_at : Side → ℕ → ℕ) (sites : Each Site) (x : World) (frame : ℕ)
+begin-settled-next : {sc hands at now_at sites : _} (x : World) (frame : ℕ)
     → EventAt sc hands at now_at sites x.sites → x.book.ended ≡ false → x.book.upcoming ≡ Begin frame → is_due sc sites (Begin frame) ≡ false → is_due sc x.sites (Begin frame) ≡ true
     → Settled sc now_at (settle sc ByAnEvent 2 x)
-begin-settled-next sc hands at now_at sites x frame event going up old due =
+begin-settled-next {sc} {hands} {at} {now_at} x frame event going up old due =
     let place : Place = record { frame = frame; slot = 0; stage = 1 } in
     let p : ℕ = at event.me event.i in
     let b : ℕ = frame * (windows_in sc.sizes + 1) in
-    let c : BeginCompleted sc at now_at event.me event.i frame = begin-completed sc hands at now_at sites x.sites frame event old due in
+    let c : BeginCompleted sc at now_at event.me event.i frame = begin-completed frame event old due in
     let window : (moment sc hands p).window ≡ 0 = (place-of sc hands p frame 0 (omega (arith, c.stood)) (omega arith)).1 in
     let later : next_stage sc.sizes (moment sc hands p) p ≡ p + 1 = next-stage-is sc hands p (omega (arith, window)) in
     let z : Site = event.change event.s in
@@ -250,7 +250,7 @@ begin-settled-next sc hands at now_at sites x frame event going up old due =
           absurd (omega (arith, lt, same, c.stood, c.stays))
     ] in
     let none : is_complete sc x.sites (Stage place) ≡ false =
-    untold sc frame 0 (λ s. row_for place s.row) x.sites event.me event.i z event.now_there c.good (untold_by (is_some (row_for place z.row)) refl) in
+    untold sc frame 0 (λ s. row_for place s.row) x.sites event.me event.i event.now_there c.good (untold_by (is_some (row_for place z.row)) refl) in
     begin-settled sc hands now_at 1 x frame going up due (ap (λ t. comes_so sc ByAnEvent (Stage place) && t) none ∙ and-none (comes_so sc ByAnEvent (Stage place)))
     (λ me i s there. let le : now_at me i ≤ next_stage sc.sizes (moment sc hands p) p = event.near me i s there in omega (arith, le, later, c.stood))
   where
@@ -259,17 +259,17 @@ begin-settled-next sc hands at now_at sites x frame event going up old due =
     and-none false = refl
 
 -- what an event completes is settled
-pub event-settled : (sc : Scenario) (hands : List HandIn) (at now_at : Side → ℕ → ℕ) (sites : Each Site) (x : World) → EventAt sc hands at now_at sites x.sites
+pub event-settled : {sc hands at now_at sites : _} (x : World) → EventAt sc hands at now_at sites x.sites
     → x.book.ended ≡ false → IsOfMoment sc hands x.book → is_due sc sites x.book.upcoming ≡ false → Settled sc now_at (settle sc ByAnEvent 2 x)
-event-settled sc hands at now_at sites x event going is old = by (is_due sc x.sites x.book.upcoming) refl
+event-settled {sc} {now_at} {sites} x event going is old = by (is_due sc x.sites x.book.upcoming) refl
   where
     of : (m : Milestone) → x.book.upcoming ≡ m → is_due sc sites m ≡ false → is_due sc x.sites m ≡ true → Settled sc now_at (settle sc ByAnEvent 2 x)
-    of (Begin frame) up old due = begin-settled-next sc hands at now_at sites x frame event going up old due
-    of (Stage place) up old due = stage-settled-next sc hands at now_at sites x place event going is up old due
+    of (Begin frame) up old due = begin-settled-next x frame event going up old due
+    of (Stage place) up old due = stage-settled-next x place event going is up old due
     of End up old due = cc
 
     by : (b : Bool) → is_due sc x.sites x.book.upcoming ≡ b → Settled sc now_at (settle sc ByAnEvent 2 x)
     by false e =
         let waits : Waits sc x = λ on. e in
-        subst (Settled sc now_at) (sym (settle-still sc ByAnEvent 2 x (waits-still sc x waits))) (still-settled sc now_at x waits)
+        subst (Settled sc now_at) (sym (settle-still sc ByAnEvent 2 (waits-still sc waits))) (still-settled now_at x waits)
     by true e = of x.book.upcoming refl old e

@@ -16,9 +16,9 @@ turning sizes plan me st k next =
     elim (is_tick next k) [ true ↦ elim next [ None ↦ st | Some epoch ↦ turn sizes plan.probation me epoch st ] | false ↦ st ]
 
 -- if a core takes a later tick of the window in a state, it takes its next tick in that state
-ready-early : (sizes : Sizes) (plan : Plan) (me : Side) (i : ℕ) (st c y : NodeState) (n had k : ℕ) → HasTicks plan → KeepsTime sizes plan me st → n ≤ stages_in sizes
+ready-early : {sizes plan me i st : _} (c : NodeState) {y n had : _} (k : ℕ) → HasTicks plan → KeepsTime sizes plan me st → n ≤ stages_in sizes
     → Like sizes plan me i st y → IsTickIn sizes plan me st n had → had ≤ k → state_at sizes plan me c k ≡ y → state_at sizes plan me c had ≡ y
-ready-early sizes plan me i st c y n had k ticks keeps le like at later now =
+ready-early {sizes} {plan} {me} {st} c {y} {n} {had} k ticks keeps le like at later now =
     elim (cases_lt had k) [
       | inl lt ↦
           let epoch : y.epoch ≡ st.epoch = like.epoch in
@@ -26,7 +26,7 @@ ready-early sizes plan me i st c y n had k ticks keeps le like at later now =
           let other : ((state_at sizes plan me c k).epoch == k) ≡ false = ap (λ (y : NodeState). y.epoch == k) now ∙ less-differs y.epoch k (omega (arith, epoch, from, lt)) in
           let same : c ≡ y = sym (state-same sizes plan me c k other) ∙ now in
           ap (λ c. state_at sizes plan me c had) same
-          ∙ no-turn sizes plan me y n had ticks (like-keeps sizes plan me i st y like keeps) le (like-tick sizes plan me i st y n had like at)
+          ∙ no-turn n ticks (like-keeps like keeps) le (like-tick like at)
       | inr ge ↦
           let same : had ≡ k = omega (arith, ge, later) in
           ap (state_at sizes plan me c) same ∙ now
@@ -50,8 +50,8 @@ window-place sizes plan me st n le =
           omega (arith, slot, stage, is)
     ]
 
-place-number : (f w slot stage n p : ℕ) → p ≡ f * w + n → 3 * slot + stage ≡ n + 1 → f * w + 3 * slot + stage - 1 ≡ p
-place-number f w slot stage n p e h = omega (arith, e, h)
+place-number : (f w slot stage n : ℕ) {p : ℕ} → p ≡ f * w + n → 3 * slot + stage ≡ n + 1 → f * w + 3 * slot + stage - 1 ≡ p
+place-number f w slot stage n e h = omega (arith, e, h)
 
 -- One node.
 
@@ -69,8 +69,8 @@ pub record IsThere (sc : Scenario) (hands : List HandIn) (me : Side) (i p : ℕ)
   pub moment_is : own_moment sc hands me c ≡ moment sc hands p
   pub holds : HoldsTheState sc (moment sc hands p) me i c
 
-pub is-there : (sc : Scenario) (hands : List HandIn) (me : Side) (i p : ℕ) (c : Core) (st : NodeState) (k : ℕ) → HasTicks sc.plan → StandsIn sc hands me i p c st k → IsThere sc hands me i p c
-is-there sc hands me i p c st k ticks h =
+pub is-there : {sc : Scenario} {hands : List HandIn} {me : Side} {i p : ℕ} {c : Core} {st : NodeState} {k : ℕ} → HasTicks sc.plan → StandsIn sc hands me i p c st k → IsThere sc hands me i p c
+is-there {sc} {hands} {me} {i} {p} {c} {st} {k} ticks h =
     record {
       moment_is = ap (moment sc hands) number;
       holds = record {
@@ -114,12 +114,12 @@ is-there sc hands me i p c st k ticks h =
     within = let to = at.to in record { from = from; to = omega (arith, to, later) }
 
     ready : ready_state sc me c ≡ y
-    ready = ready-early sizes plan me i st c.state y m.window c.had k ticks h.stands.keeps h.stands.window like within later h.stands.now
+    ready = ready-early c.state k ticks h.stands.keeps h.stands.window like within later h.stands.now
 
     window : open_window sc me c ≡ window_in sc m me st
     window =
         ap (λ (y : NodeState). window_here sizes plan me y c.had) ready
-        ∙ here-is sizes plan me y m.window c.had ticks h.stands.window (like-tick sizes plan me i st y m.window c.had like within)
+        ∙ here-is me y ticks h.stands.window (like-tick like within)
         ∙ like.windows m.window
 
     frame : (ready_state sc me c).frame ≡ m.frame
@@ -132,7 +132,7 @@ is-there sc hands me i p c st k ticks h =
 
     number : (ready_state sc me c).frame * (windows_in sizes + 1) + 3 * (open_window sc me c).slot + (open_window sc me c).stage - 1 ≡ p
     number =
-        place-number (ready_state sc me c).frame (windows_in sizes + 1) (open_window sc me c).slot (open_window sc me c).stage m.window p
+        place-number (ready_state sc me c).frame (windows_in sizes + 1) (open_window sc me c).slot (open_window sc me c).stage m.window
         ((number-of sc hands p).0 ∙ ap (λ f. f * (windows_in sizes + 1) + m.window) (sym frame)) place
 
     by : (b : Bool) → IsStateOf sc m me i st (by_said b st (kept_in sizes plan me i st m.window word))

@@ -1,9 +1,9 @@
 -- For the law that cores are those of the rounds: it holds in every world before the breaking
 -- stage.
 use Rattle.std.proofs.{Common.{◌≡◌, ℕ, suc, ◌+◌, ◌*◌, ◌-◌, ◌%◌, ◌<◌, ◌==◌, nat_lt, Bool, true, false, refl, ap, sym, ◌∙◌, subst, arith, inl, inr, List, [], ◌∷◌, ◌++◌, Option, Some, None, slice_get, is_some, if◌then◌else◌}, lemmas.Bool.{cases_lt, eqb-true, lt-ltb}}
-use Rattle.rb_base.specs.{Nodes.Side, Nodes.Side.Biu, Sizes.sync_slot_of, declared.values.Place.Place}
+use Rattle.rb_base.specs.{Nodes.Side.Biu, Sizes.sync_slot_of, declared.values.Place.Place}
 use Rattle.rb_base.proofs.Plain.{true-false}
-use Rattle.rb_rules.specs.{declared.cause.Cause.Cause, declared.plan.Window.Window, Book.{Begun, Book, Each, Row, after_verdict, frame_records, judged_of, with_end, with_frame, with_stage}, Book.Milestone.{Begin, End, Stage}, Book.Record.Ended, Goodness.Scenario, Hearing.port_at, Judging.{JudgedStage, verdict_of}, Lawful.IsLawful, Ports.HandIn, Rounds.{Moment, after_window, begin_frame, book_after, moment, step, windows_in}, Windows.windows_of_frame, WorldStep.{Site, World, world_after}}
+use Rattle.rb_rules.specs.{declared.cause.Cause.Cause, declared.plan.Window.Window, Book.{Begun, Book, Each, Row, after_verdict, frame_records, judged_of, with_end, with_frame, with_stage}, Book.Milestone.{Begin, End, Stage}, Book.Record.Ended, Goodness.Scenario, Hearing.port_at, Judging.{JudgedStage, verdict_of}, Lawful.IsLawful, Ports.HandIn, Rounds.{Moment, after_window, begin_frame, book_after, moment, step, windows_in}, Windows.windows_of_frame, WorldStep.{Site, World}}
 use Rattle.rb_rules.proofs.Books.{moments-on, stepped}
 use Rattle.rb_laws_agreement.proofs.{Places.running_earlier, ExactAgrees.has_ticks}
 use Rattle.rb_laws_events.specs.{Closing.stages_in, OwnMoments.{CoresAreThoseOfTheRounds, HoldsTheRounds, HoldsTheState, IsBeforeTheBreak, RunningNode}}
@@ -12,9 +12,9 @@ use Rattle.rb_laws_events.proofs.{Behind.settled-next, BreakNodes.BreaksAt, Core
 -- Worlds in the run.
 
 -- a node that runs stands in its own moment
-up-in : (sc : Scenario) (w : World) → IsLawful sc → (h : StandsInRounds sc w) → (me : Side) (node : RunningNode w me)
+up-in : {sc w : _} → IsLawful sc → (h : StandsInRounds sc w) → {me : _} (node : RunningNode w me)
     → IsThere sc w.hands me node.index (h.at me node.index) node.site.core
-up-in sc w lawful h me node =
+up-in {sc} {w} lawful h {me} node =
     let i : ℕ = node.index in
     let s : Site = node.site in
     let up : IsUp sc w.hands (sent_by sc w.hands h.at w.sites) h.now me i (h.at me i) s = h.stands.sites.up me i s node.there node.runs in
@@ -25,15 +25,15 @@ up-in sc w lawful h me node =
       from = up.stands.from;
       later = up.stands.receives.is_next.later;
     } in
-    is-there sc w.hands me i (h.at me i) s.core up.st up.a.tick (has_ticks sc lawful) stands
+    is-there (has_ticks lawful) stands
 
-pub run-holds : (sc : Scenario) (w : World) → IsLawful sc → StandsInRounds sc w → HoldsTheRounds sc w
-run-holds sc w lawful h = record {
+pub run-holds : {sc w : _} → IsLawful sc → StandsInRounds sc w → HoldsTheRounds sc w
+run-holds {sc} {w} lawful h = record {
   cores = λ me node.
-      let there : IsThere sc w.hands me node.index (h.at me node.index) node.site.core = up-in sc w lawful h me node in
+      let there : IsThere sc w.hands me node.index (h.at me node.index) node.site.core = up-in lawful h node in
       subst (λ (m : Moment). HoldsTheState sc m me node.index node.site.core) (sym there.moment_is) there.holds;
   ports = λ node.
-      let there : IsThere sc w.hands Biu node.index (h.at Biu node.index) node.site.core = up-in sc w lawful h Biu node in
+      let there : IsThere sc w.hands Biu node.index (h.at Biu node.index) node.site.core = up-in lawful h node in
       h.stands.ports node.index node.site node.there node.runs ∙ ap (λ (m : Moment). port_at sc m.ports node.index) (sym there.moment_is);
   pending = λ me i s there runs.
       let up : IsUp sc w.hands (sent_by sc w.hands h.at w.sites) h.now me i (h.at me i) s = h.stands.sites.up me i s there runs in
@@ -104,8 +104,8 @@ unfolding step
 step-stays sc hands m h = stepped-stays sc hands m (m.frame == sc.frames) (nat_lt m.window (windows_in sc.sizes)) h
 
 -- if the run breaks off with the window of moment `b`, the book waits for that stage
-breaks-there : (sc : Scenario) (hands : List HandIn) → IsLawful sc → (b q : ℕ) → BreaksAt sc hands b q → (moment sc hands b).book.upcoming ≡ Stage (place_at sc.sizes (moment sc hands b))
-breaks-there sc hands lawful b q off =
+breaks-there : {sc hands : _} → IsLawful sc → {b q : ℕ} → BreaksAt sc hands b q → (moment sc hands b).book.upcoming ≡ Stage (place_at sc.sizes (moment sc hands b))
+breaks-there {sc} {hands} lawful {b} {q} off =
     let small = off.small in
     let window = off.window in
     let stage : m.window < stages_in sc.sizes = omega (arith, small, window) in
@@ -126,8 +126,8 @@ breaks-there sc hands lawful b q off =
     differs false h = refl
 
 -- a world that waits for the breaking stage is not before that stage
-not-before : {P : Type 0} (sc : Scenario) (w : World) (b q : ℕ) → BreaksAt sc w.hands b q → w.book.upcoming ≡ Stage (place_at sc.sizes (moment sc w.hands b)) → IsBeforeTheBreak sc w → P
-not-before sc w b q off waits before =
+not-before : {P : Type 0} {sc : Scenario} (w : World) {b q : ℕ} → BreaksAt sc w.hands b q → w.book.upcoming ≡ Stage (place_at sc.sizes (moment sc w.hands b)) → IsBeforeTheBreak sc w → P
+not-before {sc} w {b} off waits before =
     let m : Moment = moment sc w.hands b in
     let small = off.small in
     let window = off.window in
@@ -140,9 +140,9 @@ not-before sc w b q off waits before =
     true-false (sym off.ends ∙ sym (ap (λ n. (moment sc w.hands n).book.ended) is) ∙ running)
 
 -- once the run has broken off the book stays as it was at the break
-over-waits : (sc : Scenario) (hands : List HandIn) → IsLawful sc → (b q : ℕ) (book : Book) → BreaksAt sc hands b q → IsOfMoment sc hands book → book.ended ≡ true → book.upcoming ≡ Stage (place_at sc.sizes (moment sc hands b))
-over-waits sc hands lawful b q book off (inl fresh) ended = true-false (sym ended ∙ ap (λ (b : Book). b.ended) fresh)
-over-waits sc hands lawful b q book off (inr of) ended =
+over-waits : {sc hands : _} → IsLawful sc → {b q book : _} → BreaksAt sc hands b q → IsOfMoment sc hands book → book.ended ≡ true → book.upcoming ≡ Stage (place_at sc.sizes (moment sc hands b))
+over-waits lawful {b} off (inl fresh) ended = true-false (sym ended ∙ ap (λ (b : Book). b.ended) fresh)
+over-waits {sc} {hands} lawful {b} off (inr of) ended =
     let g : ℕ = of.0 in
     elim (cases_lt b g) [
       | inr ge ↦ true-false (sym ended ∙ ap (λ (b : Book). b.ended) of.1 ∙ running_earlier sc hands g b ge off.running)
@@ -151,15 +151,15 @@ over-waits sc hands lawful b q book off (inr of) ended =
           let e : suc b + k ≡ g = omega (arith, lt) in
           let same : (moment sc hands (suc b + k)).book ≡ (moment sc hands (suc b)).book = (moments-on sc hands (suc b) k).over off.ends in
           ap (λ (b : Book). b.upcoming) (of.1 ∙ ap (λ n. (moment sc hands n).book) (sym e) ∙ same)
-          ∙ step-stays sc hands (moment sc hands b) off.ends ∙ breaks-there sc hands lawful b q off
+          ∙ step-stays sc hands (moment sc hands b) off.ends ∙ breaks-there lawful off
     ]
 
 -- a world before the breaking stage is in the run
-pub before-run : (sc : Scenario) → IsLawful sc → (w : World) → AnyWorld sc (nodes_at sc) w → IsBeforeTheBreak sc w → InRun sc w
-before-run sc lawful w (inl run) before = run
-before-run sc lawful w (inr (inl off)) before =
-    let k = off.stands in not-before sc w k.b k.q k.off (ap (λ (b : Book). b.upcoming) k.is ∙ breaks-there sc w.hands lawful k.b k.q k.off) before
-before-run sc lawful w (inr (inr over)) before = not-before sc w over.b over.q over.off (over-waits sc w.hands lawful over.b over.q w.book over.off over.of over.ended) before
+pub before-run : {sc : _} → IsLawful sc → {w : _} → AnyWorld sc (nodes_at sc) w → IsBeforeTheBreak sc w → InRun sc w
+before-run lawful (inl run) before = run
+before-run lawful {w} (inr (inl off)) before =
+    let k = off.stands in not-before w k.off (ap (λ (b : Book). b.upcoming) k.is ∙ breaks-there lawful k.off) before
+before-run lawful {w} (inr (inr over)) before = not-before w over.off (over-waits lawful over.off over.of over.ended) before
 
 pub cores-hold : CoresAreThoseOfTheRounds
-cores-hold sc lawful choices before = run-holds sc (world_after sc choices) lawful (before-run sc lawful (world_after sc choices) (any sc lawful choices) before).stands
+cores-hold sc lawful choices before = run-holds lawful (before-run lawful (any lawful choices) before).stands

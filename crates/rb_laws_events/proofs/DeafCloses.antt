@@ -2,7 +2,7 @@
 -- closes a stage of the sync slot in which it does not listen tells the same of it whatever came to
 -- it, and knows the same but for accusations.
 use Rattle.std.proofs.Common.{◌≡◌, ℕ, zero, suc, ◌==◌, ◌&&◌, if◌then◌else◌, Bool, true, false, List, [], ◌∷◌, map, refl, ap, ◌∙◌, Option, Some, None, get_or}
-use Rattle.rb_base.specs.{Counting.numbers, Nodes.{Side, has}, Nodes.Side.{Biu, Rmu}, Sizes.{Sizes, sync_slot_of}, declared.values.See.See, declared.values.See.TheVariants.Nothing}
+use Rattle.rb_base.specs.{Counting.numbers, Nodes.{Side, has}, Nodes.Side.{Biu, Rmu}, Sizes.{Sizes, sync_slot_of}, declared.values.See.TheVariants.Nothing}
 use Rattle.rb_rules.specs.{declared.role.Role.TheVariants.Sync, declared.sense.Sense.Sense, Book.Row, ExactStage.each_node, Hearing.{Coming, judged_see, row_of, sole_time}, NodeState.{NodeState, trusted_of}, Sense.stamp_in, Slots.listens, Standing.{has_evidence, is_eligible, taken_of, with_evidence}, SyncStage.{close_sync, expects_call, see_time, sync_closing_of, sync_outcome_of}}
 
 -- a node that does not listen takes nothing
@@ -44,14 +44,14 @@ sees-of : (sizes : Sizes) (me : Side) (st : NodeState) (stage first : ℕ) (sens
 unfolding close_sync sync_outcome_of
 sees-of sizes me st stage first sense = refl
 
-row-by : (sizes : Sizes) (me : Side) (i : ℕ) (st : NodeState) (stage first : ℕ) (sense : ℕ → Sense) (heard : ℕ → List Coming) (sees : List See)
+row-by : (sizes : Sizes) (me : Side) (i : ℕ) (st : NodeState) (stage first : ℕ) (sense : ℕ → Sense) (heard : ℕ → List Coming) {sees : _}
     → (close_sync sizes me st stage first sense).closed.sees ≡ sees
     → row_of me i (close_sync sizes me st stage first sense).state heard (close_sync sizes me st stage first sense).closed
     ≡ record (silent_row sizes me st stage) { sees = each_node (λ j. judged_see (sole_time (heard j)) (get_or sees j Nothing)) }
 unfolding row_of close_sync sync_outcome_of
-row-by sizes Biu i st stage first sense heard sees e =
+row-by sizes Biu i st stage first sense heard {sees} e =
     ap (λ sees. record (silent_row sizes Biu st stage) { sees = each_node (λ j. judged_see (sole_time (heard j)) (get_or sees j Nothing)) }) e
-row-by sizes Rmu i st stage first sense heard sees e =
+row-by sizes Rmu i st stage first sense heard {sees} e =
     ap (λ sees. record (silent_row sizes Rmu st stage) { sees = each_node (λ j. judged_see (sole_time (heard j)) (get_or sees j Nothing)) }) e
 
 -- a node that does not listen in a stage tells the silent row, whatever came to it
@@ -60,7 +60,7 @@ pub deaf-row : (sizes : Sizes) (me : Side) (i : ℕ) (st : NodeState) (stage fir
 deaf-row sizes me i st stage first sense heard deaf =
     let none : (close_sync sizes me st stage first sense).closed.sees ≡ map (λ n. Nothing) (numbers 16) =
     sees-of sizes me st stage first sense ∙ no-sees (taken_of stamp_in st.far (expects_call me st stage) sense) (takes-none me st stage sense deaf) (numbers 16) in
-    row-by sizes me i st stage first sense heard (map (λ n. Nothing) (numbers 16)) none
+    row-by sizes me i st stage first sense heard none
     ∙ ap (λ sees. record (silent_row sizes me st stage) { sees = sees }) (nothing-judged heard (numbers 16) (numbers 16))
 
 pub deaf-state : (sizes : Sizes) (me : Side) (st : NodeState) (stage first : ℕ) (sense : ℕ → Sense) → listens me Sync stage ≡ false

@@ -14,13 +14,13 @@ pub record LeavesTimes (sizes : Sizes) (plan : Plan) (me : Side) (st now : NodeS
   pub epoch : now.epoch ≡ st.epoch
   pub keeps : KeepsTime sizes plan me now
 
-deaf-leaves : (sizes : Sizes) (plan : Plan) (me : Side) (i : ℕ) (st : NodeState) (w : Window) (arrivals : ℕ → List Arrival) → w.slot ≡ sync_slot_of sizes → listens me Sync w.stage ≡ false
+deaf-leaves : {sizes plan me : _} (i : ℕ) {st : _} (w : Window) (arrivals : ℕ → List Arrival) → w.slot ≡ sync_slot_of sizes → listens me Sync w.stage ≡ false
     → KeepsTime sizes plan me st → LeavesTimes sizes plan me st (close_window sizes plan me i st w arrivals).state
-deaf-leaves sizes plan me i st w arrivals slot deaf keeps =
+deaf-leaves {sizes} {plan} {me} i {st} w arrivals slot deaf keeps =
     subst (λ b. LeavesTimes sizes plan me st (outcome b).state) (sym (same-is w.slot (sync_slot_of sizes) slot)) (record {
       frame = ap (λ (s : NodeState). s.frame) state;
       epoch = ap (λ (s : NodeState). s.epoch) state;
-      keeps = deaf-keeps sizes plan me st w.stage (st.epoch + w.first) sense deaf keeps;
+      keeps = deaf-keeps w.stage (st.epoch + w.first) sense deaf keeps;
     })
   where
     sense : ℕ → Sense
@@ -40,32 +40,32 @@ deaf-leaves sizes plan me i st w arrivals slot deaf keeps =
 
 -- the node has told its row after its last tick, and its next frame, as far as it knows when,
 -- begins after all stages of this one
-pub deaf-closes : (sc : Scenario) (hands : List HandIn) → HasRoom sc.plan → (ports : List PortState) (p q : ℕ) → q < 3
-    → (moment sc hands p).window ≡ 3 * sync_slot_of sc.sizes + q → (me : Side) (i : ℕ) (s : Site) → (h : WaitsDeaf sc hands me i p s)
+pub deaf-closes : {sc : Scenario} {hands : List HandIn} → HasRoom sc.plan → (ports : List PortState) {p : ℕ} (q : ℕ) → q < 3
+    → (moment sc hands p).window ≡ 3 * sync_slot_of sc.sizes + q → {me : Side} {i : ℕ} {s : Site} → (h : WaitsDeaf sc hands me i p s)
     → HasWord sc ports me i h.st (moment sc hands p).window (word_at sc (moment sc hands p) me i h.st)
     → HasClosed sc hands me i p (after_act sc ports me i (pass_and_tick sc ports me i h.a.tick s.core) s)
-deaf-closes sc hands room ports p q small at me i s h words =
+deaf-closes {sc} {hands} room ports {p} q small at {me} {i} {s} h words =
     let m : Moment = moment sc hands p in
     let st : NodeState = h.st in
     let w : Window = window_in sc m me st in
     let x : Act = pass_and_tick sc ports me i h.a.tick s.core in
-    let shows : ShowsRounds sc m me i st s h.a.tick x = shows-deaf sc m ports me i s st h.a.tick room h.good h.stands h.had h.small words h.last h.slot h.deaf in
+    let shows : ShowsRounds sc m me i st s h.a.tick x = shows-deaf m ports s room h.good h.stands h.had h.small words h.last h.slot h.deaf in
     let kept : NodeState = spoken sc m me i st w in
-    let keeps : KeepsTime sc.sizes sc.plan me kept = like-keeps sc.sizes sc.plan me i st kept (like-kept sc.sizes sc.plan me i st w.slot w.stage (word_for_window sc m i w)) h.stands.keeps in
+    let keeps : KeepsTime sc.sizes sc.plan me kept = like-keeps (like-kept sc.sizes sc.plan me i st w.slot w.stage (word_for_window sc m i w)) h.stands.keeps in
     let end : NodeState = (closing_of sc m me i st w s.core.inbox).state in
-    let leaves : LeavesTimes sc.sizes sc.plan me kept end = deaf-leaves sc.sizes sc.plan me i kept w (of_source s.core.inbox) h.slot h.deaf keeps in
+    let leaves : LeavesTimes sc.sizes sc.plan me kept end = deaf-leaves i w (of_source s.core.inbox) h.slot h.deaf keeps in
     let said : Stays st kept = keeping-stays sc.sizes me i st w.slot w.stage (word_for_window sc m i w) in
     let state : x.core.state ≡ end = ap (λ (c : Core). c.state) shows.act.core in
     let had : x.core.had ≡ h.a.tick + 1 = ap (λ (c : Core). c.had) shows.act.core in
     let epoch : end.epoch ≡ st.epoch = leaves.epoch ∙ said.epoch in
-    let first : first_of sc.sizes sc.plan me end (m.window + 1) ≡ last_of sc.sizes sc.plan me st m.window + 1 = first-alike sc.sizes sc.plan me st end m.window room.ticks (omega (arith, at, small)) in
+    let first : first_of sc.sizes sc.plan me end (m.window + 1) ≡ last_of sc.sizes sc.plan me st m.window + 1 = first-alike sc.sizes me st end m.window room.ticks (omega (arith, at, small)) in
     let past : IsPast sc.sizes sc.plan me st.frame st.epoch (m.window + 1) end x.core.had = record {
       in_frame = leaves.frame ∙ said.frame;
       epoch = epoch;
       from = let last : h.a.tick ≡ last_tick sc m me st = h.last in omega (arith, first, epoch, had, last);
       next = leaves.keeps.next;
     } in
-    (closes-told sc hands ports me i p h.a.tick s st x h.state h.good shows (ap (λ (w : Window). w.stage == 4) ((sync_windows_are sc m q small at).are me st) ∙ differs (q + 1) (omega arith))
+    (closes-told hands ports p h.state h.good shows (ap (λ (w : Window). w.stage == 4) ((sync_windows_are sc m q small at).are me st) ∙ differs (q + 1) (omega arith))
     (subst (λ z. IsPast sc.sizes sc.plan me st.frame st.epoch (m.window + 1) z x.core.had) (sym state) past)
     (λ deaf. subst (KeepsTime sc.sizes sc.plan me) (sym state) leaves.keeps))
   where

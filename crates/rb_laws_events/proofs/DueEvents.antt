@@ -50,10 +50,10 @@ every-from Q i make (x ∷ xs) all =
       every-from Q (i + 1) make xs (λ n y e. let s : i + suc n ≡ i + 1 + n = omega arith in subst (λ k. Q (make k y)) s (all (suc n) y e)),
     )
 
-pub every-at : {X : Type 0} (P : X → Type 0) (xs : List X) (n : ℕ) (x : X) → slice_get xs n ≡ Some x → Every P xs → P x
-every-at P [] n x e a = cc
-every-at P (y ∷ ys) zero x e a = let same : y ≡ x = cc in subst P same a.0
-every-at P (y ∷ ys) (suc n) x e a = every-at P ys n x e a.1
+pub every-at : {X : Type 0} (P : X → Type 0) (xs : List X) (n : ℕ) {x : X} → slice_get xs n ≡ Some x → Every P xs → P x
+every-at P [] n e a = cc
+every-at P (y ∷ ys) zero {x} e a = let same : y ≡ x = cc in subst P same a.0
+every-at P (y ∷ ys) (suc n) e a = every-at P ys n e a.1
 
 -- The least time.
 
@@ -208,9 +208,9 @@ pub record IsDue (w : World) (d : Due) : Type 0 where
 pub record ComesFromNodes (sc : Scenario) (w : World) : Type 0 where
   pub known : (me : Side) (i : ℕ) (s : Site) → slice_get (of_kind me w.sites) i ≡ Some s → Every (λ c. c.from < count_of (other me) sc.sizes) s.coming
 
-of-is-due : (w : World) (t : ℕ) (me : Side) (i : ℕ) (s : Site) → slice_get (of_kind me w.sites) i ≡ Some s
+of-is-due : (w : World) {t me i s : _} → slice_get (of_kind me w.sites) i ≡ Some s
     → Every (λ u. t ≤ u) (flat_map times_of (in_order w.sites)) → (d : Due) → IsOf t me i s d → IsDue w d
-of-is-due w t me i s there first d h = record {
+of-is-due w {t} {me} {s} there first d h = record {
   t = t;
   s = s;
   there = ap (λ side. slice_get (of_kind side w.sites) d.node) h.side ∙ ap (slice_get (of_kind me w.sites)) h.node ∙ there;
@@ -218,44 +218,44 @@ of-is-due w t me i s there first d h = record {
   first = first;
 }
 
-due-at : (sc : Scenario) (w : World) → ComesFromNodes sc w → (o : Option ℕ) → least (flat_map times_of (in_order w.sites)) ≡ o → Every (IsDue w) (due_at sc w o)
-due-at sc w known None e = tt
-due-at sc w known (Some t) e =
+due-at : {sc w : _} → ComesFromNodes sc w → (o : Option ℕ) → least (flat_map times_of (in_order w.sites)) ≡ o → Every (IsDue w) (due_at sc w o)
+due-at known None e = tt
+due-at {sc} {w} known (Some t) e =
     let first : Every (λ u. t ≤ u) (flat_map times_of (in_order w.sites)) = least-of (flat_map times_of (in_order w.sites)) t e in
     let by_node : Every (λ s. Every (λ u. t ≤ u) (times_of s)) (w.sites.bius ++ w.sites.rmus) = every-unflat (λ u. t ≤ u) times_of (in_order w.sites) first in
     let bius : Every (λ s. Every (λ u. t ≤ u) (times_of s)) w.sites.bius = every-front (λ s. Every (λ u. t ≤ u) (times_of s)) w.sites.bius w.sites.rmus by_node in
     let rmus : Every (λ s. Every (λ u. t ≤ u) (times_of s)) w.sites.rmus = every-back (λ s. Every (λ u. t ≤ u) (times_of s)) w.sites.bius w.sites.rmus by_node in
     let at : (me : Side) (i : ℕ) (s : Site) → slice_get (of_kind me w.sites) i ≡ Some s → Every (λ u. t ≤ u) (times_of s) → Every (IsDue w) (ready_at sc.sizes t me i s) =
-    λ me i s there le. every-weaker (IsOf t me i s) (IsDue w) (of-is-due w t me i s there first) (ready_at sc.sizes t me i s)
+    λ me i s there le. every-weaker (IsOf t me i s) (IsDue w) (of-is-due w there first) (ready_at sc.sizes t me i s)
     (all-ready sc.sizes t me i s (known.known me i s there) le) in
     every-flat (IsDue w) (λ due. due) (in_order (map_each (ready_at sc.sizes t) w.sites))
     (every-append (Every (IsDue w)) (map_from 0 (ready_at sc.sizes t Biu) w.sites.bius) (map_from 0 (ready_at sc.sizes t Rmu) w.sites.rmus)
     (every-from (Every (IsDue w)) 0 (ready_at sc.sizes t Biu) w.sites.bius
     (λ n s e. let z : 0 + n ≡ n = omega arith in subst (λ k. Every (IsDue w) (ready_at sc.sizes t Biu k s)) (sym z)
-    (at Biu n s e (every-at (λ s. Every (λ u. t ≤ u) (times_of s)) w.sites.bius n s e bius))))
+    (at Biu n s e (every-at (λ s. Every (λ u. t ≤ u) (times_of s)) w.sites.bius n e bius))))
     (every-from (Every (IsDue w)) 0 (ready_at sc.sizes t Rmu) w.sites.rmus
     (λ n s e. let z : 0 + n ≡ n = omega arith in subst (λ k. Every (IsDue w) (ready_at sc.sizes t Rmu k s)) (sym z)
-    (at Rmu n s e (every-at (λ s. Every (λ u. t ≤ u) (times_of s)) w.sites.rmus n s e rmus)))))
+    (at Rmu n s e (every-at (λ s. Every (λ u. t ≤ u) (times_of s)) w.sites.rmus n e rmus)))))
 
-due-by : (sc : Scenario) (w : World) → ComesFromNodes sc w → (b : Bool)
+due-by : {sc w : _} → ComesFromNodes sc w → (b : Bool)
     → Every (IsDue w) (elim b as (λ _. List Due) [ true ↦ [] | false ↦ due_at sc w (least (flat_map times_of (in_order w.sites))) ])
-due-by sc w known true = tt
-due-by sc w known false = due-at sc w known (least (flat_map times_of (in_order w.sites))) refl
+due-by known true = tt
+due-by {w} known false = due-at known (least (flat_map times_of (in_order w.sites))) refl
 
 -- each event that may be taken is due
-pub all-due : (sc : Scenario) (w : World) → ComesFromNodes sc w → Every (IsDue w) (due_of sc w)
+pub all-due : {sc w : _} → ComesFromNodes sc w → Every (IsDue w) (due_of sc w)
 unfolding due_of
-all-due sc w known = due-by sc w known (w.book.ended || needs_no_event sc w.book.upcoming)
+all-due {sc} {w} known = due-by known (w.book.ended || needs_no_event sc w.book.upcoming)
 
-pub due-is : (sc : Scenario) (w : World) (i : ℕ) (d : Due) → ComesFromNodes sc w → slice_get (due_of sc w) i ≡ Some d → IsDue w d
-due-is sc w i d known e = every-at (IsDue w) (due_of sc w) i d e (all-due sc w known)
+pub due-is : {sc w : _} (i : ℕ) {d : _} → ComesFromNodes sc w → slice_get (due_of sc w) i ≡ Some d → IsDue w d
+due-is {sc} {w} i known e = every-at (IsDue w) (due_of sc w) i e (all-due known)
 
 -- Something is due if something is pending.
 
 -- the least of times above t is above t
-least-above : (t u : ℕ) (xs : List ℕ) → Every (λ v. t < v) xs → least xs ≡ Some u → t < u
-least-above t u [] a e = cc
-least-above t u (x ∷ xs) a e = by (λ v h. least-above t v xs a.1 h) (least xs) refl e
+least-above : (t : ℕ) {u : ℕ} (xs : List ℕ) → Every (λ v. t < v) xs → least xs ≡ Some u → t < u
+least-above t [] a e = cc
+least-above t {u} (x ∷ xs) a e = by (λ v h. least-above t xs a.1 h) (least xs) refl e
   where
     by : ((v : ℕ) → least xs ≡ Some v → t < v) → (o : Option ℕ) → least xs ≡ o
         → ◌≡◌ {A = Option ℕ} (Some (elim o as (λ _. ℕ) [ None ↦ x | Some v ↦ min x v ])) (Some u) → t < u
@@ -313,8 +313,8 @@ from-every Q i make (x ∷ xs) a R go =
       from-every Q (i + 1) make xs a.1 R (λ n y e q. let s : i + 1 + n ≡ i + suc n = omega arith in go (suc n) y e (subst (λ k. Q (make k y)) s q)),
     )
 
-none-absurd : (sc : Scenario) (w : World) → ComesFromNodes sc w → (t : ℕ) → least (flat_map times_of (in_order w.sites)) ≡ Some t → due_at sc w (Some t) ≡ [] → ⊥
-none-absurd sc w known t e none =
+none-absurd : {sc w : _} → ComesFromNodes sc w → {t : ℕ} → least (flat_map times_of (in_order w.sites)) ≡ Some t → due_at sc w (Some t) ≡ [] → ⊥
+none-absurd {sc} {w} known {t} e none =
     let first : Every (λ u. t ≤ u) (flat_map times_of (in_order w.sites)) = least-of (flat_map times_of (in_order w.sites)) t e in
     let le : Every (λ s. Every (λ u. t ≤ u) (times_of s)) (w.sites.bius ++ w.sites.rmus) = every-unflat (λ u. t ≤ u) times_of (in_order w.sites) first in
     let empty : Every (λ (ds : List Due). ds ≡ []) (map_from 0 (ready_at sc.sizes t Biu) w.sites.bius ++ map_from 0 (ready_at sc.sizes t Rmu) w.sites.rmus) =
@@ -326,21 +326,21 @@ none-absurd sc w known t e none =
     from-every (λ ds. ds ≡ []) 0 (ready_at sc.sizes t Biu) w.sites.bius
     (every-front (λ ds. ds ≡ []) (map_from 0 (ready_at sc.sizes t Biu) w.sites.bius) (map_from 0 (ready_at sc.sizes t Rmu) w.sites.rmus) empty)
     (λ s. Every (λ u. t < u) (times_of s))
-    (λ n s there h. later Biu n s there (every-at (λ s. Every (λ u. t ≤ u) (times_of s)) w.sites.bius n s there (every-front (λ s. Every (λ u. t ≤ u) (times_of s)) w.sites.bius w.sites.rmus le)) h) in
+    (λ n s there h. later Biu n s there (every-at (λ s. Every (λ u. t ≤ u) (times_of s)) w.sites.bius n there (every-front (λ s. Every (λ u. t ≤ u) (times_of s)) w.sites.bius w.sites.rmus le)) h) in
     let rmus : Every (λ s. Every (λ u. t < u) (times_of s)) w.sites.rmus =
     from-every (λ ds. ds ≡ []) 0 (ready_at sc.sizes t Rmu) w.sites.rmus
     (every-back (λ ds. ds ≡ []) (map_from 0 (ready_at sc.sizes t Biu) w.sites.bius) (map_from 0 (ready_at sc.sizes t Rmu) w.sites.rmus) empty)
     (λ s. Every (λ u. t < u) (times_of s))
-    (λ n s there h. later Rmu n s there (every-at (λ s. Every (λ u. t ≤ u) (times_of s)) w.sites.rmus n s there (every-back (λ s. Every (λ u. t ≤ u) (times_of s)) w.sites.bius w.sites.rmus le)) h) in
-    let above : t < t = least-above t t (flat_map times_of (in_order w.sites))
+    (λ n s there h. later Rmu n s there (every-at (λ s. Every (λ u. t ≤ u) (times_of s)) w.sites.rmus n there (every-back (λ s. Every (λ u. t ≤ u) (times_of s)) w.sites.bius w.sites.rmus le)) h) in
+    let above : t < t = least-above t (flat_map times_of (in_order w.sites))
     (every-flat (λ u. t < u) times_of (in_order w.sites) (every-append (λ s. Every (λ u. t < u) (times_of s)) w.sites.bius w.sites.rmus bius rmus)) e in
     absurd (omega arith)
 
 -- if the run goes on and its next record needs an event, an event is due while anything is pending
-pub some-due : (sc : Scenario) (w : World) (t : ℕ) → ComesFromNodes sc w → (w.book.ended || needs_no_event sc w.book.upcoming) ≡ false
+pub some-due : {sc w t : _} → ComesFromNodes sc w → (w.book.ended || needs_no_event sc w.book.upcoming) ≡ false
     → least (flat_map times_of (in_order w.sites)) ≡ Some t → due_of sc w ≡ [] → ⊥
 unfolding due_of
-some-due sc w t known goes e none =
-    none-absurd sc w known t e
+some-due {sc} {w} known goes e none =
+    none-absurd known e
     (ap (due_at sc w) (sym e)
     ∙ ap (λ b. elim b as (λ _. List Due) [ true ↦ [] | false ↦ due_at sc w (least (flat_map times_of (in_order w.sites))) ]) (sym goes) ∙ none)

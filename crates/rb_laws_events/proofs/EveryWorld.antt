@@ -10,9 +10,9 @@ use Rattle.rb_laws_events.specs.Closing.{stages_in}
 -- Choices.
 
 -- if something is due, the run has not ended, and the next record needs an event
-pub due-going : (sc : Scenario) (w : World) (i : ℕ) (d : Due) → slice_get (due_of sc w) i ≡ Some d → (w.book.ended ≡ false) × (needs_no_event sc w.book.upcoming ≡ false)
+pub due-going : (sc : Scenario) (w : World) (i : ℕ) {d : _} → slice_get (due_of sc w) i ≡ Some d → (w.book.ended ≡ false) × (needs_no_event sc w.book.upcoming ≡ false)
 unfolding due_of
-due-going sc w i d = by w.book.ended (needs_no_event sc w.book.upcoming)
+due-going sc w i {d} = by w.book.ended (needs_no_event sc w.book.upcoming)
   where
     by : (b c : Bool) → slice_get (elim (b || c) as (λ _. List Due) [
       | true ↦ []
@@ -34,20 +34,20 @@ abbrev pub AnyWorld : (sc : Scenario) → (ℕ → List HandIn → ℕ → (Side
 AnyWorld sc N w = InRun sc w ⊎ (BreaksOff sc N w ⊎ IsOver sc N w)
 
 -- what settles by itself keeps the world in the rounds
-go-on-keeps : (sc : Scenario) (now : ℕ) (at : Side → ℕ → ℕ) (w : World) → IsLawful sc → HasRoom sc.plan → WorldInRounds sc now at w
+go-on-keeps : {sc now at w : _} → IsLawful sc → HasRoom sc.plan → WorldInRounds sc now at w
     → WorldInRounds sc now at (go_on sc w) × (((go_on sc w).sites ≡ w.sites) × ((go_on sc w).hands ≡ w.hands))
 unfolding go_on
-go-on-keeps sc now at w lawful room h = by w.book.ended
+go-on-keeps {sc} {now} {at} {w} lawful room h = by w.book.ended
   where
     by : (b : Bool) → WorldInRounds sc now at (elim b as (λ _. World) [ true ↦ w | false ↦ settle sc ByItself 2 w ])
         × (((elim b as (λ _. World) [ true ↦ w | false ↦ settle sc ByItself 2 w ]).sites ≡ w.sites) × ((elim b as (λ _. World) [ true ↦ w | false ↦ settle sc ByItself 2 w ]).hands ≡ w.hands))
     by true = (h, (refl, refl))
     by false =
         let y : World = settle sc ByItself 2 w in (
-          settled-stands sc now at w y w.hands (settle-sites sc ByItself 2 w) (settle-hands sc ByItself 2 w) (settle-ports sc ByItself 2 w)
-              h.sites h.passed h.tell h.told (all-settled sc ByItself 2 w w.hands w.sites room.ticks refl refl h.tell h.book) h.many h.ports h.handed
-              (go-on-settled sc w.hands at 2 w lawful.sizes h.told h.settled.waits) h.so_far
-              (settle-paced sc w.hands at ByItself 2 w w.sites lawful.sizes refl h.sites.counts h.told (is-paced sc now at w h)).bound,
+          settled-stands w (settle-sites sc ByItself 2 w) (settle-hands sc ByItself 2 w) (settle-ports sc ByItself 2 w)
+              h.sites h.passed h.tell h.told (all-settled ByItself 2 w room.ticks refl refl h.tell h.book) h.many h.ports h.handed
+              (go-on-settled 2 w lawful.sizes h.told h.settled.waits) h.so_far
+              (settle-paced ByItself 2 w lawful.sizes refl h.sites.counts h.told (is-paced h)).bound,
           (settle-sites sc ByItself 2 w, settle-hands sc ByItself 2 w),
         )
 
@@ -55,9 +55,9 @@ go-on-keeps sc now at w lawful room h = by w.book.ended
 
 -- a due event that is taken: either the nodes stand in the rounds after it, or it is the first
 -- close of a stage with which the run breaks off
-take-run : (sc : Scenario) (N : ℕ → List HandIn → ℕ → (Side → ℕ → ℕ → Bool) → Each Site → Type 0) (w : World) (d : Due) → IsLawful sc → HasRoom sc.plan → ((q : ℕ) → q < 3 → KeepsNodes sc q (N q)) → InRun sc w
+take-run : {sc : _} (N : ℕ → List HandIn → ℕ → (Side → ℕ → ℕ → Bool) → Each Site → Type 0) {w d : _} → IsLawful sc → HasRoom sc.plan → ((q : ℕ) → q < 3 → KeepsNodes sc q (N q)) → InRun sc w
     → w.book.ended ≡ false → needs_no_event sc w.book.upcoming ≡ false → IsDue w d → AnyWorld sc N (take_if_due sc w (Some d))
-take-run sc N w d lawful room keeps run going needs due = from-where waits.1.from
+take-run {sc} N {w} {d} lawful room keeps run going needs due = from-where waits.1.from
   where
     h : StandsInRounds sc w
     h = run.stands
@@ -66,7 +66,7 @@ take-run sc N w d lawful room keeps run going needs due = from-where waits.1.fro
     hands = w.hands
 
     waits : (n : ℕ) × WaitsAt sc w.hands h.at w.sites w.book n
-    waits = world-waits sc h.now h.at w h.stands going needs
+    waits = world-waits h.stands going needs
 
     n : ℕ
     n = waits.0
@@ -84,7 +84,7 @@ take-run sc N w d lawful room keeps run going needs due = from-where waits.1.fro
     reached r =
         let may : MayHappen sc h.at w n = record { stage = waits.1.stage; bound = waits.1.bound; within = waits.1.within; up_to = r.up_to } in
         let after : StandsUpTo sc hands n (take_if_due sc w (Some d)) =
-        take-keeps sc h.now h.at w d lawful room h.stands n may going due (closes-earlier sc h.now h.at w n d lawful h.stands waits.1 r.up_to due) in
+        take-keeps lawful room h.stands may going due (closes-earlier lawful h.stands waits.1 r.up_to due) in
         inl (record {
           stands = after.stands;
           before = λ b q off me i s there.
@@ -106,16 +106,16 @@ take-run sc N w d lawful room keeps run going needs due = from-where waits.1.fro
         may =
             let next : NextIsStage sc hands b = next-is-stage sc hands b (omega (arith, stage)) in
             let later = next.later in
-            record { stage = stage; bound = bound; within = λ p le. waits.1.within p (omega (arith, le, n_is, later)); up_to = from-running sc hands lawful b stage off.running }
+            record { stage = stage; bound = bound; within = λ p le. waits.1.within p (omega (arith, le, n_is, later)); up_to = from-running hands lawful b stage off.running }
 
         still : ClosesEarlier sc hands h.at b me i d.pending → AnyWorld sc N (take_if_due sc w (Some d))
         still early =
-            let after : StandsUpTo sc hands b (take_if_due sc w (Some d)) = take-keeps sc h.now h.at w d lawful room h.stands b may going due early in
+            let after : StandsUpTo sc hands b (take_if_due sc w (Some d)) = take-keeps lawful room h.stands may going due early in
             inl (record {
               stands = after.stands;
               before = λ c r off2 me i s there.
                   let le = after.bound me i s there in
-                  let not_past = breaks-later sc hands c r b (subst (λ hands. BreaksAt sc hands c r) after.hands_are off2) off.running in
+                  let not_past = breaks-later b (subst (λ hands. BreaksAt sc hands c r) after.hands_are off2) off.running in
                   omega (arith, le, not_past);
             })
 
@@ -130,7 +130,7 @@ take-run sc N w d lawful room keeps run going needs due = from-where waits.1.fro
               | inl lt ↦ still (subst (ClosesEarlier sc hands h.at b me i) (sym e) (λ st f last. lt))
               | inr ge ↦
                   let same : p ≡ b = omega (arith, le, ge) in
-                  let up : IsUp sc hands (sent_by sc hands h.at w.sites) h.now me i p s = up-there sc h.now h.at w me i s a h.stands.sites due.there ready.1.0 in
+                  let up : IsUp sc hands (sent_by sc hands h.at w.sites) h.now me i p s = up-there w me i h.stands.sites due.there ready.1.0 in
                   let a_is : up.a ≡ a = same_Some up.a a (sym up.stands.receives.pends ∙ ready.1.0) in
                   let tick : up.a.tick ≡ k = ap (λ (a : Timed). a.tick) a_is ∙ ready.1.1.0 in
                   let within : up.a.tick ≤ last_tick sc (moment sc hands p) me up.st = up.stands.receives.in_window in
@@ -143,7 +143,7 @@ take-run sc N w d lawful room keeps run going needs due = from-where waits.1.fro
                         let last : k ≡ last_tick sc (moment sc hands p) me up.st = omega (arith, not_lt, tick, within) in
                         let time : up.a.time ≡ due.t = ap (λ (a : Timed). a.time) a_is ∙ ready.1.1.1.0 in
                         let later : h.now ≤ up.a.time = up.stands.receives.tick_after in
-                        inr (begins-off sc N h.now h.at w b q d k up.st lawful room (keeps q off.small) off h.stands bound is needs due e same
+                        inr (begins-off N lawful room (keeps q off.small) off h.stands bound is needs due e same
                         (subst (λ p. slice_get (of_kind me (moment sc hands p).nodes) i ≡ Some up.st) same up.stands.state)
                         (subst (λ p. is_good_at sc (moment sc hands p) me i ≡ true) same up.stands.good)
                         (subst (λ p. k ≡ last_tick sc (moment sc hands p) me up.st) same last) (omega (arith, later, time))
@@ -152,17 +152,17 @@ take-run sc N w d lawful room keeps run going needs due = from-where waits.1.fro
             ]
 
     from-where : (n ≡ 0) ⊎ ((g : ℕ) × (IsRunning (moment sc hands g) × ((n ≡ next_stage sc.sizes (moment sc hands g) g) × (w.book ≡ (moment sc hands g).book)))) → AnyWorld sc N (take_if_due sc w (Some d))
-    from-where (inl first) = reached (reaches-first sc hands lawful n waits.1.stage first)
-    from-where (inr from) = elim (reach sc hands lawful n waits.1.stage from.0 from.1.0 from.1.1.0) [
+    from-where (inl first) = reached (reaches-first hands lawful waits.1.stage first)
+    from-where (inr from) = elim (reach hands lawful waits.1.stage from.0 from.1.0 from.1.1.0) [
       | inl r ↦ reached r
       | inr b ↦ breaks from.0 b.0 b.1 from.1.1.0 from.1.1.1
     ]
 
 -- what settles by itself leaves the world in the run
-go-on-run : (sc : Scenario) (w : World) → IsLawful sc → HasRoom sc.plan → InRun sc w → InRun sc (go_on sc w)
-go-on-run sc w lawful room run =
+go-on-run : {sc w : _} → IsLawful sc → HasRoom sc.plan → InRun sc w → InRun sc (go_on sc w)
+go-on-run {sc} {w} lawful room run =
     let h : StandsInRounds sc w = run.stands in
-    let y = go-on-keeps sc h.now h.at w lawful room h.stands in
+    let y = go-on-keeps lawful room h.stands in
     record {
       stands = record { now = h.now; at = h.at; stands = y.0 };
       before = λ b q off me i s there.
@@ -170,10 +170,10 @@ go-on-run sc w lawful room run =
     }
 
 -- a hand-in leaves the world in the run
-hand-run : (sc : Scenario) (w : World) (biu state : ℕ) → IsLawful sc → HasRoom sc.plan → InRun sc w → InRun sc (hand sc w biu state)
-hand-run sc w biu state lawful room run =
+hand-run : {sc w : _} (biu state : ℕ) → IsLawful sc → HasRoom sc.plan → InRun sc w → InRun sc (hand sc w biu state)
+hand-run {sc} {w} biu state lawful room run =
     let h : StandsInRounds sc w = run.stands in
-    let y : HandsIn sc h.now h.at w (hand sc w biu state) = hand-keeps sc h.now h.at w biu state lawful room h.stands in
+    let y : HandsIn sc h.now h.at w (hand sc w biu state) = hand-keeps biu state lawful room h.stands in
     record {
       stands = record { now = h.now; at = h.at; stands = y.stands };
       before = λ b q off me i s there.
@@ -181,7 +181,7 @@ hand-run sc w biu state lawful room run =
           elim y.free [
             | inl same ↦ run.before b q (subst (λ hands. BreaksAt sc hands b q) same off) me i s old
             | inr free ↦
-                let le : free.0 ≤ b = breaks-later sc (hand sc w biu state).hands b q free.0 off free.1.0 in
+                let le : free.0 ≤ b = breaks-later free.0 off free.1.0 in
                 let near : h.at me i ≤ free.0 + 1 = free.1.1.1 me i s old in
                 elim (cases_lt free.0 b) [
                   | inl lt ↦ omega (arith, lt, near)
@@ -197,19 +197,19 @@ hand-run sc w biu state lawful room run =
 
 -- Choices once the run has broken off.
 
-go-on-still : (sc : Scenario) (N : ℕ → List HandIn → ℕ → (Side → ℕ → ℕ → Bool) → Each Site → Type 0) (w : World) → BreaksOff sc N w → BreaksOff sc N (go_on sc w)
+go-on-still : {sc : _} (N : ℕ → List HandIn → ℕ → (Side → ℕ → ℕ → Bool) → Each Site → Type 0) {w : _} → BreaksOff sc N w → BreaksOff sc N (go_on sc w)
 unfolding go_on
-go-on-still sc N w h =
+go-on-still {sc} N {w} h =
     let going : w.book.ended ≡ false = ap (λ (b : Book). b.ended) h.stands.is ∙ h.stands.off.running in
     let of : (m : Milestone) → needs_no_event sc m ≡ false → comes_so sc ByItself m ≡ false = λ m e. e in
     let still : settle_next sc ByItself w ≡ w =
     ap (λ b. elim (b && is_complete sc w.sites w.book.upcoming) as (λ _. World) [ true ↦ next_world sc w w.book.upcoming | false ↦ w ]) (of w.book.upcoming h.stands.needs) in
     subst (λ b. BreaksOff sc N (elim b as (λ _. World) [ true ↦ w | false ↦ settle sc ByItself 2 w ])) (sym going)
-    (subst (BreaksOff sc N) (sym (settle-still sc ByItself 2 w still)) (record { stands = h.stands; silent = refl; ports = h.ports }))
+    (subst (BreaksOff sc N) (sym (settle-still sc ByItself 2 still)) (record { stands = h.stands; silent = refl; ports = h.ports }))
 
-go-on-over : (sc : Scenario) (N : ℕ → List HandIn → ℕ → (Side → ℕ → ℕ → Bool) → Each Site → Type 0) (w : World) → IsOver sc N w → IsOver sc N (go_on sc w)
+go-on-over : {sc : _} (N : ℕ → List HandIn → ℕ → (Side → ℕ → ℕ → Bool) → Each Site → Type 0) {w : _} → IsOver sc N w → IsOver sc N (go_on sc w)
 unfolding go_on
-go-on-over sc N w h = subst (λ b. IsOver sc N (elim b as (λ _. World) [ true ↦ w | false ↦ settle sc ByItself 2 w ])) (sym h.ended) h
+go-on-over {sc} N {w} h = subst (λ b. IsOver sc N (elim b as (λ _. World) [ true ↦ w | false ↦ settle sc ByItself 2 w ])) (sym h.ended) h
 
 -- nothing is handed in unless the turn is the record of a frame
 pub hand-none : (sc : Scenario) (w : World) (biu state : ℕ) → frame_in w.turn ≡ None → hand sc w biu state ≡ w
@@ -223,29 +223,29 @@ hand-none sc w biu state silent = ap (λ o. elim o as (λ _. World) [
 ]) silent
 
 -- one choice keeps `AnyWorld`
-choice-keeps : (sc : Scenario) (N : ℕ → List HandIn → ℕ → (Side → ℕ → ℕ → Bool) → Each Site → Type 0) (choices : List Choice) (c : Choice) → IsLawful sc → HasRoom sc.plan → ((q : ℕ) → q < 3 → KeepsNodes sc q (N q))
+choice-keeps : {sc : _} (N : ℕ → List HandIn → ℕ → (Side → ℕ → ℕ → Bool) → Each Site → Type 0) (choices : List Choice) (c : Choice) → IsLawful sc → HasRoom sc.plan → ((q : ℕ) → q < 3 → KeepsNodes sc q (N q))
     → AnyWorld sc N (world_after sc choices) → AnyWorld sc N (choose sc (world_after sc choices) c)
 unfolding take
-choice-keeps sc N choices (Take i) lawful room keeps h = by (slice_get (due_of sc (world_after sc choices)) i) refl
+choice-keeps {sc} N choices (Take i) lawful room keeps h = by (slice_get (due_of sc (world_after sc choices)) i) refl
   where
     w : World
     w = world_after sc choices
 
     of : (d : Due) → w.book.ended ≡ false → needs_no_event sc w.book.upcoming ≡ false → IsDue w d → AnyWorld sc N w → AnyWorld sc N (take_if_due sc w (Some d))
-    of d going needs due (inl run) = take-run sc N w d lawful room keeps run going needs due
-    of d going needs due (inr (inl off)) = inr (take-off sc N w d lawful room keeps off due)
+    of d going needs due (inl run) = take-run N lawful room keeps run going needs due
+    of d going needs due (inr (inl off)) = inr (take-off N lawful room keeps off due)
     of d going needs due (inr (inr over)) = true-false (sym over.ended ∙ going)
 
     by : (o : Option Due) → slice_get (due_of sc (world_after sc choices)) i ≡ o → AnyWorld sc N (take_if_due sc (world_after sc choices) o)
     by None e = h
-    by (Some d) e = let open_still = due-going sc w i d e in of d open_still.0 open_still.1 (events-due sc choices i d e) h
-choice-keeps sc N choices GoOn lawful room keeps (inl run) = inl (go-on-run sc (world_after sc choices) lawful room run)
-choice-keeps sc N choices GoOn lawful room keeps (inr (inl off)) = inr (inl (go-on-still sc N (world_after sc choices) off))
-choice-keeps sc N choices GoOn lawful room keeps (inr (inr over)) = inr (inr (go-on-over sc N (world_after sc choices) over))
-choice-keeps sc N choices (Hand biu state) lawful room keeps (inl run) = inl (hand-run sc (world_after sc choices) biu state lawful room run)
-choice-keeps sc N choices (Hand biu state) lawful room keeps (inr (inl off)) =
+    by (Some d) e = let open_still = due-going sc w i e in of d open_still.0 open_still.1 (events-due sc choices i e) h
+choice-keeps N choices GoOn lawful room keeps (inl run) = inl (go-on-run lawful room run)
+choice-keeps N choices GoOn lawful room keeps (inr (inl off)) = inr (inl (go-on-still N off))
+choice-keeps N choices GoOn lawful room keeps (inr (inr over)) = inr (inr (go-on-over N over))
+choice-keeps N choices (Hand biu state) lawful room keeps (inl run) = inl (hand-run biu state lawful room run)
+choice-keeps {sc} N choices (Hand biu state) lawful room keeps (inr (inl off)) =
     inr (inl (subst (BreaksOff sc N) (sym (hand-none sc (world_after sc choices) biu state off.silent)) off))
-choice-keeps sc N choices (Hand biu state) lawful room keeps (inr (inr over)) =
+choice-keeps {sc} N choices (Hand biu state) lawful room keeps (inr (inr over)) =
     inr (inr (subst (IsOver sc N) (sym (hand-none sc (world_after sc choices) biu state over.silent)) over))
 
 pub after-more : (sc : Scenario) (choices : List Choice) (c : Choice) → world_after sc (choices ++ c ∷ []) ≡ choose sc (world_after sc choices) c
@@ -256,29 +256,29 @@ after-more sc choices c = more choices (first_world sc)
     more (x ∷ xs) w = more xs (choose sc w x)
 
 -- the first world is in the run
-first-run : (sc : Scenario) → IsLawful sc → HasRoom sc.plan → InRun sc (first_world sc)
-first-run sc lawful room =
-    record { stands = record { now = 0; at = at_begin; stands = first-in-rounds sc lawful room }; before = λ b q off me i s there. omega arith }
+first-run : {sc : _} → IsLawful sc → HasRoom sc.plan → InRun sc (first_world sc)
+first-run lawful room =
+    record { stands = record { now = 0; at = at_begin; stands = first-in-rounds lawful room }; before = λ b q off me i s there. omega arith }
 
 -- further choices keep `AnyWorld`
-from-here : (sc : Scenario) (N : ℕ → List HandIn → ℕ → (Side → ℕ → ℕ → Bool) → Each Site → Type 0) → IsLawful sc → HasRoom sc.plan → ((q : ℕ) → q < 3 → KeepsNodes sc q (N q)) → (before rest : List Choice)
+from-here : {sc : _} (N : ℕ → List HandIn → ℕ → (Side → ℕ → ℕ → Bool) → Each Site → Type 0) → IsLawful sc → HasRoom sc.plan → ((q : ℕ) → q < 3 → KeepsNodes sc q (N q)) → (before rest : List Choice)
     → AnyWorld sc N (world_after sc before) → AnyWorld sc N (world_after sc (before ++ rest))
-from-here sc N lawful room keeps before [] h = subst (λ cs. AnyWorld sc N (world_after sc cs)) (sym (append-nil before)) h
-from-here sc N lawful room keeps before (c ∷ rest) h =
+from-here {sc} N lawful room keeps before [] h = subst (λ cs. AnyWorld sc N (world_after sc cs)) (sym (append-nil before)) h
+from-here {sc} N lawful room keeps before (c ∷ rest) h =
     let one : AnyWorld sc N (world_after sc (before ++ c ∷ [])) =
-    subst (AnyWorld sc N) (sym (after-more sc before c)) (choice-keeps sc N before c lawful room keeps h) in
-    subst (λ cs. AnyWorld sc N (world_after sc cs)) (append_assoc before (c ∷ []) rest) (from-here sc N lawful room keeps (before ++ c ∷ []) rest one)
+    subst (AnyWorld sc N) (sym (after-more sc before c)) (choice-keeps N before c lawful room keeps h) in
+    subst (λ cs. AnyWorld sc N (world_after sc cs)) (append_assoc before (c ∷ []) rest) (from-here N lawful room keeps (before ++ c ∷ []) rest one)
 
 -- every world is in the run, or it breaks off there, or has broken off
-pub any-after : (sc : Scenario) (N : ℕ → List HandIn → ℕ → (Side → ℕ → ℕ → Bool) → Each Site → Type 0) → IsLawful sc → HasRoom sc.plan → ((q : ℕ) → q < 3 → KeepsNodes sc q (N q)) → (choices : List Choice)
+pub any-after : {sc : _} (N : ℕ → List HandIn → ℕ → (Side → ℕ → ℕ → Bool) → Each Site → Type 0) → IsLawful sc → HasRoom sc.plan → ((q : ℕ) → q < 3 → KeepsNodes sc q (N q)) → (choices : List Choice)
     → AnyWorld sc N (world_after sc choices)
-any-after sc N lawful room keeps choices = from-here sc N lawful room keeps [] choices (inl (first-run sc lawful room))
+any-after N lawful room keeps choices = from-here N lawful room keeps [] choices (inl (first-run lawful room))
 
-of-any : (sc : Scenario) (N : ℕ → List HandIn → ℕ → (Side → ℕ → ℕ → Bool) → Each Site → Type 0) (w : World) → AnyWorld sc N w → IsOfMoment sc w.hands w.book
-of-any sc N w (inl run) = run.stands.stands.book
-of-any sc N w (inr (inl off)) = inr (off.stands.b, off.stands.is)
-of-any sc N w (inr (inr over)) = over.of
+of-any : {sc : _} (N : ℕ → List HandIn → ℕ → (Side → ℕ → ℕ → Bool) → Each Site → Type 0) {w : _} → AnyWorld sc N w → IsOfMoment sc w.hands w.book
+of-any N (inl run) = run.stands.stands.book
+of-any N (inr (inl off)) = inr (off.stands.b, off.stands.is)
+of-any N (inr (inr over)) = over.of
 
 -- events are rounds
 pub events-are-rounds : (sc : Scenario) (N : ℕ → List HandIn → ℕ → (Side → ℕ → ℕ → Bool) → Each Site → Type 0) → ((choices : List Choice) → AnyWorld sc N (world_after sc choices)) → EventsAreRounds sc
-events-are-rounds sc N any = law-from sc (λ choices. of-rounds sc (world_after sc choices) (of-any sc N (world_after sc choices) (any choices)))
+events-are-rounds sc N any = law-from sc (λ choices. of-rounds sc (world_after sc choices) (of-any N (any choices)))

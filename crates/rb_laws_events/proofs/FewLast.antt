@@ -1,9 +1,9 @@
 -- For the law that pending events are few if the run breaks off with the last stage of the sync
 -- slot: a node that has told its row sends one message at most in the tail and one in the first
 -- window of the next frame, and enters that window once.
-use Rattle.std.proofs.{Common.{◌≡◌, ℕ, ◌+◌, ◌-◌, ◌*◌, ◌<◌, ◌≤◌, ◌⊎◌, Bool, true, List, refl, ap, sym, ◌∙◌, subst, arith, inl, inr, Option, Some, None, length}, lemmas.Bool.cases_lt}
-use Rattle.rb_base.specs.{Nodes.Side, Sizes.{Sizes, sync_slot_of}}
-use Rattle.rb_rules.specs.{declared.message.Message.Message, declared.plan.Plan.Plan, declared.plan.Window.Window, Core.{Act, Core, arrive, pass_to, said_at, state_at, tick, window_here}, Entries.IsListed, Goodness.{Scenario, clock_of}, Hearing.Coming, Clock.stamp_of, Lawful.IsLawful, Moments.IsRunning, NodeState.NodeState, Plan.tail_start_of, Ports.{HandIn, PortState}, Rounds.moment, WorldStep.{Site, Timed, after_act, after_arrival, pass_and_tick, wants_in, word_of}}
+use Rattle.std.proofs.{Common.{◌≡◌, ℕ, ◌+◌, ◌-◌, ◌*◌, ◌<◌, ◌≤◌, ◌⊎◌, true, List, refl, ap, sym, ◌∙◌, subst, arith, inl, inr, Option, Some, None, length}, lemmas.Bool.cases_lt}
+use Rattle.rb_base.specs.{Nodes.Side, Sizes.sync_slot_of}
+use Rattle.rb_rules.specs.{declared.message.Message.Message, declared.plan.Window.Window, Core.{Act, Core, arrive, pass_to, said_at, state_at, tick, window_here}, Entries.IsListed, Goodness.{Scenario, clock_of}, Hearing.Coming, Clock.stamp_of, Lawful.IsLawful, Moments.IsRunning, NodeState.NodeState, Plan.tail_start_of, Ports.HandIn, Rounds.moment, WorldStep.{Site, Timed, after_act, after_arrival, pass_and_tick, wants_in, word_of}}
 use Rattle.rb_rules.proofs.{QuietTicks.arrive-same, Stamps.Moves}
 use Rattle.rb_laws_events.specs.Closing.{stages_in}
 use Rattle.rb_laws_events.proofs.{ActCases.{act_of, tick-by}, BreakEnters.TickBreaks, BreakSites.{acted, told-on}, FewBreak.{no-begin, slot-in-sync}, FewTold.{FewOn, one-less}, Invariant.is_good_at, FewEntered.{BringsFew, act-brings}, FewOff.{StepsOn, messages_in}, FewSent.{spoken-arrives, CallsAlike, HasSpoken, IsSentThen, SaysAt, said-then, says-some, speaks-once, spoken-kept, spoken-quiet}, LastEvents.before-end, LastSites.{AwaitsNext, Beyond, HasToldLast, told-arrives}, LastTicks.{told-goes, told-ticks}, NodeActs.HasRoom, NodeTicks.tail-first, StageOrder.{last_of, last-same}, TailTicks.{GoesOn, HasTurned, IsAfter, IsInTail, KeepsMiddles, in-tail, tail-act, turned-epoch}, Takes.tick-had, TickWindows.{IsTickIn, first_of, first-same, here-is}, TurnTicks.{no-next, not-yet}}
@@ -16,20 +16,20 @@ pub record ToldFew (sc : Scenario) (hands : List HandIn) (p : ℕ) (me : Side) (
   pub turned : s.core.state.frame ≡ told.st.frame + 1 → (1 ≤ r) ⊎ (told.course.x + sc.plan.h < s.core.had)
 
 -- a tick in the tail keeps the ticks of the calls
-tail-alike : (sizes : Sizes) (plan : Plan) (me : Side) (i frame e x : ℕ) (c : Core) (word : ℕ) → HasRoom plan → e + tail_start_of sizes plan ≤ x → IsInTail sizes plan me frame e x c.state c.had → c.had < x
+tail-alike : {sizes plan me : _} (i : ℕ) {frame e x : ℕ} (c : Core) (word : ℕ) → HasRoom plan → e + tail_start_of sizes plan ≤ x → IsInTail sizes plan me frame e x c.state c.had → c.had < x
     → CallsAlike c.state (tick sizes plan me i c word).core.state
-tail-alike sizes plan me i frame e x c word room low h lt =
+tail-alike {sizes} {plan} {me} i c word room low h lt =
     tick-by (λ a. CallsAlike c.state a.core.state) sizes plan me i c word (λ _. record { epoch = refl; k1 = refl; k2 = refl }) (λ _.
     let same : KeepsMiddles c.state (act_of sizes plan me i c word (state_at sizes plan me c.state c.had)).core.state =
-    subst (λ y. KeepsMiddles c.state (act_of sizes plan me i c word y).core.state) (sym (not-yet sizes plan me c.state x c.had h.known lt)) (tail-act sizes plan me i frame e x c word room low h lt).1 in
+    subst (λ y. KeepsMiddles c.state (act_of sizes plan me i c word y).core.state) (sym (not-yet sizes plan me c.state c.had h.known lt)) (tail-act i c word room low h lt).1 in
     record { epoch = same.epoch; k1 = same.k1; k2 = same.k2 })
 
 -- a tick of a node that has told its row goes on within `ToldFew`
-told-few : (sc : Scenario) → IsListed sc → (hands : List HandIn) → IsLawful sc → HasRoom sc.plan → (sent : Side → ℕ → ℕ → Bool) (ports : List PortState) (p : ℕ) → IsRunning (moment sc hands p)
-    → (moment sc hands p).window ≡ 3 * sync_slot_of sc.sizes + 2 → (me : Side) (i : ℕ) (s : Site) (a : Timed) (r e : ℕ) → TickBreaks sc hands sent ports p me i s a → ToldFew sc hands p me i r e s
+told-few : {sc : _} → IsListed sc → {hands : _} → IsLawful sc → HasRoom sc.plan → {sent ports p : _} → IsRunning (moment sc hands p)
+    → (moment sc hands p).window ≡ 3 * sync_slot_of sc.sizes + 2 → {me i s a r e : _} → TickBreaks sc hands sent ports p me i s a → ToldFew sc hands p me i r e s
     → StepsOn sc (ToldFew sc hands p me i) (pass_and_tick sc ports me i a.tick s.core).message s (after_act sc ports me i (pass_and_tick sc ports me i a.tick s.core) s) r e
 unfolding pass_and_tick told-ticks told-on
-told-few sc listed hands lawful room sent ports p running at me i s a r e t g = by next.after
+told-few {sc} listed {hands} lawful room {sent} {ports} {p} running at {me} {i} {s} {a} {r} {e} t g = by next.after
   where
     h : HasToldLast sc hands me i p s
     h = g.told
@@ -56,13 +56,13 @@ told-few sc listed hands lawful room sent ports p running at me i s a r e t g = 
     z = after_act sc ports me i x s
 
     before : a.tick + 1 < h.course.x + sc.plan.l
-    before = before-end sc hands sent lawful ports p running at me i s a t h
+    before = before-end lawful running at t h
 
     goes : GoesOn sc.sizes sc.plan me h.st.frame h.st.epoch h.course.x a.tick x
-    goes = told-goes sc hands ports me i p s a room h t.pend before
+    goes = told-goes ports room h t.pend before
 
     tells : HasToldLast sc hands me i p z
-    tells = told-ticks sc hands ports me i p s a room h t.pend before
+    tells = told-ticks ports room h t.pend before
 
     ticked : x.core.had ≡ a.tick + 1
     ticked = let small = next.small in tick-had sc.sizes sc.plan me i c word (omega (arith, c_had, small)) ∙ ap (λ k. k + 1) c_had
@@ -74,7 +74,7 @@ told-few sc listed hands lawful room sent ports p running at me i s a r e t g = 
     z_had = ap (λ (c : Core). c.had) core ∙ ticked
 
     brings : BringsFew sc me x s z
-    brings = act-brings sc listed ports me i x s
+    brings = act-brings listed ports me i x s
 
     not-both : {P : Type 0} (n f : ℕ) → n ≡ f → n ≡ f + 1 → P
     not-both n f a b = absurd (omega (arith, a, b))
@@ -90,16 +90,16 @@ told-few sc listed hands lawful room sent ports p running at me i s a r e t g = 
         now_in = let from = tail.from in record { in_frame = tail.in_frame; epoch = tail.epoch; known = tail.known; from = omega (arith, from, had, c_had); keeps = tail.keeps }
 
         alike : CallsAlike s.core.state x.core.state
-        alike = tail-alike sc.sizes sc.plan me i h.st.frame h.st.epoch h.course.x c word room h.course.low now_in (omega (arith, c_had, lt))
+        alike = tail-alike i c word room h.course.low now_in (omega (arith, c_had, lt))
 
         in_it : IsTickIn sc.sizes sc.plan me s.core.state (stages_in sc.sizes) c.had
-        in_it = in-tail sc.sizes sc.plan me h.st.frame h.st.epoch h.course.x c.state c.had h.course.low now_in (omega (arith, c_had, lt))
+        in_it = in-tail h.course.low now_in (omega (arith, c_had, lt))
 
         still : IsInTail sc.sizes sc.plan me h.st.frame h.st.epoch h.course.x x.core.state x.core.had
         still = elim goes.after [ inl y ↦ y.0 | inr y ↦ (let begun = y.begun in absurd (omega (arith, begun, ticked, lt))) ]
 
         slot : (window_here sc.sizes sc.plan me s.core.state c.had).slot ≡ sync_slot_of sc.sizes
-        slot = ap (λ (w : Window). w.slot) (here-is sc.sizes sc.plan me s.core.state (stages_in sc.sizes) c.had room.ticks (omega arith) in_it) ∙ slot-in-sync sc.sizes sc.plan me s.core.state (stages_in sc.sizes) (omega arith) (omega arith)
+        slot = ap (λ (w : Window). w.slot) (here-is me s.core.state room.ticks (omega arith) in_it) ∙ slot-in-sync sc.sizes sc.plan me s.core.state (stages_in sc.sizes) (omega arith) (omega arith)
 
         spoken : HasSpoken sc.sizes sc.plan me x.core.state x.core.had → HasSpoken sc.sizes sc.plan me z.core.state z.core.had
         spoken y = subst (λ (c : Core). HasSpoken sc.sizes sc.plan me c.state c.had) (sym core) y
@@ -114,27 +114,27 @@ told-few sc listed hands lawful room sent ports p running at me i s a r e t g = 
                 omega (arith, none),
                 elim once [
                   | inl two ↦ inl two
-                  | inr y ↦ inr (y.0, spoken (spoken-kept sc.sizes sc.plan me s.core.state x.core.state s.core.had x.core.had alike (omega (arith, had, ticked)) y.1))
+                  | inr y ↦ inr (y.0, spoken (spoken-kept sc.sizes sc.plan me s.core.state x.core.state x.core.had alike (omega (arith, had, ticked)) y.1))
                 ],
               ),
             )
         messages (Some m) f once =
             let one : messages_in x.message ≡ 1 = ap messages_in f in
-            let says : SaysAt sc.sizes sc.plan me i c word m x = says-some sc.sizes sc.plan me i c word m f in
+            let says : SaysAt sc.sizes sc.plan me i c word m x = says-some sc.sizes sc.plan me i c word f in
             let said : said_at sc.sizes sc.plan me i s.core.state word c.had ≡ Some m =
-            ap (λ y. said_at sc.sizes sc.plan me i y word c.had) (sym (not-yet sc.sizes sc.plan me s.core.state h.course.x c.had tail.known (omega (arith, c_had, lt)))) ∙ says.said in
-            let then_sent : IsSentThen sc.sizes sc.plan me i s.core.state (sync_slot_of sc.sizes) word c.had = said-then sc.sizes sc.plan me i s.core.state (sync_slot_of sc.sizes) word c.had m slot said in
+            ap (λ y. said_at sc.sizes sc.plan me i y word c.had) (sym (not-yet sc.sizes sc.plan me s.core.state c.had tail.known (omega (arith, c_had, lt)))) ∙ says.said in
+            let then_sent : IsSentThen sc.sizes sc.plan me i s.core.state (sync_slot_of sc.sizes) word c.had = said-then sc.sizes sc.plan me i s.core.state word c.had slot said in
             elim once [
-              | inr y ↦ spoken-quiet sc.sizes sc.plan me i s.core.state c.had word then_sent
-                  (spoken-kept sc.sizes sc.plan me s.core.state s.core.state s.core.had c.had (record { epoch = refl; k1 = refl; k2 = refl }) (omega (arith, had, c_had)) y.1)
+              | inr y ↦ spoken-quiet then_sent
+                  (spoken-kept sc.sizes sc.plan me s.core.state s.core.state c.had (record { epoch = refl; k1 = refl; k2 = refl }) (omega (arith, had, c_had)) y.1)
               | inl two ↦ (
                 r - 1,
                 (
                   omega (arith, one, two),
                   inr (
                     omega (arith, two),
-                    spoken (spoken-kept sc.sizes sc.plan me s.core.state x.core.state (c.had + 1) x.core.had alike (omega (arith, ticked, c_had))
-                        (speaks-once sc.sizes sc.plan me i s.core.state (stages_in sc.sizes) c.had word room (omega arith) (omega arith) in_it then_sent)),
+                    spoken (spoken-kept sc.sizes sc.plan me s.core.state x.core.state x.core.had alike (omega (arith, ticked, c_had))
+                        (speaks-once room (omega arith) (omega arith) in_it then_sent)),
                   ),
                 ),
               )
@@ -155,8 +155,8 @@ told-few sc listed hands lawful room sent ports p running at me i s a r e t g = 
             let from = tail.from in
             let first : first_of sc.sizes sc.plan me x.core.state (stages_in sc.sizes) ≡ tail_start_of sc.sizes sc.plan = tail-first sc.sizes sc.plan me x.core.state in
             let epoch : x.core.state.epoch ≡ h.st.epoch = still.epoch in
-            let none = brings.none (no-begin sc.sizes sc.plan me x.core.state (stages_in sc.sizes) x.core.had room (omega arith) (not-yet sc.sizes sc.plan me x.core.state h.course.x x.core.had still.known e_had)
-            (in-tail sc.sizes sc.plan me h.st.frame h.st.epoch h.course.x x.core.state x.core.had h.course.low still e_had) (omega (arith, first, epoch, ticked, from, had))) in
+            let none = brings.none (no-begin room (omega arith) (not-yet sc.sizes sc.plan me x.core.state x.core.had still.known e_had)
+            (in-tail h.course.low still e_had) (omega (arith, first, epoch, ticked, from, had))) in
             record { sends = y.0; enters = e; may = may y.0 e (λ lt. g.enters (omega (arith, had, lt, inner, z_had))) y.1.1; sent = y.1.0; room = omega (arith, none) }
         entering (inr outer) y =
             let one : 1 ≤ e = g.enters (omega (arith, had, lt)) in
@@ -182,8 +182,8 @@ told-few sc listed hands lawful room sent ports p running at me i s a r e t g = 
         none =
             let first : first_of sc.sizes sc.plan me x.core.state 0 ≡ 0 * sc.plan.l = first-same sc.sizes sc.plan me x.core.state 0 (omega arith) in
             let epoch : x.core.state.epoch ≡ h.course.x = turned.epoch in
-            brings.none (no-begin sc.sizes sc.plan me x.core.state 0 x.core.had room (omega arith)
-            (no-next sc.sizes sc.plan me x.core.state x.core.had (turned-epoch sc.plan me h.st.frame h.course.x x.core.state x.core.had turned)) at_next (omega (arith, first, epoch, ticked, late)))
+            brings.none (no-begin room (omega arith)
+            (no-next sc.sizes sc.plan me x.core.state x.core.had (turned-epoch sc.plan me turned)) at_next (omega (arith, first, epoch, ticked, late)))
 
         may : (n : ℕ) → (1 ≤ n) ⊎ (h.course.x + sc.plan.h < z.core.had) → ToldFew sc hands p me i n e z
         may n once = record {
@@ -214,28 +214,28 @@ told-few sc listed hands lawful room sent ports p running at me i s a r e t g = 
         let begun = y.begun in
         beyond (omega (arith, begun, had)) (elim (g.turned y.in_frame) [ inl one ↦ inl one | inr over ↦ inr (omega (arith, over, had)) ]) x.message refl
 
-last-arrives : (sc : Scenario) (hands : List HandIn) (p : ℕ) (me : Side) (i r e n : ℕ) (c : Coming) (s : Site) → (is_good_at sc (moment sc hands p) me i ≡ true → Moves (clock_of sc me i))
+last-arrives : {sc : _} (hands : List HandIn) (p : ℕ) (me : Side) (i r e n : ℕ) (c : Coming) (s : Site) → (is_good_at sc (moment sc hands p) me i ≡ true → Moves (clock_of sc me i))
     → ((a : Timed) → s.ahead ≡ Some a → c.time ≤ a.time) → ToldFew sc hands p me i r e s → ToldFew sc hands p me i r e (after_arrival sc me i n c s)
 unfolding after_arrival told-arrives told-on
-last-arrives sc hands p me i r e n c s moves before h =
+last-arrives {sc} hands p me i r e n c s moves before h =
     let passed : Core = pass_to (stamp_of (clock_of sc me i) c.time) s.core in
     let same = arrive-same sc.sizes me passed c.from c.bytes in
     let more : s.core.had ≤ passed.had = omega arith in
     let frame : (arrive sc.sizes me passed c.from c.bytes).state.frame ≡ s.core.state.frame = ap (λ (y : NodeState). y.frame) same.0 in
     record {
-      told = told-on sc hands (Beyond sc) me i p s (after_arrival sc me i n c s) h.told refl (told-arrives sc hands me i p n c s h.told.st (moves h.told.good) h.told.course before);
+      told = told-on (Beyond sc) (after_arrival sc me i n c s) h.told refl (told-arrives hands me i p n c s h.told.st (moves h.told.good) h.told.course before);
       enters = λ lt. h.enters (omega (arith, lt, same.1, more));
       tail = λ f. elim (h.tail (sym frame ∙ f)) [ inl two ↦ inl two | inr g ↦ inr (g.0, spoken-arrives sc me i n c s g.1) ];
       turned = λ f. elim (h.turned (sym frame ∙ f)) [ inl one ↦ inl one | inr over ↦ inr (omega (arith, over, same.1, more)) ];
     }
 
-last-more : (sc : Scenario) (hands : List HandIn) (p : ℕ) (me : Side) (i r e : ℕ) (s : Site) (more : List Coming) → ToldFew sc hands p me i r e s → ToldFew sc hands p me i r e (record s { coming = more })
+last-more : {sc : _} (hands : List HandIn) (p : ℕ) (me : Side) (i r e : ℕ) (s : Site) (more : List Coming) → ToldFew sc hands p me i r e s → ToldFew sc hands p me i r e (record s { coming = more })
 unfolding told-on
-last-more sc hands p me i r e s more h =
-    record { told = told-on sc hands (Beyond sc) me i p s (record s { coming = more }) h.told refl h.told.course; enters = h.enters; tail = h.tail; turned = h.turned }
+last-more {sc} hands p me i r e s more h =
+    record { told = told-on (Beyond sc) (record s { coming = more }) h.told refl h.told.course; enters = h.enters; tail = h.tail; turned = h.turned }
 
-pub last-few : (sc : Scenario) → IsListed sc → IsLawful sc → HasRoom sc.plan → FewOn sc 2 2 (Beyond sc) (ToldFew sc)
-last-few sc listed lawful room = record {
+pub last-few : {sc : _} → IsListed sc → IsLawful sc → HasRoom sc.plan → FewOn sc 2 2 (Beyond sc) (ToldFew sc)
+last-few listed lawful room = record {
   some = omega arith;
   most = omega arith;
   starts = λ hands b me i r e s told sends enters. record {
@@ -244,7 +244,7 @@ last-few sc listed lawful room = record {
     tail = λ f. inl sends;
     turned = λ f. inl (omega (arith, sends));
   };
-  ticks = λ hands b off sent ports me i s a r e t small h. told-few sc listed hands lawful room sent ports b off.running off.window me i s a r e t h;
-  more = last-more sc;
-  arrives = last-arrives sc;
+  ticks = λ hands b off sent ports me i s a r e t small h. told-few listed lawful room off.running off.window t h;
+  more = last-more;
+  arrives = last-arrives;
 }

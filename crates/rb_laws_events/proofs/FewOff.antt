@@ -80,11 +80,11 @@ sum-added sc me i r m sends side below le = by me side below le
     by Rmu Rmu below le = let same = sum-le (moved Rmu i r sends Biu) (sends Biu) (count_of Biu sc.sizes) (λ j. omega arith) in omega (arith, same)
 
 -- the rooms are enough if one node changes and may send a message
-pub rooms-change : (sc : Scenario) (most : Side → ℕ) (sends enters : Side → ℕ → ℕ) (sites : Each Site) (me : Side) (i frame k : ℕ) (m : Option Message) (change : Site → Site) (s : Site) (r e : ℕ)
+pub rooms-change : {sc : Scenario} {most : Side → ℕ} {sends enters : Side → ℕ → ℕ} {sites : Each Site} (me : Side) (i frame k : ℕ) (m : Option Message) (change : Site → Site) {s : Site} (r e : ℕ)
     → i < count_of me sc.sizes → slice_get (of_kind me sites) i ≡ Some s → length (change s).coming + e * length sc.says ≤ length s.coming + enters me i * length sc.says
     → r + messages_in m ≤ sends me i → HaveRooms sc most sends enters sites
     → HaveRooms sc most (moved me i r sends) (moved me i e enters) (with_message sc me i frame k m (at_node me i change sites))
-rooms-change sc most sends enters sites me i frame k m change s r e below there own le h = record {
+rooms-change {sc} {sends} {enters} {sites} me i frame k m change {s} r e below there own le h = record {
   room = λ side j z f.
       let was = option_map-back (after_tick sc me i frame k m change side j) (slice_get (of_kind side sites) j) z (sym (get-after sc me i frame k m change sites side j) ∙ f) in
       let y : Site = changed side j was.0 in

@@ -2,7 +2,7 @@
 -- the next.
 use Rattle.std.proofs.Common.{◌≡◌, ℕ, ◌+◌, ◌≤◌, ◌&&◌, Bool, true, false, List, [], ◌∷◌, ◌++◌, length, length-append, map, inl, inr, refl, ap, sym, ◌∙◌, subst, arith, Option, Some, None, option_map, option_to_list, slice_get}
 use Rattle.rb_base.specs.Nodes.{Side, other}
-use Rattle.rb_rules.specs.{Book.{Each, of_kind}, Core.Act, declared.message.Message.Message, Entries.IsListed, Goodness.Scenario, Hearing.{Sending, coming_of}, Lawful.IsLawful, WorldStep.{Choice, Due, Site, Timed, World, after_act, at_node, choose, happens, pass_and_tick, sent_to, take, take_if_due, times_of, with_act, with_message, with_pending, world_after}, WorldStep.Pending.Tick, WorldStep.Choice.Take, WorldStep.Way.ByAnEvent}
+use Rattle.rb_rules.specs.{Book.{Each, of_kind}, declared.message.Message.Message, Entries.IsListed, Goodness.Scenario, Hearing.{Sending, coming_of}, Lawful.IsLawful, WorldStep.{Choice, Due, Site, Timed, World, after_act, at_node, choose, happens, pass_and_tick, sent_to, take, take_if_due, times_of, with_act, with_message, with_pending, world_after}, WorldStep.Pending.Tick, WorldStep.Choice.Take, WorldStep.Way.ByAnEvent}
 use Rattle.rb_rules.proofs.Slots.{same_side_self}
 use Rattle.rb_laws_events.specs.PendingEvents.{PendingEventsAreFewInLawful, TakesTick, most_coming, most_pending}
 use Rattle.rb_laws_events.proofs.{FewKeeps.{few-keeps, few_at, rooms-few}, EveryWorld.{AnyWorld, after-more, any-after}, OneTake.StandsInRounds, TickRooms.has-room, FewThere.{few-where-it-stands, length-mapped}, WorldNodes.settle-sites, WorldStands.{IsDown, IsUp, node-itself, not-other, sent_by}, WorldTicks.{after_tick, get-after, kind-other, reached, reached-not}}
@@ -18,13 +18,13 @@ times-many s = by s.ahead
 abbrev pub HaveRoom : Scenario → Each Site → Type 0
 HaveRoom sc sites = (me : Side) (i : ℕ) (s : Site) → slice_get (of_kind me sites) i ≡ Some s → length (times_of s) ≤ most_pending sc me
 
-world-few : (sc : Scenario) → IsListed sc → (w : World) → StandsInRounds sc w → HaveRoom sc w.sites
-world-few sc listed w h me i s there = by s.runs refl
+world-few : {sc : _} → IsListed sc → {w : _} → StandsInRounds sc w → HaveRoom sc w.sites
+world-few {sc} listed {w} h me i s there = by s.runs refl
   where
     by : (b : Bool) → s.runs ≡ b → length (times_of s) ≤ most_pending sc me
     by true e =
         let up : IsUp sc w.hands (sent_by sc w.hands h.at w.sites) h.now me i (h.at me i) s = h.stands.sites.up me i s there e in
-        let few = few-where-it-stands sc listed w.hands (sent_by sc w.hands h.at w.sites) h.now me i (h.at me i) s up.st up.a up.stands in
+        let few = few-where-it-stands listed up.stands in
         let all = times-many s in
         omega (arith, few, all)
     by false e =
@@ -58,10 +58,10 @@ received sc me i frame x j z runs =
         let one = length-append z.coming (coming_of sc (other me) j i frame x ∷ []) in
         omega (arith, new, old, one)
 
-pub message-few : (sc : Scenario) (me : Side) (i frame k : ℕ) (o : Option Message) (m : Message) (change : Site → Site) (sites : Each Site)
-    → HaveRoom sc (with_message sc me i frame k o (at_node me i change sites)) → o ≡ Some m → (j : ℕ) (z : Site) → slice_get (of_kind (other me) sites) j ≡ Some z
+pub message-few : (sc : Scenario) (me : Side) (i frame k : ℕ) {o m : _} (change : Site → Site) (sites : Each Site)
+    → HaveRoom sc (with_message sc me i frame k o (at_node me i change sites)) → o ≡ Some m → (j : ℕ) {z : _} → slice_get (of_kind (other me) sites) j ≡ Some z
     → z.runs ≡ true → length (times_of z) + 1 ≤ most_pending sc (other me)
-message-few sc me i frame k o m change sites fits e j z there runs =
+message-few sc me i frame k {o} {m} change sites fits e j {z} there runs =
     let x : Sending = record { tick = k; message = m } in
     let after : slice_get (of_kind (other me) (with_message sc me i frame k o (at_node me i change sites))) j ≡ Some (sent_to sc me i frame x (other me) j z) =
     get-after sc me i frame k o change sites (other me) j ∙ ap (option_map (after_tick sc me i frame k o change (other me) j)) there
@@ -71,10 +71,10 @@ message-few sc me i frame k o m change sites fits e j z there runs =
     let few = fits (other me) j (sent_to sc me i frame x (other me) j z) after in
     omega (arith, more, few)
 
-pub own-few : (sc : Scenario) (me : Side) (i frame k : ℕ) (o : Option Message) (change : Site → Site) (sites : Each Site) (s : Site)
+pub own-few : (sc : Scenario) (me : Side) (i frame k : ℕ) (o : Option Message) (change : Site → Site) (sites : Each Site) {s : _}
     → HaveRoom sc (with_message sc me i frame k o (at_node me i change sites)) → slice_get (of_kind me sites) i ≡ Some s
     → length (times_of (change s)) ≤ most_pending sc me
-own-few sc me i frame k o change sites s fits there =
+own-few sc me i frame k o change sites {s} fits there =
     fits me i (change s)
     (get-after sc me i frame k o change sites me i ∙ ap (option_map (after_tick sc me i frame k o change me i)) there
     ∙ ap (λ b. Some (reached sc me i frame k o me i (elim b as (λ _. Site) [ true ↦ change s | false ↦ s ]))) (node-itself me i)
@@ -85,28 +85,28 @@ own-few sc me i frame k o change sites s fits there =
 coming-few : (sc : Scenario) (sites : Each Site) → ((me : Side) (i : ℕ) (s : Site) → slice_get (of_kind me sites) i ≡ Some s → length s.coming ≤ most_coming sc me) → HaveRoom sc sites
 coming-few sc sites h me i s there = let few = h me i s there in let all = times-many s in omega (arith, few, all)
 
-all-few : (sc : Scenario) → IsListed sc → IsLawful sc → (choices : List Choice) → HaveRoom sc (world_after sc choices).sites
-all-few sc listed lawful choices = by (any-after sc (few_at sc) lawful (has-room sc lawful) (few-keeps sc listed lawful) choices)
+all-few : {sc : _} → IsListed sc → IsLawful sc → (choices : List Choice) → HaveRoom sc (world_after sc choices).sites
+all-few {sc} listed lawful choices = by (any-after (few_at sc) lawful (has-room lawful) (few-keeps listed lawful) choices)
   where
     w : World
     w = world_after sc choices
 
     by : AnyWorld sc (few_at sc) w → HaveRoom sc w.sites
-    by (inl run) = world-few sc listed w run.stands
+    by (inl run) = world-few listed run.stands
     by (inr (inl off)) = coming-few sc w.sites (rooms-few sc off.stands.q w.hands off.stands.b off.stands.sent w.sites off.stands.nodes.nodes)
     by (inr (inr over)) = coming-few sc w.sites (rooms-few sc over.q w.hands over.b over.sent w.sites over.nodes)
 
 -- a tick that is due happens in the world after one more choice
-tick-few : (sc : Scenario) → IsListed sc → IsLawful sc → (choices : List Choice) (me : Side) (i k : ℕ) (s : Site) (x : Act)
+tick-few : {sc : _} → IsListed sc → IsLawful sc → (choices : List Choice) {me i k s x : _}
     → TakesTick sc (world_after sc choices) me i k s x
     → HaveRoom sc (with_message sc me i x.core.state.frame k x.message (at_node me i (after_act sc (world_after sc choices).ports me i x) (world_after sc choices).sites))
 unfolding take happens with_act
-tick-few sc listed lawful choices me i k s x h =
+tick-few {sc} listed lawful choices {me} {i} {k} {s} {x} h =
     let w : World = world_after sc choices in
     let d : Due = record { side = me; node = i; pending = Tick k } in
     let next : List Choice = choices ++ Take h.place ∷ [] in
     let after : HaveRoom sc (choose sc w (Take h.place)).sites =
-    subst (λ (w : World). HaveRoom sc w.sites) (after-more sc choices (Take h.place)) (all-few sc listed lawful next) in
+    subst (λ (w : World). HaveRoom sc w.sites) (after-more sc choices (Take h.place)) (all-few listed lawful next) in
     let taken : HaveRoom sc (take_if_due sc w (Some d)).sites = subst (λ o. HaveRoom sc (take_if_due sc w o).sites) h.is_due after in
     let happened : HaveRoom sc (happens sc w d).sites = subst (HaveRoom sc) (settle-sites sc ByAnEvent 2 (happens sc w d)) taken in
     let acted : HaveRoom sc (with_act sc w me i k (pass_and_tick sc w.ports me i k s.core)).sites =
@@ -117,9 +117,9 @@ pub pending-few : PendingEventsAreFewInLawful
 pending-few sc lawful listed choices =
     let w : World = world_after sc choices in
     record {
-      now = all-few sc listed lawful choices;
+      now = all-few listed lawful choices;
       own = λ me i k s x h.
-          own-few sc me i x.core.state.frame k x.message (after_act sc w.ports me i x) w.sites s (tick-few sc listed lawful choices me i k s x h) h.there;
+          own-few sc me i x.core.state.frame k x.message (after_act sc w.ports me i x) w.sites (tick-few listed lawful choices h) h.there;
       message = λ me i k s x m h e j z there runs.
-          message-few sc me i x.core.state.frame k x.message m (after_act sc w.ports me i x) w.sites (tick-few sc listed lawful choices me i k s x h) e j z there runs;
+          message-few sc me i x.core.state.frame k (after_act sc w.ports me i x) w.sites (tick-few listed lawful choices h) e j there runs;
     }

@@ -20,14 +20,14 @@ pub record CallsAlike (st y : NodeState) : Type 0 where
   pub k1 : y.k1 ≡ st.k1
   pub k2 : y.k2 ≡ st.k2
 
-pub same-call : (sizes : Sizes) (plan : Plan) (st y : NodeState) (stage : ℕ) → CallsAlike st y → call_tick_of sizes plan y stage ≡ call_tick_of sizes plan st stage
-same-call sizes plan st y stage h =
+pub same-call : (sizes : Sizes) (plan : Plan) {st y : _} (stage : ℕ) → CallsAlike st y → call_tick_of sizes plan y stage ≡ call_tick_of sizes plan st stage
+same-call sizes plan {st} {y} stage h =
     ap (λ e. if stage == 1 then Some (e + f0_of sizes plan + plan.h) else (if stage == 2 then option_map (λ k1. k1 + plan.l) y.k1 else option_map (λ k2. k2 + plan.v) y.k2)) h.epoch
     ∙ ap (λ k. if stage == 1 then Some (st.epoch + f0_of sizes plan + plan.h) else (if stage == 2 then option_map (λ k1. k1 + plan.l) k else option_map (λ k2. k2 + plan.v) y.k2)) h.k1
     ∙ ap (λ k. if stage == 1 then Some (st.epoch + f0_of sizes plan + plan.h) else (if stage == 2 then option_map (λ k1. k1 + plan.l) st.k1 else option_map (λ k2. k2 + plan.v) k)) h.k2
 
-pub spoken-kept : (sizes : Sizes) (plan : Plan) (me : Side) (st y : NodeState) (had more : ℕ) → CallsAlike st y → had ≤ more → HasSpoken sizes plan me st had → HasSpoken sizes plan me y more
-spoken-kept sizes plan me st y had more like le h stage t heard e = let lt = h stage t heard (sym (same-call sizes plan st y stage like) ∙ e) in omega (arith, lt, le)
+pub spoken-kept : (sizes : Sizes) (plan : Plan) (me : Side) (st y : NodeState) {had : ℕ} (more : ℕ) → CallsAlike st y → had ≤ more → HasSpoken sizes plan me st had → HasSpoken sizes plan me y more
+spoken-kept sizes plan me st y more like le h stage t heard e = let lt = h stage t heard (sym (same-call sizes plan stage like) ∙ e) in omega (arith, lt, le)
 
 -- A message.
 
@@ -38,23 +38,23 @@ pub record IsSentThen (sizes : Sizes) (plan : Plan) (me : Side) (i : ℕ) (st : 
   pub sends : sending sizes plan me i st slot stage word ≡ Some x
   pub tick : x.tick ≡ k
 
-if-some : (k : ℕ) (o : Option Sending) (m : Message) → if_at k o ≡ Some m → (x : Sending) × ((o ≡ Some x) × (x.tick ≡ k))
-if-some k None m e = absurd (cc)
-if-some k (Some x) m e = by (x.tick == k) refl e
+if-some : (k : ℕ) (o : Option Sending) {m : _} → if_at k o ≡ Some m → (x : Sending) × ((o ≡ Some x) × (x.tick ≡ k))
+if-some k None e = absurd (cc)
+if-some k (Some x) {m} e = by (x.tick == k) refl e
   where
     by : (b : Bool) → (x.tick == k) ≡ b → (elim b as (λ _. Option Message) [ true ↦ Some x.message | false ↦ None ]) ≡ Some m → (y : Sending) × ((Some x ≡ Some y) × (y.tick ≡ k))
     by true f e = (x, (refl, eqb-true x.tick k f))
     by false f e = absurd (cc)
 
-either : (a b : Option Message) (m : Message) → option_or a b ≡ Some m → (a ≡ Some m) ⊎ (b ≡ Some m)
-either None b m e = inr e
-either (Some x) b m e = inl e
+either : (a b : Option Message) {m : _} → option_or a b ≡ Some m → (a ≡ Some m) ⊎ (b ≡ Some m)
+either None b e = inr e
+either (Some x) b e = inl e
 
-pub said-then : (sizes : Sizes) (plan : Plan) (me : Side) (i : ℕ) (st : NodeState) (slot word k : ℕ) (m : Message) → (window_here sizes plan me st k).slot ≡ slot → said_at sizes plan me i st word k ≡ Some m
+pub said-then : (sizes : Sizes) (plan : Plan) (me : Side) (i : ℕ) (st : NodeState) {slot : ℕ} (word k : ℕ) {m : _} → (window_here sizes plan me st k).slot ≡ slot → said_at sizes plan me i st word k ≡ Some m
     → IsSentThen sizes plan me i st slot word k
 unfolding said_at
-said-then sizes plan me i st slot word k m is e =
-    subst (λ slot. IsSentThen sizes plan me i st slot word k) is (by (either (o 1) (option_or (o 2) (o 3)) m e))
+said-then sizes plan me i st {slot} word k {m} is e =
+    subst (λ slot. IsSentThen sizes plan me i st slot word k) is (by (either (o 1) (option_or (o 2) (o 3)) e))
   where
     here : ℕ
     here = (window_here sizes plan me st k).slot
@@ -63,20 +63,20 @@ said-then sizes plan me i st slot word k m is e =
     o stage = if_at k (sending sizes plan me i st here stage word)
 
     of : (stage : ℕ) → o stage ≡ Some m → IsSentThen sizes plan me i st here word k
-    of stage e = let x = if-some k (sending sizes plan me i st here stage word) m e in record { stage = stage; x = x.0; sends = x.1.0; tick = x.1.1 }
+    of stage e = let x = if-some k (sending sizes plan me i st here stage word) e in record { stage = stage; x = x.0; sends = x.1.0; tick = x.1.1 }
 
     by : (o 1 ≡ Some m) ⊎ (option_or (o 2) (o 3) ≡ Some m) → IsSentThen sizes plan me i st here word k
     by (inl e) = of 1 e
-    by (inr e) = elim (either (o 2) (o 3) m e) [ inl e ↦ of 2 e | inr e ↦ of 3 e ]
+    by (inr e) = elim (either (o 2) (o 3) e) [ inl e ↦ of 2 e | inr e ↦ of 3 e ]
 
 -- a core that says something counts the tick
 pub record SaysAt (sizes : Sizes) (plan : Plan) (me : Side) (i : ℕ) (c : Core) (word : ℕ) (m : Message) (x : Act) : Type 0 where
   pub said : said_at sizes plan me i (state_at sizes plan me c.state c.had) word c.had ≡ Some m
   pub had : x.core.had ≡ c.had + 1
 
-pub says-some : (sizes : Sizes) (plan : Plan) (me : Side) (i : ℕ) (c : Core) (word : ℕ) (m : Message) → (tick sizes plan me i c word).message ≡ Some m
+pub says-some : (sizes : Sizes) (plan : Plan) (me : Side) (i : ℕ) (c : Core) (word : ℕ) {m : _} → (tick sizes plan me i c word).message ≡ Some m
     → SaysAt sizes plan me i c word m (tick sizes plan me i c word)
-says-some sizes plan me i c word m =
+says-some sizes plan me i c word {m} =
     let st : NodeState = state_at sizes plan me c.state c.had in
     let o : Option Message = said_at sizes plan me i st word c.had in
     let Says : Act → Type 0 = λ x. x.message ≡ Some m → SaysAt sizes plan me i c word m x in
@@ -91,29 +91,29 @@ calls-in Biu stage e = elim (or_cases (stage == 1) _ e) [ inl f ↦ inl (eqb-tru
 calls-in Rmu stage e = inr (eqb-true stage 2 e)
 
 -- the call of the first stage is over
-first-over : (sizes : Sizes) (plan : Plan) (me : Side) (st : NodeState) (n k t : ℕ) → HasRoom plan → 3 * sync_slot_of sizes < n → n ≤ stages_in sizes → IsTickIn sizes plan me st n k
+first-over : {sizes plan me st n k t : _} → HasRoom plan → 3 * sync_slot_of sizes < n → n ≤ stages_in sizes → IsTickIn sizes plan me st n k
     → call_tick_of sizes plan st 1 ≡ Some t → t < k
-first-over sizes plan me st n k t room lt le at e =
+first-over {sizes} {plan} {me} {st} {n} {k} {t} room lt le at e =
     let tick : st.epoch + 3 * sync_slot_of sizes * plan.l + plan.h ≡ t = same_Some _ _ e in
     let last : last_of sizes plan me st (3 * sync_slot_of sizes) ≡ 3 * sync_slot_of sizes * plan.l + plan.l - 1 = last-same sizes plan me st (3 * sync_slot_of sizes) (omega arith) in
-    let before : last_of sizes plan me st (3 * sync_slot_of sizes) < first_of sizes plan me st n = ends-before-later sizes plan me st (3 * sync_slot_of sizes) n room.ticks lt le in
+    let before : last_of sizes plan me st (3 * sync_slot_of sizes) < first_of sizes plan me st n = ends-before-later sizes me st (3 * sync_slot_of sizes) n room.ticks lt le in
     let from : st.epoch + first_of sizes plan me st n ≤ k = at.from in
     let h : plan.h < plan.l = room.inside.in_l in
     omega (arith, tick, last, before, from, h)
 
 -- after its message a node says nothing more in the slot
-pub speaks-once : (sizes : Sizes) (plan : Plan) (me : Side) (i : ℕ) (st : NodeState) (n k word : ℕ) → HasRoom plan → 3 * sync_slot_of sizes < n → n ≤ stages_in sizes → IsTickIn sizes plan me st n k
+pub speaks-once : {sizes plan me i st n k word : _} → HasRoom plan → 3 * sync_slot_of sizes < n → n ≤ stages_in sizes → IsTickIn sizes plan me st n k
     → IsSentThen sizes plan me i st (sync_slot_of sizes) word k → HasSpoken sizes plan me st (k + 1)
-speaks-once sizes plan me i st n k word room lt le at h stage t heard e =
-    let its = call_sent sizes plan me i st h.stage word h.x h.sends in
+speaks-once {sizes} {plan} {me} {i} {st} {k} {word} room lt le at h stage t heard e =
+    let its = call_sent sizes plan me i st h.stage word h.sends in
     let tick : h.x.tick ≡ k = h.tick in
     elim (calls-in me stage heard) [
       | inl one ↦
-          let before = first-over sizes plan me st n k t room lt le at (ap (call_tick_of sizes plan st) (sym one) ∙ e) in
+          let before = first-over room lt le at (ap (call_tick_of sizes plan st) (sym one) ∙ e) in
           omega (arith, before)
       | inr here ↦ elim (calls-in me h.stage its.1) [
         | inl one ↦
-            let before = first-over sizes plan me st n k h.x.tick room lt le at (ap (call_tick_of sizes plan st) (sym one) ∙ its.0) in
+            let before = first-over room lt le at (ap (call_tick_of sizes plan st) (sym one) ∙ its.0) in
             absurd (omega (arith, before, tick))
         | inr too ↦
             let ticks : t ≡ h.x.tick = same_Some t h.x.tick (sym e ∙ ap (call_tick_of sizes plan st) (here ∙ sym too) ∙ its.0) in
@@ -121,9 +121,9 @@ speaks-once sizes plan me i st n k word room lt le at h stage t heard e =
       ]
     ]
 
-pub spoken-quiet : {P : Type 0} (sizes : Sizes) (plan : Plan) (me : Side) (i : ℕ) (st : NodeState) (k word : ℕ) → IsSentThen sizes plan me i st (sync_slot_of sizes) word k → HasSpoken sizes plan me st k → P
-spoken-quiet sizes plan me i st k word h spoken =
-    let its = call_sent sizes plan me i st h.stage word h.x h.sends in
+pub spoken-quiet : {P : Type 0} {sizes : Sizes} {plan : Plan} {me : Side} {i : ℕ} {st : NodeState} {k word : ℕ} → IsSentThen sizes plan me i st (sync_slot_of sizes) word k → HasSpoken sizes plan me st k → P
+spoken-quiet {sizes} {plan} {me} {i} {st} {k} {word} h spoken =
+    let its = call_sent sizes plan me i st h.stage word h.sends in
     let lt : h.x.tick < k = spoken h.stage h.x.tick its.1 its.0 in
     let tick : h.x.tick ≡ k = h.tick in
     absurd (omega (arith, lt, tick))
@@ -137,4 +137,4 @@ spoken-arrives sc me i n c s g =
     let same = arrive-same sc.sizes me passed c.from c.bytes in
     let more : s.core.had ≤ passed.had = omega arith in
     subst (λ y. HasSpoken sc.sizes sc.plan me y (arrive sc.sizes me passed c.from c.bytes).had) (sym same.0)
-    (spoken-kept sc.sizes sc.plan me s.core.state s.core.state s.core.had (arrive sc.sizes me passed c.from c.bytes).had (record { epoch = refl; k1 = refl; k2 = refl }) (omega (arith, same.1, more)) g)
+    (spoken-kept sc.sizes sc.plan me s.core.state s.core.state (arrive sc.sizes me passed c.from c.bytes).had (record { epoch = refl; k1 = refl; k2 = refl }) (omega (arith, same.1, more)) g)

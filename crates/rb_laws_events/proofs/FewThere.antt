@@ -3,7 +3,7 @@
 use Rattle.std.proofs.{Common.{◌≡◌, ℕ, suc, ◌+◌, ◌*◌, ◌≤◌, Bool, true, false, List, [], ◌∷◌, cond, filter, length, map, refl, ap, arith, Option, Some, None, option_map, option_to_list}, lemmas.Bool.Decides.nat_tests}
 use Rattle.rb_base.specs.{Nodes.{Side, other}, Nodes.Side.{Biu, Rmu}, declared.node.NodeName.NodeName}
 use Rattle.rb_base.proofs.Plain.{and_first}
-use Rattle.rb_rules.specs.{declared.say.Say.Say, Behavior.Said, Clock.time_of, Entries.{IsListed, is_said, said_of}, Goodness.{Scenario, clock_of}, Hearing.{Coming, Sending, Span, coming_of, is_heard, said_by, span_of}, Links.{name_of, same_node}, NodeState.NodeState, Ports.HandIn, Rounds.{Moment, moment, window_in}, Slots.count_of, WorldStep.{Site, Timed}}
+use Rattle.rb_rules.specs.{declared.say.Say.Say, Behavior.Said, Clock.time_of, Entries.{IsListed, is_said, said_of}, Goodness.{Scenario, clock_of}, Hearing.{Coming, Sending, Span, coming_of, is_heard, said_by, span_of}, Links.{name_of, same_node}, Rounds.{Moment, moment, window_in}, Slots.count_of}
 use Rattle.rb_laws_events.proofs.{Invariant.{NodeStands, ahead_so_far, entry_of, heard_so_far, is_good_at, last_tick, next_stage, sending_of}, PendingLists.Hears, SourceSums.{all-of-sources, coming_of_source, items-once, sum-plus, sum-twos}}
 use Rattle.rb_base.specs.declared.node.NodeName.TheVariants as node
 
@@ -37,8 +37,8 @@ length-passed q (x ∷ xs) = by (q x) (length-passed q xs)
     by false rest = omega (arith, rest)
 
 -- no more is heard from it
-pub said-few : (sc : Scenario) → IsListed sc → (me : Side) (i : ℕ) (span : Span) (j : ℕ) → length (said_by sc me i span j) ≤ entries_of sc me i span j
-said-few sc listed me i span j =
+pub said-few : {sc : _} → IsListed sc → (me : Side) (i : ℕ) (span : Span) (j : ℕ) → length (said_by sc me i span j) ≤ entries_of sc me i span j
+said-few {sc} listed me i span j =
     let coming : Said → Coming = λ s. record { time = s.time; from = j; bytes = s.bytes } in
     let mapped = length-mapped coming (filter (is_heard sc me i span j) (sc.behavior me i span j)) in
     let passed = length-passed (is_heard sc me i span j) (sc.behavior me i span j) in
@@ -59,16 +59,16 @@ pub if-sent : (b : Bool) (xs : List Coming) → length xs ≤ 1 → length (elim
 if-sent true xs le = le
 if-sent false xs le = omega arith
 
-pub heard-few : (sc : Scenario) → IsListed sc → (m : Moment) (me : Side) (i : ℕ) (span : Span) (sent : ℕ → Bool) (j : ℕ)
+pub heard-few : {sc : _} → IsListed sc → (m : Moment) (me : Side) (i : ℕ) (span : Span) (sent : ℕ → Bool) (j : ℕ)
     → length (heard_so_far sc m me i span sent j) ≤ 1 + entries_of sc me i span j
-heard-few sc listed m me i span sent j = by (is_good_at sc m (other me) j)
+heard-few {sc} listed m me i span sent j = by (is_good_at sc m (other me) j)
   where
     by : (b : Bool) → length (elim b as (λ _. List Coming) [
       | true ↦ elim (sent j) as (λ _. List Coming) [ true ↦ entry_of sc m me i j | false ↦ [] ]
       | false ↦ said_by sc me i span j
     ]) ≤ 1 + entries_of sc me i span j
     by true = let one = if-sent (sent j) (entry_of sc m me i j) (entry-once sc m me i j) in omega (arith, one)
-    by false = let many = said-few sc listed me i span j in omega (arith, many)
+    by false = let many = said-few listed me i span j in omega (arith, many)
 
 pub ahead-few : (sc : Scenario) (m : Moment) (me : Side) (i : ℕ) (sent : ℕ → Bool) (j : ℕ) → length (ahead_so_far sc m me i sent j) ≤ 1
 ahead-few sc m me i sent j = by (is_good_at sc m (other me) j)
@@ -82,9 +82,9 @@ ahead-few sc m me i sent j = by (is_good_at sc m (other me) j)
 
 -- A node.
 
-pub few-where-it-stands : (sc : Scenario) → IsListed sc → (hands : List HandIn) (sent : Side → ℕ → ℕ → Bool) (now : ℕ) (me : Side) (i p : ℕ) (s : Site) (st : NodeState) (a : Timed)
+pub few-where-it-stands : {sc : _} → IsListed sc → {hands sent now me i p s st a : _}
     → NodeStands sc hands sent now me i p s st a → length s.coming ≤ 2 * count_of (other me) sc.sizes + length sc.says
-few-where-it-stands sc listed hands sent now me i p s st a h =
+few-where-it-stands {sc} listed {hands} {sent} {me} {i} {p} {s} {st} h =
     let m : Moment = moment sc hands p in
     let next : Moment = moment sc hands (next_stage sc.sizes m p) in
     let span : Span = span_of st (window_in sc m me st) in
@@ -96,7 +96,7 @@ few-where-it-stands sc listed hands sent now me i p s st a h =
     let hears : Hears j t s.got s.coming (heard j) (ahead j) = h.receives.hears j in
     let as_many = hears.as_many in
     let later = ap length hears.later in
-    let few = heard-few sc listed m me i span (λ j. sent (other me) j p) j in
+    let few = heard-few listed m me i span (λ j. sent (other me) j p) j in
     let one = ahead-few sc next me i (λ j. sent (other me) j (next_stage sc.sizes m p)) j in
     omega (arith, as_many, later, few, one) in
     let all = all-of-sources t n s.coming h.receives.known in

@@ -36,37 +36,37 @@ one-less (suc e) l le =
     omega (arith, same)
 
 -- the tick with which a node tells its row goes on within `May`
-tells-few : (sc : Scenario) (q n : ℕ) (C : Course) (F : Few) → FewOn sc q n C F → IsListed sc → (hands : List HandIn) (ports : List PortState) (p : ℕ) (me : Side) (i k : ℕ) (s : Site) (r e : ℕ)
+tells-few : {sc q n : _} (C : Course) (F : Few) → FewOn sc q n C F → IsListed sc → {hands : _} (ports : List PortState) {p me i : _} (k : ℕ) (s : Site) (r e : ℕ)
     → HasTold sc hands C me i p (after_act sc ports me i (pass_and_tick sc ports me i k s.core) s) → (pass_and_tick sc ports me i k s.core).message ≡ None → n ≤ r → n ≤ e
     → StepsOn sc (May n F hands p me i) (pass_and_tick sc ports me i k s.core).message s (after_act sc ports me i (pass_and_tick sc ports me i k s.core) s) r e
-tells-few sc q n C F few listed hands ports p me i k s r e told quiet sends enters =
+tells-few {sc} C F few listed {hands} ports {p} {me} {i} k s r e told quiet sends enters =
     let x : Act = pass_and_tick sc ports me i k s.core in
-    let brings : BringsFew sc me x s (after_act sc ports me i x s) = act-brings sc listed ports me i x s in
+    let brings : BringsFew sc me x s (after_act sc ports me i x s) = act-brings listed ports me i x s in
     let most = brings.most in
     let one : 1 ≤ e = (let some = few.some in omega (arith, some, enters)) in
     let less = one-less e (length sc.says) one in
     let none : messages_in x.message ≡ 0 = ap messages_in quiet in
     record { sends = r; enters = e - 1; may = inr (few.starts hands p me i r (e - 1) _ told sends (omega (arith, enters))); sent = omega (arith, none); room = omega (arith, most, less) }
 
-told-few : (sc : Scenario) (q n : ℕ) (C : Course) (F : Few) → FewOn sc q n C F → (hands : List HandIn) (p : ℕ) → BreaksAt sc hands p q → (sent : Side → ℕ → ℕ → Bool) (ports : List PortState)
-    → (me : Side) (i : ℕ) (s : Site) (a : Timed) (r e : ℕ) → TickBreaks sc hands sent ports p me i s a → a.tick < 2 ^ 31 → F hands p me i r e s
+told-few : {sc q n : _} (C : Course) (F : Few) → FewOn sc q n C F → {hands p : _} → BreaksAt sc hands p q → {sent ports : _}
+    → {me i s a : _} (r e : ℕ) → TickBreaks sc hands sent ports p me i s a → a.tick < 2 ^ 31 → F hands p me i r e s
     → StepsOn sc (May n F hands p me i) (pass_and_tick sc ports me i a.tick s.core).message s (after_act sc ports me i (pass_and_tick sc ports me i a.tick s.core) s) r e
-told-few sc q n C F few hands p off sent ports me i s a r e t small h =
+told-few C F few {hands} {p} off {sent} {ports} {me} {i} {s} {a} r e t small h =
     let step = few.ticks hands p off sent ports me i s a r e t small h in
     record { sends = step.sends; enters = step.enters; may = inr step.may; sent = step.sent; room = step.room }
 
 -- a due tick goes on within `May`
-pub breaks-few : (sc : Scenario) (q n : ℕ) (C : Course) (F : Few) → TellsOn sc q C → FewOn sc q n C F → IsListed sc → IsLawful sc → HasRoom sc.plan → (hands : List HandIn) (p : ℕ) → BreaksAt sc hands p q
-    → (sent : Side → ℕ → ℕ → Bool) (ports : List PortState) (me : Side) (i : ℕ) (s : Site) (a : Timed) (r e : ℕ) → TickBreaks sc hands sent ports p me i s a → a.tick < 2 ^ 31
+pub breaks-few : {sc q n : _} (C : Course) (F : Few) → TellsOn sc q C → FewOn sc q n C F → IsListed sc → IsLawful sc → HasRoom sc.plan → {hands p : _} → BreaksAt sc hands p q
+    → {sent ports me i s a r e : _} → TickBreaks sc hands sent ports p me i s a → a.tick < 2 ^ 31
     → SiteBreaks sc hands C sent p me i s → May n F hands p me i r e s
     → StepsOn sc (May n F hands p me i) (pass_and_tick sc ports me i a.tick s.core).message s (after_act sc ports me i (pass_and_tick sc ports me i a.tick s.core) s) r e
-breaks-few sc q n C F its few listed lawful room hands p off sent ports me i s a r e t small h (inr told) = told-few sc q n C F few hands p off sent ports me i s a r e t small told
-breaks-few sc q n C F its few listed lawful room hands p off sent ports me i s a r e t small (inl stopped) (inl more) = none_and_some a s.ahead stopped.ahead t.pend
-breaks-few sc q n C F its few listed lawful room hands p off sent ports me i s a r e t small (inr (inl h)) (inl more) =
-    tells-few sc q n C F few listed hands ports p me i a.tick s r e (site-ticks sc q C its hands p off sent ports me i s a t (inr (inl h)))
-    (hearing-quiet sc hands lawful room sent ports p q off.running off.small off.window me i s a t h) more.0 more.1
-breaks-few sc q n C F its few listed lawful room hands p off sent ports me i s a r e t small (inr (inr (inl h))) (inl more) =
-    tells-few sc q n C F few listed hands ports p me i a.tick s r e (site-ticks sc q C its hands p off sent ports me i s a t (inr (inr (inl h))))
-    (deaf-quiet sc hands lawful room sent ports p q off.running off.small off.window me i s a t h) more.0 more.1
-breaks-few sc q n C F its few listed lawful room hands p off sent ports me i s a r e t small (inr (inr (inr h))) (inl more) =
-    told-few sc q n C F few hands p off sent ports me i s a r e t small (few.starts hands p me i r e s h more.0 (let enters = more.1 in omega (arith, enters)))
+breaks-few C F its few listed lawful room off {r} {e} t small h (inr told) = told-few C F few off r e t small told
+breaks-few C F its few listed lawful room off {s} {a} t small (inl stopped) (inl more) = none_and_some a s.ahead stopped.ahead t.pend
+breaks-few {q} C F its few listed lawful room off {ports} {s} {a} {r} {e} t small (inr (inl h)) (inl more) =
+    tells-few C F few listed ports a.tick s r e (site-ticks C its off t (inr (inl h)))
+    (hearing-quiet lawful room q off.running off.small off.window t h) more.0 more.1
+breaks-few {q} C F its few listed lawful room off {ports} {s} {a} {r} {e} t small (inr (inr (inl h))) (inl more) =
+    tells-few C F few listed ports a.tick s r e (site-ticks C its off t (inr (inr (inl h))))
+    (deaf-quiet lawful room q off.running off.small off.window t h) more.0 more.1
+breaks-few C F its few listed lawful room {hands} {p} off {me} {i} {s} {r} {e} t small (inr (inr (inr h))) (inl more) =
+    told-few C F few off r e t small (few.starts hands p me i r e s h more.0 (let enters = more.1 in omega (arith, enters)))

@@ -21,8 +21,8 @@ fresh-tells sc me i =
     let s : Site = fresh_site sc.sizes me in
     entered-tells sc me i (span_from sc.sizes sc.plan me s.core.state s.core.had) s
 
-none-some : {X : Type 0} {P : Type 0} (x : X) → None ≡ Some x → P
-none-some x e = absurd (cc)
+none-some : {X : Type 0} {P : Type 0} {x : X} → None ≡ Some x → P
+none-some e = absurd (cc)
 
 first-tells : (sc : Scenario) → TellRounds sc [] (first_world sc).sites
 unfolding first_world RowsOfRounds BegunOfRounds
@@ -36,8 +36,8 @@ first-tells sc =
     let long : length (of_kind me sites) ≡ count_of me sc.sizes = counts me in
     same_Some (make me i) s (sym (get-made sc.sizes make me i (omega arith)) ∙ e) in
     record {
-      rows = λ me i s row e told. none-some row (sym (fresh-tells sc me i).0 ∙ ap (λ (s : Site). s.row) (is me i s e) ∙ told);
-      begun = λ me i s b e told. none-some b (sym (fresh-tells sc me i).1 ∙ ap (λ (s : Site). s.begun) (is me i s e) ∙ told);
+      rows = λ me i s row e told. none-some (sym (fresh-tells sc me i).0 ∙ ap (λ (s : Site). s.row) (is me i s e) ∙ told);
+      begun = λ me i s b e told. none-some (sym (fresh-tells sc me i).1 ∙ ap (λ (s : Site). s.begun) (is me i s e) ∙ told);
       counts = counts;
     }
 
@@ -51,9 +51,9 @@ first-told sc me i s e =
     let is : make me i ≡ s = same_Some (make me i) s (sym (get-made sc.sizes make me i (omega arith)) ∙ e) in
     let tells = fresh-tells sc me i in
     record {
-      row = λ row told. none-some row (sym tells.0 ∙ ap (λ (s : Site). s.row) is ∙ told);
-      begun = λ b told. none-some b (sym tells.1 ∙ ap (λ (s : Site). s.begun) is ∙ told);
-      fresh = λ b a st told frame first ahead state. none-some b (sym tells.1 ∙ ap (λ (s : Site). s.begun) is ∙ told);
+      row = λ row told. none-some (sym tells.0 ∙ ap (λ (s : Site). s.row) is ∙ told);
+      begun = λ b told. none-some (sym tells.1 ∙ ap (λ (s : Site). s.begun) is ∙ told);
+      fresh = λ b a st told frame first ahead state. none-some (sym tells.1 ∙ ap (λ (s : Site). s.begun) is ∙ told);
       was_good = λ q before. absurd (omega (arith, before));
     }
 
@@ -69,24 +69,24 @@ first-settled sc =
           let long : length (of_kind me sites) ≡ count_of me sc.sizes = first-counts sc.sizes make me in
           let is : make me i ≡ s = same_Some (make me i) s (sym (get-made sc.sizes make me i (omega arith)) ∙ e) in
           ap (λ o. is_some (begun_for 0 o)) (sym (ap (λ (s : Site). s.begun) is) ∙ (fresh-tells sc me i).1));
-      turn = λ frame e. none-some frame e;
+      turn = λ frame e. none-some e;
     }
 
 -- the first world is in time
-times-first : (sc : Scenario) → IsLawful sc → AreInTime sc [] at_begin
+times-first : {sc : _} → IsLawful sc → AreInTime sc [] at_begin
 unfolding begin_frame
-times-first sc lawful =
-    let reaches : Reaches sc [] 0 = reaches-first sc [] lawful 0 (omega arith) refl in
+times-first {sc} lawful =
+    let reaches : Reaches sc [] 0 = reaches-first [] lawful (omega arith) refl in
     let up : UpTo sc [] 0 = reaches.up_to in
     record {
       each = λ me i good. up.times 0 (omega arith) (omega arith);
       later = λ me i j st there good is. let next : NextIsStage sc [] 0 = next-is-stage sc [] 0 (omega arith) in absurd (omega (arith, is, next.later));
     }
 
-pub first-in-rounds : (sc : Scenario) → IsLawful sc → HasRoom sc.plan → WorldInRounds sc 0 at_begin (first_world sc)
+pub first-in-rounds : {sc : _} → IsLawful sc → HasRoom sc.plan → WorldInRounds sc 0 at_begin (first_world sc)
 unfolding first_world begin_frame
-first-in-rounds sc lawful room =
-    let both = first-stands sc [] room (times-first sc lawful) in
+first-in-rounds {sc} lawful room =
+    let both = first-stands room (times-first lawful) in
     record {
       sites = both.0;
       passed = both.1;
@@ -97,6 +97,6 @@ first-in-rounds sc lawful room =
       ports = λ j s there runs. refl;
       handed = tt;
       settled = first-settled sc;
-      so_far = so-far-first sc [] 0 both.0;
+      so_far = so-far-first both.0;
       bound = λ going me i s there. omega arith;
     }

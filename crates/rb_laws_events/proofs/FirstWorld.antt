@@ -47,7 +47,7 @@ first-enters sc hands me i room good =
     let u : ℕ = time_of clock (last_tick sc m me st) in
     let counted : i < count_of me sc.sizes = good_counts sc me i 0 (slot_numbered sc.sizes 0) good in
     let zero_first : first_of sc.sizes sc.plan me st 0 ≡ 0 * sc.plan.l = first-same sc.sizes sc.plan me st 0 (omega arith) in
-    let t : Tiles sc.sizes sc.plan me st 0 = tiles sc.sizes sc.plan me st 0 room.ticks (omega arith) in
+    let t : Tiles sc.sizes sc.plan me st 0 = tiles sc.sizes me st 0 room.ticks (omega arith) in
     let first : 0 ≡ st.epoch + first_of sc.sizes sc.plan me st 0 = omega arith in
     record {
       state = get-made sc.sizes (λ me i. first_state sc.sizes me) me i counted;
@@ -70,7 +70,7 @@ first-enters sc hands me i room good =
           let says_times : Every (λ c. c.time ≤ u) (says_in sc me i span) =
           every-to (ComesIn clock span) (λ c. c.time ≤ u) (λ c h. h.1) (says_in sc me i span) (says-come-in sc me i span) in
           let more : Hears j u [] ([] ++ says_in sc me i span) ([] ++ said_if sc me i span j) [] =
-          say-more j u [] (says_in sc me i span) (said_if sc me i span j) [] [] (says-now sc me i span j) says_times (inr refl) (nothing-heard j u) in
+          say-more (says_in sc me i span) (says-now sc me i span j) says_times (inr refl) (nothing-heard j u) in
           subst (λ l. Hears j u [] (says_in sc me i span) l (ahead_so_far sc (moment sc hands (next_stage sc.sizes m 0)) me i (λ j. false) j)) (sym (heard-none sc m me i j st refl))
           (subst (λ l. Hears j u [] (says_in sc me i span) (said_if sc me i span j) l) (sym (ahead-none sc (moment sc hands (next_stage sc.sizes m 0)) me i j)) more);
     }
@@ -91,17 +91,17 @@ first-span sc hands me room =
     let zero_first : first_of sc.sizes sc.plan me st 0 ≡ 0 * sc.plan.l = first-same sc.sizes sc.plan me st 0 (omega arith) in
     let first : 0 ≡ st.epoch + first_of sc.sizes sc.plan me st 0 = omega arith in
     let at : IsTickIn sc.sizes sc.plan me st 0 0 = first-tick sc me in
-    span-begins sc.sizes sc.plan me st st 0 0 (not-turned sc.sizes sc.plan me 0) (here-is sc.sizes sc.plan me st 0 0 room.ticks (omega arith) at) first
+    span-begins sc.sizes sc.plan me st 0 (not-turned sc.sizes sc.plan me 0) (here-is me st room.ticks (omega arith) at) first
 
 -- a node of the first world runs or is down, and has sent nothing
 pub record FirstNode (sc : Scenario) (hands : List HandIn) (me : Side) (i : ℕ) (s : Site) : Type 0 where
   pub node : ((s.runs ≡ true) × IsUp sc hands none_sent 0 me i 0 s) ⊎ ((s.runs ≡ false) × IsDown sc hands me i 0 s)
   pub silent : past (sending_of sc (moment sc hands 0) me i) s.ahead ≡ false
 
-first-node : (sc : Scenario) (hands : List HandIn) (me : Side) (i : ℕ) → HasRoom sc.plan → AreInTime sc hands at_begin → i < count_of me sc.sizes
+first-node : {sc : Scenario} {hands : List HandIn} (me : Side) (i : ℕ) → HasRoom sc.plan → AreInTime sc hands at_begin → i < count_of me sc.sizes
     → FirstNode sc hands me i (proceed sc me i (fresh_site sc.sizes me))
 unfolding proceed begin_frame
-first-node sc hands me i room times counted =
+first-node {sc} {hands} me i room times counted =
     let m : Moment = moment sc hands 0 in
     let st : NodeState = first_state sc.sizes me in
     let s : Site = fresh_site sc.sizes me in
@@ -114,11 +114,11 @@ first-node sc hands me i room times counted =
           let en : Enters sc hands none_sent 0 me i 0 0 st s = first-enters sc hands me i room e in
           let it : InTime sc m (moment sc hands (next_stage sc.sizes m 0)) = times.each me i e in
           let ent : Entered sc hands none_sent 0 me i 0 st s =
-          enters sc hands none_sent 0 me i 0 0 st s room (it.keeps me i st en.state e) (it.room me i st en.state e) en in
+          enters room (it.keeps me i st en.state e) (it.room me i st en.state e) en in
           record {
             node = inl (refl, record { st = st; a = ent.a; stands = ent.stands });
             silent = ap (past (sending_of sc m me i)) ent.stands.receives.pends ∙ past-gone (sending_of sc m me i) ent.a
-                ∙ ap (λ o. gone o ent.a.tick) (sending-of-is sc m me i st en.state) ∙ ent.silent;
+                ∙ ap (λ o. gone o ent.a.tick) (sending-of-is sc m me i en.state) ∙ ent.silent;
           }
       | false ↦ λ e.
           let at : IsTickIn sc.sizes sc.plan me st 0 0 = first-tick sc me in
@@ -128,7 +128,7 @@ first-node sc hands me i room times counted =
               record {
                 not_good = e;
                 stopped = ap (λ (y : NodeState). is_good sc me i y.frame (window_here sc.sizes sc.plan me y 0).slot) (not-turned sc.sizes sc.plan me 0)
-                    ∙ ap (λ (w : Window). is_good sc me i 0 w.slot) (here-is sc.sizes sc.plan me st 0 0 room.ticks (omega arith) at)
+                    ∙ ap (λ (w : Window). is_good sc me i 0 w.slot) (here-is me st room.ticks (omega arith) at)
                     ∙ good-span sc m me me i st refl ∙ e;
                 ahead = refl;
                 coming = refl;
@@ -142,10 +142,10 @@ first-node sc hands me i room times counted =
     (sym (good-span sc m me me i st refl)) (by (is_good_at sc m me i) refl))
 
 -- in the first world all nodes stand in the first moment, and nobody has passed a window
-pub first-stands : (sc : Scenario) (hands : List HandIn) → HasRoom sc.plan → AreInTime sc hands at_begin
+pub first-stands : {sc : Scenario} {hands : List HandIn} → HasRoom sc.plan → AreInTime sc hands at_begin
     → SitesStand sc hands 0 at_begin (first_world sc).sites × HavePassed sc hands 0 at_begin
 unfolding first_world
-first-stands sc hands room times =
+first-stands {sc} {hands} room times =
     let make : Side → ℕ → Site = λ me i. proceed sc me i (fresh_site sc.sizes me) in
     let sites : Each Site = each_of sc.sizes make in
     let counts : (me : Side) → length (of_kind me sites) ≡ count_of me sc.sizes = first-counts sc.sizes make in
@@ -155,7 +155,7 @@ first-stands sc hands room times =
     let long : length (of_kind me sites) ≡ count_of me sc.sizes = counts me in
     let counted : i < count_of me sc.sizes = omega arith in
     let same : make me i ≡ s = same_Some (make me i) s (sym (get-made sc.sizes make me i counted) ∙ e) in
-    subst (FirstNode sc hands me i) same (first-node sc hands me i room times counted) in
+    subst (FirstNode sc hands me i) same (first-node me i room times counted) in
     let silent : (side : Side) (j : ℕ) (o : Option Site) → slice_get (of_kind side sites) j ≡ o
     → past (sending_of sc (moment sc hands 0) side j) (option_and_then (λ (s : Site). s.ahead) o) ≡ false =
     λ side j o. elim o as (λ o. slice_get (of_kind side sites) j ≡ o → past (sending_of sc (moment sc hands 0) side j) (option_and_then (λ (s : Site). s.ahead) o) ≡ false) [
@@ -173,7 +173,7 @@ first-stands sc hands room times =
       record {
         up = λ me i s e runs. elim (made me i s e).node [
           | inl on ↦
-              record { st = on.1.st; a = on.1.a; stands = stands-same sc hands none_sent (sent_by sc hands at_begin sites) 0 me i 0 s on.1.st on.1.a (λ j p. none (other me) j p) on.1.stands }
+              record { st = on.1.st; a = on.1.a; stands = stands-same (sent_by sc hands at_begin sites) (λ j p. none (other me) j p) on.1.stands }
           | inr off ↦ absurd (true-false (sym runs ∙ off.0))
         ];
         down = λ me i s e stopped. elim (made me i s e).node [

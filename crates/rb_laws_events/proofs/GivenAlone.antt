@@ -61,28 +61,28 @@ stage-gives sc place rows b going none =
     let stages : List JudgedStage = judged_of sc place rows ∷ b.stages in
     ap (λ e. slice_get (elim e as (λ _. Book) [ true ↦ b | false ↦ after_verdict sc.sizes place rows stages b (verdict_of stages) ]).given (length b.given)) going
     ∙ ap (λ v. slice_get (after_verdict sc.sizes place rows stages b v).given (length b.given)) (breach-alone b.stages (judged_of sc place rows) none)
-    ∙ last-one b.given _ (Breach place FewGoodBiu) refl
+    ∙ last-one b.given (Breach place FewGoodBiu) refl
 
 end-gives : (sc : Scenario) (w : World) → w.book.ended ≡ false → record_since w (next_world sc w End) ≡ Some Ended
 end-gives sc w going =
     ap (λ e. slice_get (elim e as (λ _. Book) [ true ↦ w.book | false ↦ record w.book { given = w.book.given ++ Ended ∷ []; ended = true } ]).given (length w.book.given)) going
-    ∙ last-one w.book.given _ Ended refl
+    ∙ last-one w.book.given Ended refl
 
-settle-gives : (sc : Scenario) (n : ℕ) (w y : World) (r : Record) → settle_next sc ByItself w ≡ y → record_since w y ≡ Some r → (settle sc ByItself (suc n) w).turn ≡ Some r
-settle-gives sc n w y r next gives =
+settle-gives : (sc : Scenario) (n : ℕ) (w : World) {y r : _} → settle_next sc ByItself w ≡ y → record_since w y ≡ Some r → (settle sc ByItself (suc n) w).turn ≡ Some r
+settle-gives sc n w {y} next gives =
     ap (λ next. (settle_rest sc ByItself n next (record_since w next)).turn) next ∙ ap (λ o. (settle_rest sc ByItself n y o).turn) gives
 
 end-turn : (sc : Scenario) (n : ℕ) (w : World) → IsShape sc.sizes → w.book.ended ≡ false → w.book.upcoming ≡ End → (r : Record) × ((settle sc ByItself (suc n) w).turn ≡ Some r)
 end-turn sc n w shape going up =
     let next : settle_next sc ByItself w ≡ next_world sc w End = next-alone sc w shape (ap (needs_no_event sc) up) ∙ ap (next_world sc w) up in
-    (Ended, settle-gives sc n w (next_world sc w End) Ended next (end-gives sc w going))
+    (Ended, settle-gives sc n w next (end-gives sc w going))
 
 stage-turn : (sc : Scenario) (n : ℕ) (w : World) (place : Place) → IsShape sc.sizes → w.book.ended ≡ false → w.book.upcoming ≡ Stage place → nobody_good sc place.frame place.slot ≡ true
     → (r : Record) × ((settle sc ByItself (suc n) w).turn ≡ Some r)
 stage-turn sc n w place shape going up nobody =
     let next : settle_next sc ByItself w ≡ next_world sc w (Stage place) = next-alone sc w shape (ap (needs_no_event sc) up ∙ nobody) ∙ ap (next_world sc w) up in
     let none : good_at sc Biu place.frame place.slot ≡ 0 = no-good sc Biu place.frame place.slot (nobody-each sc place.frame place.slot shape nobody Biu) in
-    (Breach place FewGoodBiu, settle-gives sc n w (next_world sc w (Stage place)) (Breach place FewGoodBiu) next (stage-gives sc place _ w.book going none))
+    (Breach place FewGoodBiu, settle-gives sc n w next (stage-gives sc place _ w.book going none))
 
 -- if nobody is good at the start of a frame, which has no record, the milestone after it gives one
 begin-turn : (sc : Scenario) (n : ℕ) (w : World) (frame : ℕ) → IsShape sc.sizes → w.book.ended ≡ false → w.book.upcoming ≡ Begin frame → nobody_good sc frame 0 ≡ true
@@ -103,7 +103,7 @@ begin-turn sc n w frame shape going up nobody =
 
     after : (y : World) → settle_next sc ByItself w ≡ y → (o : Option Record) → record_since w y ≡ o → (r : Record) × ((settle sc ByItself (suc n) y).turn ≡ Some r)
         → (r : Record) × ((settle sc ByItself (suc (suc n)) w).turn ≡ Some r)
-    after y next (Some r) e later = (r, settle-gives sc (suc n) w y r next e)
+    after y next (Some r) e later = (r, settle-gives sc (suc n) w next e)
     after y next None e later = (
       later.0,
       ap (λ next. (settle_rest sc ByItself (suc n) next (record_since w next)).turn) next ∙ ap (λ o. (settle_rest sc ByItself (suc n) y o).turn) e ∙ later.1,

@@ -16,19 +16,19 @@ pub record AreEarly (sc : Scenario) (at : Side → ℕ → ℕ) (sites : Each Si
 -- Nodes.
 
 -- a node's lists in a moment that is like another
-receives-alike : (sc : Scenario) (me : Side) (i now : ℕ) (s : Site) (st : NodeState) (a : Timed) (m x z y : Moment) (f g : ℕ → Bool) → Alike sc m x → Alike sc z y
+receives-alike : {sc me i now s : _} (st : NodeState) {a m x z y : _} (f g : ℕ → Bool) → Alike sc m x → Alike sc z y
     → Receives sc me i (last_tick sc m me st) (heard_so_far sc m me i (span_of st (window_in sc m me st)) f) (ahead_so_far sc z me i g) now s a
     → Receives sc me i (last_tick sc x me st) (heard_so_far sc x me i (span_of st (window_in sc x me st)) f) (ahead_so_far sc y me i g) now s a
-receives-alike sc me i now s st a m x z y f g mx zy h =
+receives-alike {sc} {me} {i} {now} {s} st {a} {m} {x} {z} {y} f g mx zy h =
     let come : Moment → Each (Option Sending) → ℕ → List Coming = λ m sent j. option_to_list (option_map (coming_of sc me i j m.frame) (at_source (of_kind (other me) sent) j)) in
     let heard : Moment → Each (Option Sending) → ℕ → List Coming = λ m sent j.
     elim (is_good_at sc m (other me) j) [ true ↦ elim (f j) [ true ↦ come m sent j | false ↦ [] ] | false ↦ said_by sc me i (span_of st (window_in sc m me st)) j ] in
     let ahead : Moment → Each (Option Sending) → ℕ → List Coming = λ m sent j.
     elim (is_good_at sc m (other me) j) [ true ↦ elim (g j) [ true ↦ come m sent j | false ↦ [] ] | false ↦ [] ] in
     let one : Receives sc me i (last_tick sc m me st) (heard m (sent_in sc x)) (ahead z (sent_in sc z)) now s a =
-    subst (λ sent. Receives sc me i (last_tick sc m me st) (heard m sent) (ahead z (sent_in sc z)) now s a) (sym (alike-sent sc m x mx)) h in
+    subst (λ sent. Receives sc me i (last_tick sc m me st) (heard m sent) (ahead z (sent_in sc z)) now s a) (sym (alike-sent mx)) h in
     let two : Receives sc me i (last_tick sc m me st) (heard m (sent_in sc x)) (ahead z (sent_in sc y)) now s a =
-    subst (λ sent. Receives sc me i (last_tick sc m me st) (heard m (sent_in sc x)) (ahead z sent) now s a) (sym (alike-sent sc z y zy)) one in
+    subst (λ sent. Receives sc me i (last_tick sc m me st) (heard m (sent_in sc x)) (ahead z sent) now s a) (sym (alike-sent zy)) one in
     subst (λ (n : Moment). Receives sc me i (last_tick sc n me st) (heard n (sent_in sc x)) (ahead y (sent_in sc y)) now s a) (sym mx.is)
     (subst (λ (n : Moment). Receives sc me i (last_tick sc m me st) (heard m (sent_in sc x)) (ahead n (sent_in sc y)) now s a) (sym zy.is) two)
 
@@ -61,15 +61,15 @@ next-early sc hands p frame some within early =
     one-more : (a n : ℕ) → (a + 1) * n ≡ a * n + n
     one-more a n = omega arith
 
-sent-alike : (sc : Scenario) (hands : List HandIn) (h : HandIn) (at : Side → ℕ → ℕ) (sites : Each Site) (q : ℕ) → Alike sc (moment sc hands q) (moment sc (hands ++ h ∷ []) q)
+sent-alike : {sc : _} (hands : List HandIn) (h : HandIn) (at : Side → ℕ → ℕ) (sites : Each Site) (q : ℕ) → Alike sc (moment sc hands q) (moment sc (hands ++ h ∷ []) q)
     → (me : Side) (j : ℕ) → sent_by sc hands at sites me j q ≡ sent_by sc (hands ++ h ∷ []) at sites me j q
-sent-alike sc hands h at sites q a me j =
-    ap (λ sent. has_sent (at_source (of_kind me sent) j) (at me j) (ahead_in (of_kind me sites) j) q) (sym (alike-sent sc (moment sc hands q) (moment sc (hands ++ h ∷ []) q) a))
+sent-alike hands h at sites q a me j =
+    ap (λ sent. has_sent (at_source (of_kind me sent) j) (at me j) (ahead_in (of_kind me sites) j) q) (sym (alike-sent a))
 
-node-handed : (sc : Scenario) (hands : List HandIn) (h : HandIn) (now : ℕ) (at : Side → ℕ → ℕ) (sites : Each Site) (me : Side) (i p : ℕ) (s : Site) (st : NodeState) (a : Timed)
+node-handed : {sc : Scenario} {hands : List HandIn} (h : HandIn) {now : ℕ} (at : Side → ℕ → ℕ) (sites : Each Site) {me : Side} {i p : ℕ} {s : Site} {st : NodeState} {a : Timed}
     → 1 ≤ sc.sizes.bius → p ≤ h.frame * (windows_in sc.sizes + 1) + 1 → NodeStands sc hands (sent_by sc hands at sites) now me i p s st a
     → NodeStands sc (hands ++ h ∷ []) (sent_by sc (hands ++ h ∷ []) at sites) now me i p s st a
-node-handed sc hands h now at sites me i p s st a some early n =
+node-handed {sc} {hands} h {now} at sites {me} {i} {p} {s} {st} {a} some early n =
     let more : List HandIn = hands ++ h ∷ [] in
     let m : Moment = moment sc hands p in
     let x : Moment = moment sc more p in
@@ -77,14 +77,14 @@ node-handed sc hands h now at sites me i p s st a some early n =
     let here : Alike sc m x = handed-alike sc hands h p (omega (arith, early, some)) in
     let soon : q ≤ h.frame * (windows_in sc.sizes + 1) + 2 = next-early sc hands p h.frame some n.stands.window early in
     let there : Alike sc (moment sc hands q) (moment sc more q) = handed-alike sc hands h q (omega (arith, soon, some)) in
-    let f : (λ j. sent_by sc hands at sites (other me) j p) ≡ (λ j. sent_by sc more at sites (other me) j p) = fun_ext (λ j. sent-alike sc hands h at sites p here (other me) j) in
-    let g : (λ j. sent_by sc hands at sites (other me) j q) ≡ (λ j. sent_by sc more at sites (other me) j q) = fun_ext (λ j. sent-alike sc hands h at sites q there (other me) j) in
+    let f : (λ j. sent_by sc hands at sites (other me) j p) ≡ (λ j. sent_by sc more at sites (other me) j p) = fun_ext (λ j. sent-alike hands h at sites p here (other me) j) in
+    let g : (λ j. sent_by sc hands at sites (other me) j q) ≡ (λ j. sent_by sc more at sites (other me) j q) = fun_ext (λ j. sent-alike hands h at sites q there (other me) j) in
     let word : word_at sc x me i st ≡ word_at sc m me i st =
     ap (λ (y : Moment). word_for_there y) here.is ∙ here.word i (window_in sc m me st) (slot-is sc.sizes sc.plan me st m.window) in
     let next : next_stage sc.sizes x p ≡ q = ap (λ (y : Moment). next_stage sc.sizes y p) here.is in
     let lists : Receives sc me i (last_tick sc x me st) (heard_so_far sc x me i (span_of st (window_in sc x me st)) (λ j. sent_by sc more at sites (other me) j p))
     (ahead_so_far sc (moment sc more q) me i (λ j. sent_by sc more at sites (other me) j q)) now s a =
-    receives-alike sc me i now s st a m x (moment sc hands q) (moment sc more q) (λ j. sent_by sc more at sites (other me) j p) (λ j. sent_by sc more at sites (other me) j q) here there
+    receives-alike st (λ j. sent_by sc more at sites (other me) j p) (λ j. sent_by sc more at sites (other me) j q) here there
     (subst (λ g. Receives sc me i (last_tick sc m me st) (heard_so_far sc m me i (span_of st (window_in sc m me st)) (λ j. sent_by sc more at sites (other me) j p))
     (ahead_so_far sc (moment sc hands q) me i g) now s a) g
     (subst (λ f. Receives sc me i (last_tick sc m me st) (heard_so_far sc m me i (span_of st (window_in sc m me st)) f)
@@ -102,12 +102,12 @@ node-handed sc hands h now at sites me i p s st a some early n =
     word_for_there : Moment → ℕ
     word_for_there y = word_for_window sc (moment sc (hands ++ h ∷ []) p) i (window_in sc y me st)
 
-pub sites-handed : (sc : Scenario) (hands : List HandIn) (h : HandIn) (now : ℕ) (at : Side → ℕ → ℕ) (sites : Each Site) → AreEarly sc at sites h.frame
+pub sites-handed : {sc hands : _} (h : HandIn) {now at sites : _} → AreEarly sc at sites h.frame
     → SitesStand sc hands now at sites → SitesStand sc (hands ++ h ∷ []) now at sites
-sites-handed sc hands h now at sites early stand = record {
+sites-handed {sc} {hands} h {now} {at} {sites} early stand = record {
   up = λ me i s there runs.
       let up : IsUp sc hands (sent_by sc hands at sites) now me i (at me i) s = stand.up me i s there runs in
-      record { st = up.st; a = up.a; stands = node-handed sc hands h now at sites me i (at me i) s up.st up.a early.some_biu (early.early me i s there) up.stands };
+      record { st = up.st; a = up.a; stands = node-handed h at sites early.some_biu (early.early me i s there) up.stands };
   down = λ me i s there stopped.
       let down : IsDown sc hands me i (at me i) s = stand.down me i s there stopped in
       let le : at me i ≤ h.frame * (windows_in sc.sizes + 1) + 1 = early.early me i s there in
@@ -126,9 +126,9 @@ site-of sc sites counts me i frame slot good =
     let long : length (of_kind me sites) ≡ count_of me sc.sizes = counts me in
     item-at (of_kind me sites) i (omega arith)
 
-pub passed-handed : (sc : Scenario) (hands : List HandIn) (h : HandIn) (now : ℕ) (at : Side → ℕ → ℕ) (sites : Each Site) → AreEarly sc at sites h.frame
+pub passed-handed : {sc hands : _} (h : HandIn) {now at sites : _} → AreEarly sc at sites h.frame
     → ((me : Side) → length (of_kind me sites) ≡ count_of me sc.sizes) → HavePassed sc hands now at → HavePassed sc (hands ++ h ∷ []) now at
-passed-handed sc hands h now at sites early counts passed = record {
+passed-handed {sc} {hands} h {now} {at} {sites} early counts passed = record {
   passed = λ me i q st before.
       let x : Moment = moment sc (hands ++ h ∷ []) q in
       λ stage there good.
@@ -146,10 +146,10 @@ unfolding ports_before
 ports-same sc hands h zero le = refl
 ports-same sc hands h (suc e) le = ap (λ (m : Moment). m.ports) (moments-more sc hands h e (before-frame sc hands e h.frame (omega (arith, le))))
 
-pub tell-handed : (sc : Scenario) (hands : List HandIn) (h : HandIn) (at : Side → ℕ → ℕ) (sites : Each Site) → AreEarly sc at sites h.frame → AllTold sc hands at sites
+pub tell-handed : {sc hands : _} (h : HandIn) {at sites : _} → AreEarly sc at sites h.frame → AllTold sc hands at sites
     → TellRounds sc hands sites → TellRounds sc (hands ++ h ∷ []) sites
 unfolding RowsOfRounds BegunOfRounds
-tell-handed sc hands h at sites early told tell = record {
+tell-handed {sc} {hands} h {at} early told tell = record {
   rows = λ me i s row there is.
       let r : RowOfRounds sc hands me i row = tell.rows me i s row there is in
       let before : number_at sc.sizes row.place < at me i = (told me i s there).row row is in
@@ -162,7 +162,7 @@ tell-handed sc hands h at sites early told tell = record {
         stage = subst (λ (y : Moment). y.window < stages_in sc.sizes) (sym alike.is) r.stage;
         state = subst (λ (y : Moment). slice_get (of_kind me y.nodes) i ≡ Some r.st) (sym alike.is) r.state;
         place = subst (λ (y : Moment). row.place ≡ place_at sc.sizes y) (sym alike.is) r.place;
-        is = ap (λ (z : Result). z.row) (alike-through sc (moment sc hands r.q) (moment sc (hands ++ h ∷ []) r.q) alike me i r.st) ∙ r.is;
+        is = ap (λ (z : Result). z.row) (alike-through alike me i r.st) ∙ r.is;
       };
   begun = λ me i s b there is.
       let r : BegunInRounds sc hands me i b = tell.begun me i s b there is in
@@ -197,9 +197,9 @@ tell-handed sc hands h at sites early told tell = record {
           absurd (omega (arith, up, more, le, some))
     ]
 
-pub told-handed : (sc : Scenario) (hands : List HandIn) (h : HandIn) (at : Side → ℕ → ℕ) (sites : Each Site) → AreEarly sc at sites h.frame
+pub told-handed : {sc hands : _} (h : HandIn) {at sites : _} → AreEarly sc at sites h.frame
     → AllTold sc hands at sites → AllTold sc (hands ++ h ∷ []) at sites
-told-handed sc hands h at sites early told me i s there =
+told-handed {sc} {hands} h {at} early told me i s there =
     let le : at me i ≤ h.frame * (windows_in sc.sizes + 1) + 1 = early.early me i s there in
     let n : NodeTold sc hands me i (at me i) s = told me i s there in
     let alike : (q : ℕ) → q ≤ at me i → Alike sc (moment sc hands q) (moment sc (hands ++ h ∷ []) q) = λ q before. handed-alike sc hands h q (omega (arith, le, before, early.some_biu)) in

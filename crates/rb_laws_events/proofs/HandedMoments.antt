@@ -17,9 +17,9 @@ pub record Alike (sc : Scenario) (m x : Moment) : Type 0 where
   pub is : x ≡ record m { ports = x.ports }
   pub word : (i : ℕ) (w : Window) → w.slot ≡ slot_numbered sc.sizes m.window → word_for_window sc x i w ≡ word_for_window sc m i w
 
-pub alike-sent : (sc : Scenario) (m x : Moment) → Alike sc m x → sent_in sc x ≡ sent_in sc m
+pub alike-sent : {sc m x : _} → Alike sc m x → sent_in sc x ≡ sent_in sc m
 unfolding sent_in
-alike-sent sc m x a =
+alike-sent {sc} {m} {x} a =
     let make : Side → ℕ → NodeState → Option Sending = λ me i st. sending_in sc x me i st (window_in sc m me st) in
     let same : make ≡ (λ me i st. sending_in sc m me i st (window_in sc m me st)) =
     fun_ext (λ me. fun_ext (λ i. fun_ext (λ st.
@@ -27,10 +27,10 @@ alike-sent sc m x a =
     ap (sending sc.sizes sc.plan me i st w.slot w.stage) (a.word i w (slot-is sc.sizes sc.plan me st m.window))))) in
     ap (λ (y : Moment). map_each (λ me i st. sending_in sc x me i st (window_in sc y me st)) y.nodes) a.is ∙ ap (λ f. map_each f m.nodes) same
 
-pub alike-through : (sc : Scenario) (m x : Moment) → Alike sc m x → (me : Side) (i : ℕ) (st : NodeState)
+pub alike-through : {sc m x : _} → Alike sc m x → (me : Side) (i : ℕ) (st : NodeState)
     → go_through sc x (sent_in sc x) me i st (window_in sc x me st) ≡ go_through sc m (sent_in sc m) me i st (window_in sc m me st)
 unfolding go_through
-alike-through sc m x a me i st =
+alike-through {sc} {m} {x} a me i st =
     let w : Window = window_in sc m me st in
     let through : ℕ → ℕ → Window → Each (Option Sending) → Result = λ frame word w sent. elim (is_good sc me i frame w.slot && nat_le w.first w.last) as (λ _. Result) [
       | true ↦ close_on sc me i (keep_sent sc.sizes me i st w.slot w.stage word) w (heard_at sc me i st w sent)
@@ -38,13 +38,13 @@ alike-through sc m x a me i st =
     ] in
     ap (λ (y : Moment). through y.frame (word_for_window sc x i (window_in sc y me st)) (window_in sc y me st) (sent_in sc x)) a.is
     ∙ ap (λ word. through m.frame word w (sent_in sc x)) (a.word i w (slot-is sc.sizes sc.plan me st m.window))
-    ∙ ap (through m.frame (word_for_window sc m i w) w) (alike-sent sc m x a)
+    ∙ ap (through m.frame (word_for_window sc m i w) w) (alike-sent a)
 
-alike-results : (sc : Scenario) (m x : Moment) → Alike sc m x → results_of sc x ≡ results_of sc m
+alike-results : {sc m x : _} → Alike sc m x → results_of sc x ≡ results_of sc m
 unfolding results_of
-alike-results sc m x a =
+alike-results {sc} {m} {x} a =
     let go : Moment → Side → ℕ → NodeState → Result = λ y me i st. go_through sc y (sent_in sc y) me i st (window_in sc y me st) in
-    let same : go x ≡ go m = fun_ext (λ me. fun_ext (λ i. fun_ext (λ st. alike-through sc m x a me i st))) in
+    let same : go x ≡ go m = fun_ext (λ me. fun_ext (λ i. fun_ext (λ st. alike-through a me i st))) in
     ap (λ (y : Moment). map_each (go x) y.nodes) a.is ∙ ap (λ f. map_each f m.nodes) same
 
 -- Moments.
@@ -91,14 +91,14 @@ stepped-window : (sc : Scenario) (hands : List HandIn) (h : HandIn) (m x : Momen
     → stepped sc (hands ++ h ∷ []) x over in_frame ≡ record (stepped sc hands m over in_frame) { ports = (stepped sc (hands ++ h ∷ []) x over in_frame).ports }
 unfolding after_window
 stepped-window sc hands h m x over false a e = cc
-stepped-window sc hands h m x true true a e = rest a.is (alike-results sc m x a)
+stepped-window sc hands h m x true true a e = rest a.is (alike-results a)
   where
     rest : x ≡ record m { ports = x.ports } → results_of sc x ≡ results_of sc m
         → stepped sc (hands ++ h ∷ []) x true true ≡ record (stepped sc hands m true true) { ports = (stepped sc (hands ++ h ∷ []) x true true).ports }
     rest is results =
         ap (λ (y : Moment). record (stepped sc hands y true true) { nodes = (after_window sc x (results_of sc x)).nodes; ports = (stepped sc (hands ++ h ∷ []) x true true).ports }) is
         ∙ ap (λ r. record (stepped sc hands m true true) { nodes = (after_window sc x r).nodes; ports = (stepped sc (hands ++ h ∷ []) x true true).ports }) results
-stepped-window sc hands h m x false true a e = rest a.is (alike-results sc m x a)
+stepped-window sc hands h m x false true a e = rest a.is (alike-results a)
   where
     rest : x ≡ record m { ports = x.ports } → results_of sc x ≡ results_of sc m
         → stepped sc (hands ++ h ∷ []) x false true ≡ record (stepped sc hands m false true) { ports = (stepped sc (hands ++ h ∷ []) x false true).ports }
@@ -106,8 +106,8 @@ stepped-window sc hands h m x false true a e = rest a.is (alike-results sc m x a
         ap (λ r. record (after_window sc x r) { ports = (stepped sc (hands ++ h ∷ []) x false true).ports }) results
         ∙ ap (λ (y : Moment). record (after_window sc y (results_of sc m)) { ports = (stepped sc (hands ++ h ∷ []) x false true).ports }) is
 
-same-alike : (sc : Scenario) (m x : Moment) → x ≡ m → Alike sc m x
-same-alike sc m x e = subst (Alike sc m) (sym e) (record { is = refl; word = λ i w slot. refl })
+same-alike : (sc : Scenario) {m x : _} → x ≡ m → Alike sc m x
+same-alike sc {m} e = subst (Alike sc m) (sym e) (record { is = refl; word = λ i w slot. refl })
 
 early-slot : (sc : Scenario) (hands : List HandIn) (n frame : ℕ) → frame * (windows_in sc.sizes + 1) ≤ n → n < frame * (windows_in sc.sizes + 1) + 3 * sc.sizes.bius
     → slot_numbered sc.sizes (moment sc hands n).window < sc.sizes.bius
@@ -121,7 +121,7 @@ alike-from : (sc : Scenario) (hands : List HandIn) (h : HandIn) (n : ℕ) → n 
     → Alike sc (moment sc hands n) (moment sc (hands ++ h ∷ []) n)
 alike-from sc hands h n before is =
     elim (cases_lt n (h.frame * (windows_in sc.sizes + 1))) [
-      | inl earlier ↦ same-alike sc _ _ (moments-more sc hands h n (before-frame sc hands n h.frame earlier))
+      | inl earlier ↦ same-alike sc (moments-more sc hands h n (before-frame sc hands n h.frame earlier))
       | inr later ↦
           let early : slot_numbered sc.sizes (moment sc hands n).window < sc.sizes.bius = early-slot sc hands n h.frame later before in
           record {
@@ -173,19 +173,19 @@ handed-alike sc hands h n before = alike-from sc hands h n before (handed-is sc 
 -- Ports.
 
 -- the last hand-in comes last
-over-more : (frame : ℕ) (hands : List HandIn) (h : HandIn) (ports : List PortState) → h.frame ≡ frame
+over-more : {frame : ℕ} (hands : List HandIn) (h : HandIn) (ports : List PortState) → h.frame ≡ frame
     → hand_over frame (hands ++ h ∷ []) ports ≡ with_state h.biu h.state (hand_over frame hands ports)
-over-more frame [] h ports e = ap (λ b. if b then with_state h.biu h.state ports else ports) (same-is h.frame frame e)
+over-more {frame} [] h ports e = ap (λ b. if b then with_state h.biu h.state ports else ports) (same-is h.frame frame e)
   where
     same-is : (a b : ℕ) → a ≡ b → (a == b) ≡ true
     same-is a b h = grind (arith, nat_tests)
-over-more frame (x ∷ xs) h ports e = over-more frame xs h (if x.frame == frame then with_state x.biu x.state ports else ports) e
+over-more {frame} (x ∷ xs) h ports e = over-more xs h (if x.frame == frame then with_state x.biu x.state ports else ports) e
 
 -- the ports with which its frame begins
 pub handed-ports : (sc : Scenario) (hands : List HandIn) (h : HandIn) (n : ℕ) → n ≡ h.frame * (windows_in sc.sizes + 1)
     → (moment sc (hands ++ h ∷ []) n).ports ≡ with_state h.biu h.state (moment sc hands n).ports
 unfolding begin_frame
-handed-ports sc hands h zero is = over-more 0 hands h _ (zero-frame h.frame (windows_in sc.sizes + 1) (omega arith) is)
+handed-ports sc hands h zero is = over-more hands h _ (zero-frame h.frame (windows_in sc.sizes + 1) (omega arith) is)
   where
     zero-frame : (a n : ℕ) → 1 ≤ n → 0 ≡ a * n → a ≡ 0
     zero-frame zero n some e = refl
@@ -205,5 +205,5 @@ handed-ports sc hands h (suc e) is =
     let frame : h.frame ≡ (moment sc hands e).frame + 1 = sym place.0 ∙ next.frame in
     ports-turned sc more e (subst (λ (m : Moment). windows_in sc.sizes ≤ m.window) (sym same) last)
     ∙ ap (λ (m : Moment). hand_over (m.frame + 1) more m.ports) same
-    ∙ over-more ((moment sc hands e).frame + 1) hands h (moment sc hands e).ports frame
+    ∙ over-more hands h (moment sc hands e).ports frame
     ∙ ap (with_state h.biu h.state) (sym (ports-turned sc hands e last))

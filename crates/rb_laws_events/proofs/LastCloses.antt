@@ -14,7 +14,7 @@ pub record ShowsRounds (sc : Scenario) (m : Moment) (me : Side) (i : ℕ) (st : 
   pub act : ActsClose sc me i st m.window (word_at sc m me i st) k (pass_to k s.core) x
 
 -- a node that listens shows what the rounds tell, once all has come
-pub shows-heard : (sc : Scenario) (hands : List HandIn) (sent : Side → ℕ → ℕ → Bool) (now : ℕ) (ports : List PortState) (me : Side) (i p : ℕ) (s : Site) (st : NodeState) (a : Timed)
+pub shows-heard : {sc : Scenario} {hands : List HandIn} {sent : Side → ℕ → ℕ → Bool} {now : ℕ} (ports : List PortState) {me : Side} {i p : ℕ} {s : Site} {st : NodeState} {a : Timed}
     → HasRoom sc.plan → st.frame ≡ (moment sc hands p).frame
     → ((j : ℕ) → is_good_at sc (moment sc hands p) (other me) j ≡ true → (sent (other me) j p ≡ true) ⊎ (entry_of sc (moment sc hands p) me i j ≡ []))
     → HasWord sc ports me i st (moment sc hands p).window (word_at sc (moment sc hands p) me i st)
@@ -22,7 +22,7 @@ pub shows-heard : (sc : Scenario) (hands : List HandIn) (sent : Side → ℕ →
     → ShowsRounds sc (moment sc hands p) me i st s a.tick (pass_and_tick sc ports me i a.tick s.core)
     × ((pass_and_tick sc ports me i a.tick s.core).core.state ≡ (go_through sc (moment sc hands p) (sent_in sc (moment sc hands p)) me i st (window_in sc (moment sc hands p) me st)).state)
 unfolding pass_and_tick
-shows-heard sc hands sent now ports me i p s st a room frame all_sent words later last h =
+shows-heard {sc} {hands} {sent} {now} ports {me} {i} {p} {s} {st} {a} room frame all_sent words later last h =
     let m : Moment = moment sc hands p in
     let n : ℕ = m.window in
     let word : ℕ = word_at sc m me i st in
@@ -39,7 +39,7 @@ shows-heard sc hands sent now ports me i p s st a room frame all_sent words late
     let stands : IsInWindow sc.sizes sc.plan me i st n word c.had c.state = subst (λ k. IsInWindow sc.sizes sc.plan me i st n word k s.core.state) (sym had) h.stands in
     let x : Act = pass_and_tick sc ports me i a.tick s.core in
     let acts : ActsClose sc me i st n word a.tick c x =
-    subst (λ k. ActsClose sc me i st n word k c x) had (acts-close sc ports me i st n word c room stands (omega arith) words (had ∙ last)) in
+    subst (λ k. ActsClose sc me i st n word k c x) had (acts-close ports c room stands (omega arith) words (had ∙ last)) in
     let at_last : a.time ≡ t = r.at_time ∙ ap (time_of clock) last in
     let after : Every (λ c. t < c.time) s.coming = subst (λ u. Every (λ c. u < c.time) s.coming) at_last later in
     let from : st.epoch + first_of sc.sizes sc.plan me st n ≤ a.tick = h.stands.at.from in
@@ -49,11 +49,11 @@ shows-heard sc hands sent now ports me i p s st a room frame all_sent words late
       some_tick = le-leb w.first w.last some;
       stamped = r.inbox;
       all = λ j. subst (AllOf (coming_from s.got j)) (heard-all sc m me i j st (λ j. sent (other me) j p) frame (all_sent j))
-          (all-here j t s.got s.coming (heard j) (ahead j) after (r.hears j));
+          (all-here after (r.hears j));
     } in
     let outcome : Outcome = closing_of sc m me i st w s.core.inbox in
     let result : Result = record { state = outcome.state; row = Some (row_of me i outcome.state (coming_from s.got) outcome.closed) } in
-    let is : go_through sc m (sent_in sc m) me i st w ≡ result = result-is sc m (sent_in sc m) me i st w s.core.inbox s.got holds in (
+    let is : go_through sc m (sent_in sc m) me i st w ≡ result = result-is holds in (
       record {
         shown = outcome.closed;
         closed = acts.closed;
@@ -96,13 +96,13 @@ deaf-through sc m me i st good tick slot deaf =
     ∙ ap (λ r. Some r) (deaf-window sc.sizes sc.plan me i kept w (λ j. map (arrival_of (clock_of sc me i)) (heard j)) heard slot deaf)
 
 -- a node that does not listen shows what the rounds tell, whatever has come
-pub shows-deaf : (sc : Scenario) (m : Moment) (ports : List PortState) (me : Side) (i : ℕ) (s : Site) (st : NodeState) (k : ℕ)
+pub shows-deaf : {sc : Scenario} (m : Moment) (ports : List PortState) {me : Side} {i : ℕ} (s : Site) {st : NodeState} {k : ℕ}
     → HasRoom sc.plan → is_good_at sc m me i ≡ true → IsInWindow sc.sizes sc.plan me i st m.window (word_at sc m me i st) k s.core.state → s.core.had ≤ k → k < 2 ^ 31
     → HasWord sc ports me i st m.window (word_at sc m me i st) → k ≡ last_tick sc m me st
     → (window_in sc m me st).slot ≡ sync_slot_of sc.sizes → listens me Sync (window_in sc m me st).stage ≡ false
     → ShowsRounds sc m me i st s k (pass_and_tick sc ports me i k s.core)
 unfolding pass_and_tick
-shows-deaf sc m ports me i s st k room good stood le small words last slot deaf =
+shows-deaf {sc} m ports {me} {i} s {st} {k} room good stood le small words last slot deaf =
     let n : ℕ = m.window in
     let word : ℕ = word_at sc m me i st in
     let w : Window = window_in sc m me st in
@@ -111,7 +111,7 @@ shows-deaf sc m ports me i s st k room good stood le small words last slot deaf 
     let stands : IsInWindow sc.sizes sc.plan me i st n word c.had c.state = subst (λ k. IsInWindow sc.sizes sc.plan me i st n word k s.core.state) (sym had) stood in
     let x : Act = pass_and_tick sc ports me i k s.core in
     let acts : ActsClose sc me i st n word k c x =
-    subst (λ k. ActsClose sc me i st n word k c x) had (acts-close sc ports me i st n word c room stands (omega arith) words (had ∙ last)) in
+    subst (λ k. ActsClose sc me i st n word k c x) had (acts-close ports c room stands (omega arith) words (had ∙ last)) in
     let from : st.epoch + first_of sc.sizes sc.plan me st n ≤ k = stood.at.from in
     let some : first_of sc.sizes sc.plan me st n ≤ last_of sc.sizes sc.plan me st n = omega arith in
     let outcome : Outcome = closing_of sc m me i st w s.core.inbox in

@@ -25,10 +25,10 @@ pub record Beyond (sc : Scenario) (hands : List HandIn) (p : ℕ) (me : Side) (i
 abbrev pub HasToldLast : Scenario → List HandIn → Side → ℕ → ℕ → Site → Type 0
 HasToldLast sc hands me i p s = HasTold sc hands (Beyond sc) me i p s
 
-unfoldable pub told-arrives : (sc : Scenario) (hands : List HandIn) (me : Side) (i p n : ℕ) (c : Coming) (s : Site) (st : NodeState) → Moves (clock_of sc me i) → Beyond sc hands p me i st s.core s.ahead
+unfoldable pub told-arrives : {sc : _} (hands : List HandIn) (me : Side) (i p n : ℕ) (c : Coming) (s : Site) (st : NodeState) → Moves (clock_of sc me i) → Beyond sc hands p me i st s.core s.ahead
     → ((a : Timed) → s.ahead ≡ Some a → c.time ≤ a.time) → Beyond sc hands p me i st (after_arrival sc me i n c s).core (after_arrival sc me i n c s).ahead
 unfolding after_arrival
-told-arrives sc hands me i p n c s st moves h before =
+told-arrives {sc} hands me i p n c s st moves h before =
     let stamp : ℕ = stamp_of (clock_of sc me i) c.time in
     let passed : Core = pass_to stamp s.core in
     let same = arrive-same sc.sizes me passed c.from c.bytes in
@@ -47,6 +47,6 @@ told-arrives sc hands me i p n c s st moves h before =
             small = was.small;
             at_time = was.at_time;
             after = subst (λ y. IsAfter sc.sizes sc.plan me st.frame st.epoch h.x y (arrive sc.sizes me passed c.from c.bytes).had a.tick) (sym same.0)
-                (after-later sc.sizes sc.plan me st.frame st.epoch h.x s.core.state s.core.had (arrive sc.sizes me passed c.from c.bytes).had a.tick (omega (arith, same.1, least)) was.after);
+                (after-later (arrive sc.sizes me passed c.from c.bytes).had (omega (arith, same.1, least)) was.after);
           };
     }

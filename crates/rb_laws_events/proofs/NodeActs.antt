@@ -24,19 +24,19 @@ pub record IsInWindow (sizes : Sizes) (plan : Plan) (me : Side) (i : ℕ) (st : 
 -- Messages.
 
 -- at a tick of the window the core says the window's message, by the word that it is given
-pub said-form : (sizes : Sizes) (plan : Plan) (me : Side) (i : ℕ) (st y : NodeState) (n given k : ℕ) → HasRoom plan → n ≤ stages_in sizes
+pub said-form : {sizes plan me i st y n : _} (given : ℕ) {k : ℕ} → HasRoom plan → n ≤ stages_in sizes
     → KeepsTime sizes plan me st → IsTickIn sizes plan me st n k → Like sizes plan me i st y
     → said_at sizes plan me i y given k
     ≡ at_its_tick (is_tick (send_tick_of sizes plan y (window_numbered sizes plan me st n).slot (window_numbered sizes plan me st n).stage) k)
     (message_said sizes me i y (window_numbered sizes plan me st n).slot (window_numbered sizes plan me st n).stage given)
-said-form sizes plan me i st y n given k room le keeps at like =
-    said-is sizes plan me i y n given k room.ticks room.inside (like-keeps sizes plan me i st y like keeps) le (like-tick sizes plan me i st y n k like at)
+said-form {sizes} {plan} {me} {i} {st} {y} {n} given {k} room le keeps at like =
+    said-is i given room.ticks room.inside (like-keeps like keeps) le (like-tick like at)
     ∙ ap (λ (w : Window). if_at k (sending sizes plan me i y w.slot w.stage given)) (like.windows n)
     ∙ said-at-tick sizes plan me i y (window_numbered sizes plan me st n).slot (window_numbered sizes plan me st n).stage given k
 
-like-words : (sizes : Sizes) (plan : Plan) (me : Side) (i : ℕ) (st y : NodeState) (slot stage a b : ℕ) → Like sizes plan me i st y
+like-words : {sizes plan me i st y slot stage a b : _} → Like sizes plan me i st y
     → SameWords sizes me i st slot stage a b → SameWords sizes me i y slot stage a b
-like-words sizes plan me i st y slot stage a b like same =
+like-words {sizes} {me} {i} {y} {slot} {stage} {a} {b} like same =
     from-says sizes me i y slot stage a b (like.says slot stage a ∙ same.says ∙ sym (like.says slot stage b))
 
 -- what is said at the tick, and the state kept with it
@@ -44,13 +44,13 @@ pub record Says (sizes : Sizes) (plan : Plan) (me : Side) (i : ℕ) (st : NodeSt
   pub message : said_at sizes plan me i y given k ≡ if_at k (sending_at sizes plan me i st n word)
   pub kept : state_kept sizes me i y given (said_at sizes plan me i y given k) ≡ state_in sizes plan me i st n word (k + 1)
 
-pub says-so : (sc : Scenario) (ports : List PortState) (me : Side) (i : ℕ) (st : NodeState) (n word k : ℕ) → HasRoom sc.plan → n ≤ stages_in sc.sizes
+pub says-so : (sc : Scenario) (ports : List PortState) {me i st n word k : _} → HasRoom sc.plan → n ≤ stages_in sc.sizes
     → KeepsTime sc.sizes sc.plan me st → IsTickIn sc.sizes sc.plan me st n k
     → SameWords sc.sizes me i st (window_numbered sc.sizes sc.plan me st n).slot (window_numbered sc.sizes sc.plan me st n).stage
     (word_for sc ports i (window_numbered sc.sizes sc.plan me st n).slot (role_of sc.sizes (window_numbered sc.sizes sc.plan me st n).slot)) word
     → Says sc.sizes sc.plan me i st n word k (state_in sc.sizes sc.plan me i st n word k)
     (word_wanted sc ports i (said_at sc.sizes sc.plan me i (state_in sc.sizes sc.plan me i st n word k) 0 k))
-says-so sc ports me i st n word k room le keeps at same =
+says-so sc ports {me} {i} {st} {n} {word} {k} room le keeps at same =
     let sizes : Sizes = sc.sizes in
     let plan : Plan = sc.plan in
     let y : NodeState = state_in sizes plan me i st n word k in
@@ -59,14 +59,14 @@ says-so sc ports me i st n word k room le keeps at same =
     let stage : ℕ = (window_numbered sizes plan me st n).stage in
     let t : Bool = is_tick (send_tick_of sizes plan y slot stage) k in
     let form : (g : ℕ) → said_at sizes plan me i y g k ≡ at_its_tick t (message_said sizes me i y slot stage g) =
-    λ g. said-form sizes plan me i st y n g k room le keeps at like in
+    λ g. said-form g room le keeps at like in
     let given : ℕ = word_wanted sc ports i (said_at sizes plan me i y 0 k) in
     let given_is : given ≡ word_wanted sc ports i (at_its_tick t (message_said sizes me i y slot stage 0)) = ap (word_wanted sc ports i) (form 0) in
     let right : ℕ = word_for sc ports i slot (role_of sizes slot) in
     let fit : WordFits sizes me i y slot stage given right t =
     subst (λ g. WordFits sizes me i y slot stage g right t) (sym given_is) (wanted-fits sc ports me i y slot stage t) in
-    let same_y : SameWords sizes me i y slot stage right word = like-words sizes plan me i st y slot stage right word like same in
-    let fit_word : WordFits sizes me i y slot stage right word t = words-fit sizes me i y slot stage right word t same_y in
+    let same_y : SameWords sizes me i y slot stage right word = like-words like same in
+    let fit_word : WordFits sizes me i y slot stage right word t = words-fit t same_y in
     let so : Option Sending = sending_at sizes plan me i st n word in
     let said_word : at_its_tick t (message_said sizes me i y slot stage word) ≡ if_at k so =
     sym (said-at-tick sizes plan me i y slot stage word k) ∙ ap (if_at k) (like.sends slot stage word) in
@@ -74,18 +74,18 @@ says-so sc ports me i st n word k room le keeps at same =
     record {
       message = message;
       kept = ap (state_kept sizes me i y given) (form given) ∙ fit.kept ∙ fit_word.kept ∙ ap (state_kept sizes me i y word) said_word
-          ∙ after-say sizes me i st (kept_in sizes plan me i st n word) slot stage word k so
-          (λ s e. sent-place sizes plan me i st slot stage word s e) refl;
+          ∙ after-say sizes me i st slot stage word k so
+          (λ s e. sent-place sizes plan me i st slot stage word e) refl;
     }
 
 -- Acts.
 
 -- a tick acts by the state that the core has with it
-tick-by : (sizes : Sizes) (plan : Plan) (me : Side) (i : ℕ) (c : Core) (y : NodeState) (given : ℕ) → c.had < 2 ^ 31 → state_at sizes plan me c.state c.had ≡ y
+tick-by : (sizes : Sizes) (plan : Plan) (me : Side) (i : ℕ) (c : Core) {y : _} (given : ℕ) → c.had < 2 ^ 31 → state_at sizes plan me c.state c.had ≡ y
     → tick sizes plan me i c given
     ≡ act_on sizes plan me i c y (said_at sizes plan me i y given c.had) (state_kept sizes me i y given (said_at sizes plan me i y given c.had))
 unfolding tick act_at
-tick-by sizes plan me i c y given below now =
+tick-by sizes plan me i c given below now =
     ap (λ b. elim b as (λ _. Act) [ true ↦ record { core = c; epoch = None; message = None; closed = None } | false ↦ act_at sizes plan me i c given ]) (not-spent c below)
     ∙ ap (λ st. act_on sizes plan me i c st (said_at sizes plan me i st given c.had) (state_kept sizes me i st given (said_at sizes plan me i st given c.had))) now
 
@@ -117,11 +117,11 @@ act-open sizes plan me i c y m kept h =
       | false ↦ open_act kept c.had c (epoch_at sizes me y c.had) m
     ]) h
 
-act-close : (sizes : Sizes) (plan : Plan) (me : Side) (i : ℕ) (c : Core) (y : NodeState) (m : Option Message) (kept : NodeState) (w : Window)
+act-close : (sizes : Sizes) (plan : Plan) (me : Side) (i : ℕ) (c : Core) (y : NodeState) (m : Option Message) (kept : NodeState) {w : _}
     → is_last sizes plan me y c.had ≡ true → window_here sizes plan me y c.had ≡ w
     → act_on sizes plan me i c y m kept ≡ close_act_of (close_window sizes plan me i kept w (of_source c.inbox)) c.had (epoch_at sizes me y c.had) m
 unfolding act_on
-act-close sizes plan me i c y m kept w h here =
+act-close sizes plan me i c y m kept {w} h here =
     ap (λ b. elim b as (λ _. Act) [
       | true ↦ close_act_of (close_window sizes plan me i kept (window_here sizes plan me y c.had) (of_source c.inbox)) c.had (epoch_at sizes me y c.had) m
       | false ↦ open_act kept c.had c (epoch_at sizes me y c.had) m
@@ -129,19 +129,19 @@ act-close sizes plan me i c y m kept w h here =
     ∙ ap (λ w. close_act_of (close_window sizes plan me i kept w (of_source c.inbox)) c.had (epoch_at sizes me y c.had) m) here
 
 -- the word that the world gives a core is the one that is wanted for what it would say
-given-is : (sc : Scenario) (ports : List PortState) (me : Side) (i : ℕ) (c : Core) (y : NodeState) → c.had < 2 ^ 31
+given-is : (sc : Scenario) (ports : List PortState) (me : Side) (i : ℕ) (c : Core) {y : _} → c.had < 2 ^ 31
     → state_at sc.sizes sc.plan me c.state c.had ≡ y
     → word_of sc ports i (wants_in sc me i c) ≡ word_wanted sc ports i (said_at sc.sizes sc.plan me i y 0 c.had)
 unfolding wants
-given-is sc ports me i c y below now =
-    ap (λ (x : Act). word_wanted sc ports i x.message) (tick-by sc.sizes sc.plan me i c y 0 below now)
+given-is sc ports me i c {y} below now =
+    ap (λ (x : Act). word_wanted sc ports i x.message) (tick-by sc.sizes sc.plan me i c 0 below now)
     ∙ ap (word_wanted sc ports i) (act-message sc.sizes sc.plan me i c y (said_at sc.sizes sc.plan me i y 0 c.had) (state_kept sc.sizes me i y 0 (said_at sc.sizes sc.plan me i y 0 c.had)))
 
 -- at the last tick of its window a node has said all that it has to say there
-pub all-said : (sizes : Sizes) (plan : Plan) (me : Side) (i : ℕ) (st : NodeState) (n word k : ℕ) → HasRoom plan → KeepsTime sizes plan me st
+pub all-said : {sizes plan me : _} (i : ℕ) {st : _} (n word k : ℕ) → HasRoom plan → KeepsTime sizes plan me st
     → n ≤ stages_in sizes → (window_numbered sizes plan me st n).slot ≤ sync_slot_of sizes → st.epoch + last_of sizes plan me st n ≤ k
     → state_in sizes plan me i st n word (k + 1) ≡ kept_in sizes plan me i st n word
-all-said sizes plan me i st n word k room keeps le slot last = by (sending_at sizes plan me i st n word) refl
+all-said {sizes} {plan} {me} i {st} n word k room keeps le slot last = by (sending_at sizes plan me i st n word) refl
   where
     lt-is : (a b : ℕ) → a < b → nat_lt a b ≡ true
     lt-is a b h = grind (arith, nat_tests)
@@ -151,7 +151,7 @@ all-said sizes plan me i st n word k room keeps le slot last = by (sending_at si
         ap (λ o. by_said (gone o (k + 1)) st (kept_in sizes plan me i st n word)) e
         ∙ sym (keeps-none sizes plan me i st (window_numbered sizes plan me st n).slot (window_numbered sizes plan me st n).stage word slot e)
     by (Some s) e =
-        let at : IsTickIn sizes plan me st n s.tick = sent-in sizes plan me i st n word s room.inside keeps le e in
+        let at : IsTickIn sizes plan me st n s.tick = sent-in i n word room.inside keeps le e in
         let to : s.tick ≤ st.epoch + last_of sizes plan me st n = at.to in
         ap (λ o. by_said (gone o (k + 1)) st (kept_in sizes plan me i st n word)) e
         ∙ ap (λ b. by_said b st (kept_in sizes plan me i st n word)) (lt-is s.tick (k + 1) (omega arith))
@@ -180,35 +180,35 @@ HasWord sc ports me i st n word =
     SameWords sc.sizes me i st (window_numbered sc.sizes sc.plan me st n).slot (window_numbered sc.sizes sc.plan me st n).stage
     (word_for sc ports i (window_numbered sc.sizes sc.plan me st n).slot (role_of sc.sizes (window_numbered sc.sizes sc.plan me st n).slot)) word
 
-says-given : (sc : Scenario) (ports : List PortState) (me : Side) (i : ℕ) (st : NodeState) (n word : ℕ) (c : Core) → HasRoom sc.plan
+says-given : (sc : Scenario) (ports : List PortState) {me i st n word : _} (c : Core) → HasRoom sc.plan
     → IsInWindow sc.sizes sc.plan me i st n word c.had c.state → c.had < 2 ^ 31 → HasWord sc ports me i st n word
     → Says sc.sizes sc.plan me i st n word c.had (state_in sc.sizes sc.plan me i st n word c.had) (word_of sc ports i (wants_in sc me i c))
-says-given sc ports me i st n word c room stands below words =
+says-given sc ports {me} {i} {st} {n} {word} c room stands below words =
     subst (Says sc.sizes sc.plan me i st n word c.had (state_in sc.sizes sc.plan me i st n word c.had))
-    (sym (given-is sc ports me i c (state_in sc.sizes sc.plan me i st n word c.had) below stands.now))
-    (says-so sc ports me i st n word c.had room stands.window stands.keeps stands.at words)
+    (sym (given-is sc ports me i c below stands.now))
+    (says-so sc ports room stands.window stands.keeps stands.at words)
 
 -- a tick that is not the window's last leaves the window open
-pub acts-open : (sc : Scenario) (ports : List PortState) (me : Side) (i : ℕ) (st : NodeState) (n word : ℕ) (c : Core) → HasRoom sc.plan
+pub acts-open : {sc : Scenario} (ports : List PortState) {me : Side} {i : ℕ} {st : NodeState} {n word : ℕ} (c : Core) → HasRoom sc.plan
     → IsInWindow sc.sizes sc.plan me i st n word c.had c.state → c.had < 2 ^ 31 → HasWord sc ports me i st n word
     → c.had < st.epoch + last_of sc.sizes sc.plan me st n
     → ActsOpen sc me i st n word c.had c (tick sc.sizes sc.plan me i c (word_of sc ports i (wants_in sc me i c)))
-acts-open sc ports me i st n word c room stands below words before =
+acts-open {sc} ports {me} {i} {st} {n} {word} c room stands below words before =
     let sizes : Sizes = sc.sizes in
     let plan : Plan = sc.plan in
     let y : NodeState = state_in sizes plan me i st n word c.had in
     let given : ℕ = word_of sc ports i (wants_in sc me i c) in
     let like : Like sizes plan me i st y = like-in sizes plan me i st n word c.had in
-    let says : Says sizes plan me i st n word c.had y given = says-given sc ports me i st n word c room stands below words in
+    let says : Says sizes plan me i st n word c.had y given = says-given sc ports c room stands below words in
     let m : Option Message = said_at sizes plan me i y given c.had in
     let kept : NodeState = state_kept sizes me i y given m in
     let epoch : y.epoch ≡ st.epoch = like.epoch in
     let same_last : last_of sizes plan me y n ≡ last_of sizes plan me st n = ap (λ (w : Window). w.last) (like.windows n) in
     let not_last : is_last sizes plan me y c.had ≡ false =
-    last-is sizes plan me y n c.had room.ticks stands.window (like-tick sizes plan me i st y n c.had like stands.at)
+    last-is me y room.ticks stands.window (like-tick like stands.at)
     ∙ less-differs c.had (y.epoch + last_of sizes plan me y n) (omega arith) in
     let is : tick sizes plan me i c given ≡ open_act kept c.had c (epoch_at sizes me y c.had) m =
-    tick-by sizes plan me i c y given below stands.now ∙ act-open sizes plan me i c y m kept not_last in
+    tick-by sizes plan me i c given below stands.now ∙ act-open sizes plan me i c y m kept not_last in
     record {
       message = ap (λ (x : Act). x.message) is ∙ says.message;
       state = ap (λ (x : Act). x.core.state) is ∙ says.kept;
@@ -219,30 +219,30 @@ acts-open sc ports me i st n word c room stands below words before =
     }
 
 -- at the window's last tick the node closes the window
-pub acts-close : (sc : Scenario) (ports : List PortState) (me : Side) (i : ℕ) (st : NodeState) (n word : ℕ) (c : Core) → HasRoom sc.plan
+pub acts-close : {sc : Scenario} (ports : List PortState) {me : Side} {i : ℕ} {st : NodeState} {n word : ℕ} (c : Core) → HasRoom sc.plan
     → IsInWindow sc.sizes sc.plan me i st n word c.had c.state → c.had < 2 ^ 31 → HasWord sc ports me i st n word
     → c.had ≡ st.epoch + last_of sc.sizes sc.plan me st n
     → ActsClose sc me i st n word c.had c (tick sc.sizes sc.plan me i c (word_of sc ports i (wants_in sc me i c)))
-acts-close sc ports me i st n word c room stands below words last =
+acts-close {sc} ports {me} {i} {st} {n} {word} c room stands below words last =
     let sizes : Sizes = sc.sizes in
     let plan : Plan = sc.plan in
     let y : NodeState = state_in sizes plan me i st n word c.had in
     let given : ℕ = word_of sc ports i (wants_in sc me i c) in
     let like : Like sizes plan me i st y = like-in sizes plan me i st n word c.had in
-    let says : Says sizes plan me i st n word c.had y given = says-given sc ports me i st n word c room stands below words in
+    let says : Says sizes plan me i st n word c.had y given = says-given sc ports c room stands below words in
     let m : Option Message = said_at sizes plan me i y given c.had in
     let kept : NodeState = state_kept sizes me i y given m in
     let w : Window = window_numbered sizes plan me st n in
     let epoch : y.epoch ≡ st.epoch = like.epoch in
     let same_last : last_of sizes plan me y n ≡ last_of sizes plan me st n = ap (λ (w : Window). w.last) (like.windows n) in
-    let at : IsTickIn sizes plan me y n c.had = like-tick sizes plan me i st y n c.had like stands.at in
+    let at : IsTickIn sizes plan me y n c.had = like-tick like stands.at in
     let is_last : is_last sizes plan me y c.had ≡ true =
-    last-is sizes plan me y n c.had room.ticks stands.window at ∙ same-is c.had (y.epoch + last_of sizes plan me y n) (omega arith) in
-    let here : window_here sizes plan me y c.had ≡ w = here-is sizes plan me y n c.had room.ticks stands.window at ∙ like.windows n in
+    last-is me y room.ticks stands.window at ∙ same-is c.had (y.epoch + last_of sizes plan me y n) (omega arith) in
+    let here : window_here sizes plan me y c.had ≡ w = here-is me y room.ticks stands.window at ∙ like.windows n in
     let spoken : kept ≡ kept_in sizes plan me i st n word =
-    says.kept ∙ all-said sizes plan me i st n word c.had room stands.keeps stands.window stands.slot (omega arith) in
+    says.kept ∙ all-said i n word c.had room stands.keeps stands.window stands.slot (omega arith) in
     let is : tick sizes plan me i c given ≡ close_act_of (close_window sizes plan me i (kept_in sizes plan me i st n word) w (of_source c.inbox)) c.had (epoch_at sizes me y c.had) m =
-    tick-by sizes plan me i c y given below stands.now ∙ act-close sizes plan me i c y m kept w is_last here
+    tick-by sizes plan me i c given below stands.now ∙ act-close sizes plan me i c y m kept is_last here
     ∙ ap (λ st. close_act_of (close_window sizes plan me i st w (of_source c.inbox)) c.had (epoch_at sizes me y c.had) m) spoken in
     record {
       message = ap (λ (x : Act). x.message) is ∙ says.message;

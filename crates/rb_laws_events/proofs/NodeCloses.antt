@@ -26,9 +26,9 @@ is-later j t c e lt =
     ap (λ b. b && nat_lt t c.time) e ∙ after
 
 -- all that pends for later from source `j` has what the list of it has
-pub later-has : (P : Coming → Type 0) (j t : ℕ) (coming next : List Coming) → Every (λ c. t < c.time) coming → filter (is_later j t) coming ≡ next → Every P next
+pub later-has : (P : Coming → Type 0) (j t : ℕ) (coming : List Coming) {next : _} → Every (λ c. t < c.time) coming → filter (is_later j t) coming ≡ next → Every P next
     → Every (λ c. (t < c.time) × ((c.from == j) ≡ true → P c)) coming
-later-has P j t coming next after is all =
+later-has P j t coming after is all =
     join coming after (from-filter P (is_later j t) coming (subst (Every P) (sym is) all))
   where
     join : (cs : List Coming) → Every (λ c. t < c.time) cs → Every (λ c. is_later j t c ≡ true → P c) cs → Every (λ c. (t < c.time) × ((c.from == j) ≡ true → P c)) cs
@@ -58,10 +58,10 @@ same-later j u t (c ∷ cs) e =
     ] in
     ap (λ b. cond b (c ∷ filter (is_later j u) cs) (filter (is_later j u) cs)) (go (c.from == j) refl) ∙ ap (λ l. cond (is_later j t c) (c ∷ l) l) (same-later j u t cs e.1)
 
-pub opens-tail : (j t u : ℕ) (got coming sent next : List Coming) → Every (λ c. t < c.time) coming → Every (λ c. u < c.time) next
+pub opens-tail : {j t : ℕ} (u : ℕ) {got coming sent next : List Coming} → Every (λ c. t < c.time) coming → Every (λ c. u < c.time) next
     → Hears j t got coming sent next → Hears j u [] coming [] next
-opens-tail j t u got coming sent next after late h =
-    let both : Every (λ c. (t < c.time) × ((c.from == j) ≡ true → u < c.time)) coming = later-has (λ c. u < c.time) j t coming next after h.later late in
+opens-tail {j} {t} u {coming} after late h =
+    let both : Every (λ c. (t < c.time) × ((c.from == j) ≡ true → u < c.time)) coming = later-has (λ c. u < c.time) j t coming after h.later late in
     let none : filter (is_now j u) coming ≡ [] = none-by j u t coming both in
     record {
       came = tt;
@@ -70,10 +70,10 @@ opens-tail j t u got coming sent next after late h =
       later = same-later j u t coming both ∙ h.later;
     }
 
-pub opens-stage : (j t u : ℕ) (got coming sent next : List Coming) → Every (λ c. t < c.time) coming → Every (λ c. c.time ≤ u) next
+pub opens-stage : {j t : ℕ} (u : ℕ) {got coming sent next : List Coming} → Every (λ c. t < c.time) coming → Every (λ c. c.time ≤ u) next
     → Hears j t got coming sent next → Hears j u [] coming next []
-opens-stage j t u got coming sent next after in_time h =
-    opens j t u got coming sent next (later-has (λ c. c.time ≤ u) j t coming next after h.later in_time) h
+opens-stage {j} {t} u {coming} after in_time h =
+    opens u (later-has (λ c. c.time ≤ u) j t coming after h.later in_time) h
 
 -- The site after the last tick of a window.
 
@@ -86,12 +86,12 @@ site_closed sc ports me i x c s = record s {
   begun = begun_after sc ports me i x.epoch s.begun;
 }
 
-pub after-close : (sc : Scenario) (ports : List PortState) (me : Side) (i : ℕ) (x : Act) (c : ClosedStage) (span : Span) (good : Bool) (s : Site) → x.closed ≡ Some c
+pub after-close : (sc : Scenario) (ports : List PortState) (me : Side) (i : ℕ) (x : Act) {c span good : _} (s : Site) → x.closed ≡ Some c
     → span_from sc.sizes sc.plan me x.core.state x.core.had ≡ Some span → is_good sc me i span.place.frame span.place.slot ≡ good
     → after_act sc ports me i x s
     ≡ (elim good as (λ _. Site) [ true ↦ await sc me i (says_in sc me i span) (site_closed sc ports me i x c s) | false ↦ stop (site_closed sc ports me i x c s) ])
 unfolding after_act proceed
-after-close sc ports me i x c span good s closed begins is =
+after-close sc ports me i x {c} {span} s closed begins is =
     let s1 : Site = record s { core = x.core } in
     let s2 : Site = with_close me i x.core.state (Some c) s1 in
     let s3 : Site = site_closed sc ports me i x c s in
@@ -101,10 +101,10 @@ after-close sc ports me i x c span good s closed begins is =
     ∙ ap (λ b. elim b as (λ _. Site) [ true ↦ await sc me i (says_in sc me i span) s3 | false ↦ stop s3 ]) is
 
 -- the span that begins at the first tick of a window is that of the window
-pub span-begins : (sizes : Sizes) (plan : Plan) (me : Side) (c st : NodeState) (n k : ℕ) → state_at sizes plan me c k ≡ st
+pub span-begins : (sizes : Sizes) (plan : Plan) (me : Side) (c : NodeState) {st : _} (n : ℕ) {k : ℕ} → state_at sizes plan me c k ≡ st
     → window_here sizes plan me st k ≡ window_numbered sizes plan me st n → k ≡ st.epoch + first_of sizes plan me st n
     → span_from sizes plan me c k ≡ Some (span_of st (window_numbered sizes plan me st n))
-span-begins sizes plan me c st n k turned here first =
+span-begins sizes plan me c {st} n {k} turned here first =
     let w : Window = window_numbered sizes plan me st n in
     ap (λ z. elim ((span_of z (window_here sizes plan me z k)).first == k) as (λ _. Option Span) [ true ↦ Some (span_of z (window_here sizes plan me z k)) | false ↦ None ]) turned
     ∙ ap (λ w. elim ((span_of st w).first == k) as (λ _. Option Span) [ true ↦ Some (span_of st w) | false ↦ None ]) here
@@ -159,8 +159,8 @@ heard-all sc m me i j st sent frame all = by (is_good_at sc m (other me) j) refl
         ]) (good-span sc m me (other me) j st frame ∙ e))
 
 -- if all that is pending comes after time `t`, all that was sent has come
-pub all-here : (j t : ℕ) (got coming sent next : List Coming) → Every (λ c. t < c.time) coming → Hears j t got coming sent next → AllOf (coming_from got j) sent
-all-here j t got coming sent next after h = all-came j t got coming sent next (none-now j t coming after) h
+pub all-here : {j t : ℕ} {got coming sent next : List Coming} → Every (λ c. t < c.time) coming → Hears j t got coming sent next → AllOf (coming_from got j) sent
+all-here {j} {t} {coming} after h = all-came (none-now j t coming after) h
 
 -- when a stage opens, what was sent for it is what was sent ahead and what is said in it
 pub stage-lists : (sc : Scenario) (m : Moment) (me : Side) (i j : ℕ) (st : NodeState) (sent : ℕ → Bool) → st.frame ≡ m.frame

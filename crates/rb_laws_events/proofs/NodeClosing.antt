@@ -99,39 +99,39 @@ good-in-sync sc hands me i p below from good =
     ∙ ap (λ w. is_good sc me i m.frame (slot_numbered sc.sizes w)) next.window
     ∙ ap (is_good sc me i m.frame) (sym (same-slot sc.sizes m.window from)) ∙ good
 
-next-place : (sc : Scenario) (hands : List HandIn) (me : Side) (i p : ℕ) (st : NodeState) → HasRoom sc.plan → KeepsTime sc.sizes sc.plan me st
+next-place : {sc : Scenario} {hands : List HandIn} {me : Side} {i p : ℕ} {st : NodeState} → HasRoom sc.plan → KeepsTime sc.sizes sc.plan me st
     → Closed sc hands me i p st
     → ((moment sc hands p).window ≡ stages_in sc.sizes → new_epoch_of sc.plan me (state_after sc (moment sc hands p) me i st) ≡ new_epoch_of sc.plan me st)
     → NextPlace sc hands me i p (st.epoch + last_of sc.sizes sc.plan me st (moment sc hands p).window + 1) (state_after sc (moment sc hands p) me i st)
-next-place sc hands me i p st room keeps h same =
+next-place {sc} {hands} {me} {i} {p} {st} room keeps h same =
     let m : Moment = moment sc hands p in
     let le : m.window ≤ stages_in sc.sizes = h.window in
     elim (cases_lt (m.window + 1) (stages_in sc.sizes)) [
       | inl lt ↦ elim (cases_lt m.window (3 * sync_slot_of sc.sizes)) [
-        | inl exact ↦ inner sc hands me i p st room.ticks h lt (inr (omega arith))
-        | inr sync ↦ inner sc hands me i p st room.ticks h lt (inl (good-in-sync sc hands me i p (omega arith) sync h.good))
+        | inl exact ↦ inner room.ticks h lt (inr (omega arith))
+        | inr sync ↦ inner room.ticks h lt (inl (good-in-sync sc hands me i p (omega arith) sync h.good))
       ]
       | inr ge ↦ elim (cases_lt m.window (stages_in sc.sizes)) [
-        | inl below ↦ last-stage sc hands me i p st room.ticks h (omega arith) (good-in-sync sc hands me i p below (omega arith) h.good)
+        | inl below ↦ last-stage room.ticks h (omega arith) (good-in-sync sc hands me i p below (omega arith) h.good)
         | inr over ↦
             let is : m.window ≡ stages_in sc.sizes = omega arith in
-            let known = some-from (new_epoch_of sc.plan me st) (epoch-known sc.sizes sc.plan me st m.window (omega arith) h.knows) in
+            let known = some-from (new_epoch_of sc.plan me st) (epoch-known sc.plan me (omega arith) h.knows) in
             let x : ℕ = known.0 in
             let low = keeps.next x known.1 in
             let some : 1 ≤ sc.plan.l = room.ticks.l in
             let last : last_of sc.sizes sc.plan me st m.window ≡ x - st.epoch - 1 =
             ap (last_of sc.sizes sc.plan me st) is ∙ tail-last sc.sizes sc.plan me st ∙ ap (λ o. unwrap_or o 0 - st.epoch - 1) known.1 in
-            after-tail sc hands me i p x st room.ticks h is (same is ∙ known.1) (omega (arith, low, some, last))
+            after-tail room.ticks h is (same is ∙ known.1) (omega (arith, low, some, last))
       ]
     ]
 
 -- The last tick.
 
-in-time-there : (sc : Scenario) (hands : List HandIn) (p q : ℕ)
+in-time-there : {sc hands p : _} (q : ℕ)
     → ((q ≡ next_stage sc.sizes (moment sc hands p) p) ⊎ ((q ≡ suc p) × ((moment sc hands q).window ≡ stages_in sc.sizes)))
     → (moment sc hands p).window ≤ stages_in sc.sizes → NextInTime sc hands p → InTime sc (moment sc hands q) (moment sc hands (next_stage sc.sizes (moment sc hands q) q))
-in-time-there sc hands p q (inl stage) within times = times.stage q stage
-in-time-there sc hands p q (inr tail) within times =
+in-time-there q (inl stage) within times = times.stage q stage
+in-time-there {sc} {hands} {p} q (inr tail) within times =
     let m : Moment = moment sc hands p in
     let later : IsWindowLater sc m (moment sc hands (suc p)) = window-later sc hands m (omega arith) in
     let at : (moment sc hands (suc p)).window ≡ stages_in sc.sizes = ap (λ q. (moment sc hands q).window) (sym tail.0) ∙ tail.1 in
@@ -162,7 +162,7 @@ next-of-tail sizes m tail p e f =
     lt-not a b h = grind (arith, nat_tests)
 
 -- what is sent to the node for the windows to come
-opened-lists : (sc : Scenario) (hands : List HandIn) (sent : Side → ℕ → ℕ → Bool) (me : Side) (i p q : ℕ) (st : NodeState) (t : ℕ) (got coming : List Coming) (heard : ℕ → List Coming)
+opened-lists : {sc : Scenario} {hands : List HandIn} {sent : Side → ℕ → ℕ → Bool} {me : Side} {i p : ℕ} (q : ℕ) {st : NodeState} (t : ℕ) (got : List Coming) {coming : List Coming} (heard : ℕ → List Coming)
     → st.frame ≡ (moment sc hands q).frame
     → ((q ≡ next_stage sc.sizes (moment sc hands p) p)
     ⊎ ((q ≡ suc p) × ((moment sc hands q).window ≡ stages_in sc.sizes)))
@@ -173,7 +173,7 @@ opened-lists : (sc : Scenario) (hands : List HandIn) (sent : Side → ℕ → �
     → (j : ℕ) → Hears j (time_of (clock_of sc me i) (last_tick sc (moment sc hands q) me st)) [] (coming ++ says_in sc me i (span_of st (window_in sc (moment sc hands q) me st)))
     (heard_so_far sc (moment sc hands q) me i (span_of st (window_in sc (moment sc hands q) me st)) (λ j. sent (other me) j q) j)
     (ahead_so_far sc (moment sc hands (next_stage sc.sizes (moment sc hands q) q)) me i (λ j. sent (other me) j (next_stage sc.sizes (moment sc hands q) q)) j)
-opened-lists sc hands sent me i p q st t got coming heard frame (inl stage) within times others there good after hears j =
+opened-lists {sc} {hands} {sent} {me} {i} q {st} t got {coming} heard frame (inl stage) within times others there good after hears j =
     let m2 : Moment = moment sc hands q in
     let span : Span = span_of st (window_in sc m2 me st) in
     let u : ℕ = time_of (clock_of sc me i) (last_tick sc m2 me st) in
@@ -182,17 +182,17 @@ opened-lists sc hands sent me i p q st t got coming heard frame (inl stage) with
     let in_time : Every (λ c. c.time ≤ u) (ahead_so_far sc m2 me i (λ j. sent (other me) j q) j) =
     ahead-every (λ c. c.time ≤ u) sc m2 me i j (λ j. sent (other me) j q)
     (λ g. every-to (ComesInWindow sc m2 me i st) (λ c. c.time ≤ u) (λ c h. h.1) (entry_of sc m2 me i j) ((times.stage q stage).heard me i j st there good g)) in
-    let opened : Hears j u [] coming (ahead_so_far sc m2 me i (λ j. sent (other me) j q) j) [] = opens-stage j t u got coming (heard j) _ after in_time was in
+    let opened : Hears j u [] coming (ahead_so_far sc m2 me i (λ j. sent (other me) j q) j) [] = opens-stage u after in_time was in
     let lists = stage-lists sc m2 me i j st (λ j. sent (other me) j q) frame in
     let says_times : Every (λ c. c.time ≤ u) (says_in sc me i span) =
     every-to (ComesIn (clock_of sc me i) span) (λ c. c.time ≤ u) (λ c h. h.1) (says_in sc me i span) (says-come-in sc me i span) in
     let more : Hears j u [] (coming ++ says_in sc me i span) (ahead_so_far sc m2 me i (λ j. sent (other me) j q) j ++ said_if sc me i span j) [] =
-    say-more j u coming (says_in sc me i span) (said_if sc me i span j) (ahead_so_far sc m2 me i (λ j. sent (other me) j q) j) []
+    say-more (says_in sc me i span)
     (says-now sc me i span j) says_times lists.1 opened in
     subst (λ l. Hears j u [] (coming ++ says_in sc me i span) (heard_so_far sc m2 me i span (λ j. sent (other me) j q) j) l)
     (sym (ahead-none sc (moment sc hands (next_stage sc.sizes m2 q)) me i j (λ j. sent (other me) j (next_stage sc.sizes m2 q)) (others.none_ahead q stage j)))
     (subst (λ l. Hears j u [] (coming ++ says_in sc me i span) l []) lists.0 more)
-opened-lists sc hands sent me i p q st t got coming heard frame (inr tail) within times others there good after hears j =
+opened-lists {sc} {hands} {sent} {me} {i} {p} q {st} t got {coming} heard frame (inr tail) within times others there good after hears j =
     let m : Moment = moment sc hands p in
     let m2 : Moment = moment sc hands q in
     let span : Span = span_of st (window_in sc m2 me st) in
@@ -213,23 +213,23 @@ opened-lists sc hands sent me i p q st t got coming heard frame (inr tail) withi
     (λ st there good source. times.later before me i j st there good source) in
     let late : Every (λ c. u < c.time) (ahead_so_far sc (moment sc hands z) me i (λ j. sent (other me) j z) j) =
     ahead-every (λ c. u < c.time) sc (moment sc hands z) me i j (λ j. sent (other me) j z) (λ g. its st there good g) in
-    let opened : Hears j u [] coming [] (ahead_so_far sc (moment sc hands z) me i (λ j. sent (other me) j z) j) = opens-tail j t u got coming (heard j) _ after late was in
+    let opened : Hears j u [] coming [] (ahead_so_far sc (moment sc hands z) me i (λ j. sent (other me) j z) j) = opens-tail u after late was in
     let lists = stage-lists sc m2 me i j st (λ j. sent (other me) j q) frame in
     let none : ahead_so_far sc m2 me i (λ j. sent (other me) j q) j ≡ [] = ahead-tail sc m2 me i j (λ j. sent (other me) j q) tail.1 in
     let all : [] ++ said_if sc me i span j ≡ heard_so_far sc m2 me i span (λ j. sent (other me) j q) j = ap (λ l. l ++ said_if sc me i span j) (sym none) ∙ lists.0 in
     let says_times : Every (λ c. c.time ≤ u) (says_in sc me i span) =
     every-to (ComesIn (clock_of sc me i) span) (λ c. c.time ≤ u) (λ c h. h.1) (says_in sc me i span) (says-come-in sc me i span) in
     subst (λ l. Hears j u [] (coming ++ says_in sc me i span) l (ahead_so_far sc (moment sc hands z) me i (λ j. sent (other me) j z) j)) all
-    (say-more j u coming (says_in sc me i span) (said_if sc me i span j) [] (ahead_so_far sc (moment sc hands z) me i (λ j. sent (other me) j z) j)
+    (say-more (says_in sc me i span)
     (says-now sc me i span j) says_times (inr refl) opened)
 
-pub closes-window : (sc : Scenario) (hands : List HandIn) (sent : Side → ℕ → ℕ → Bool) (now : ℕ) (ports : List PortState) (me : Side) (i p : ℕ) (s : Site) (st : NodeState) (a : Timed)
+pub closes-window : {sc : Scenario} {hands : List HandIn} {sent : Side → ℕ → ℕ → Bool} {now : ℕ} {ports : List PortState} {me : Side} {i p : ℕ} {s : Site} {st : NodeState} {a : Timed}
     → HasRoom sc.plan → Stands sc (moment sc hands p) me st → NextInTime sc hands p → OthersKeepUp sc hands sent me i p
     → HasWord sc ports me i st (moment sc hands p).window (word_at sc (moment sc hands p) me i st)
     → Every (λ c. a.time < c.time) s.coming → a.tick ≡ last_tick sc (moment sc hands p) me st → NodeStands sc hands sent now me i p s st a
     → ClosesWindow sc hands sent ports me i p s st a (pass_and_tick sc ports me i a.tick s.core)
 unfolding pass_and_tick
-closes-window sc hands sent now ports me i p s st a room known times others words later last h =
+closes-window {sc} {hands} {sent} {now} {ports} {me} {i} {p} {s} {st} {a} room known times others words later last h =
     let m : Moment = moment sc hands p in
     let n : ℕ = m.window in
     let word : ℕ = word_at sc m me i st in
@@ -246,7 +246,7 @@ closes-window sc hands sent now ports me i p s st a room known times others word
     let stands : IsInWindow sc.sizes sc.plan me i st n word c.had c.state = subst (λ k. IsInWindow sc.sizes sc.plan me i st n word k s.core.state) (sym had) h.stands in
     let x : Act = pass_and_tick sc ports me i a.tick s.core in
     let acts : ActsClose sc me i st n word a.tick c x =
-    subst (λ k. ActsClose sc me i st n word k c x) had (acts-close sc ports me i st n word c room stands (omega arith) words (had ∙ last)) in
+    subst (λ k. ActsClose sc me i st n word k c x) had (acts-close ports c room stands (omega arith) words (had ∙ last)) in
     let at_time : a.time ≡ time_of clock a.tick = r.at_time in
     let at_last : a.time ≡ t = at_time ∙ ap (time_of clock) last in
     let after : Every (λ c. t < c.time) s.coming = subst (λ u. Every (λ c. u < c.time) s.coming) at_last later in
@@ -257,11 +257,11 @@ closes-window sc hands sent now ports me i p s st a room known times others word
       some_tick = le-leb w.first w.last some;
       stamped = r.inbox;
       all = λ j. subst (AllOf (coming_from s.got j)) (heard-all sc m me i j st (λ j. sent (other me) j p) known.frame (others.all_sent j))
-          (all-here j t s.got s.coming (heard j) (ahead j) after (r.hears j));
+          (all-here after (r.hears j));
     } in
     let outcome : Outcome = closing_of sc m me i st w s.core.inbox in
     let result : Result = record { state = outcome.state; row = Some (row_of me i outcome.state (coming_from s.got) outcome.closed) } in
-    let is : go_through sc m (sent_in sc m) me i st w ≡ result = result-is sc m (sent_in sc m) me i st w s.core.inbox s.got holds in
+    let is : go_through sc m (sent_in sc m) me i st w ≡ result = result-is holds in
     let end : NodeState = state_after sc m me i st in
     let xstate : x.core.state ≡ end = ap (λ (c : Core). c.state) acts.core ∙ sym (ap (λ (r : Result). r.state) is) in
     let xhad : x.core.had ≡ a.tick + 1 = ap (λ (c : Core). c.had) acts.core in
@@ -272,7 +272,7 @@ closes-window sc hands sent now ports me i p s st a room known times others word
       frame = known.frame;
       knows = known.knows;
       some = some;
-      keeps = λ lt good. (times.tail lt).keeps me i end (get-later sc hands p me i st (omega arith) h.state) good;
+      keeps = λ lt good. (times.tail lt).keeps me i end (get-later sc hands p me i (omega arith) h.state) good;
     } in
     let tail_same : n ≡ stages_in sc.sizes → new_epoch_of sc.plan me end ≡ new_epoch_of sc.plan me st =
     λ e.
@@ -281,7 +281,7 @@ closes-window sc hands sent now ports me i p s st a room known times others word
     ap (λ (r : Result). new_epoch_of sc.plan me r.state) is
     ∙ tail-close sc.sizes sc.plan me i (spoken sc m me i st w) w (of_source s.core.inbox) (ap (λ (w : Window). w.slot) tail) (ap (λ (w : Window). w.stage) tail)
     ∙ like.next in
-    let np : NextPlace sc hands me i p (last_tick sc m me st + 1) end = next-place sc hands me i p st room h.stands.keeps closed tail_same in
+    let np : NextPlace sc hands me i p (last_tick sc m me st + 1) end = next-place room h.stands.keeps closed tail_same in
     let q : ℕ = np.q in
     let m2 : Moment = moment sc hands q in
     let w2 : Window = window_in sc m2 me np.st in
@@ -292,12 +292,12 @@ closes-window sc hands sent now ports me i p s st a room known times others word
     ap (λ k. state_at sc.sizes sc.plan me x.core.state k) (xhad ∙ sym k_is) ∙ ap (λ z. state_at sc.sizes sc.plan me z (last_tick sc m me st + 1)) xstate ∙ np.turned in
     let some2 : first_of sc.sizes sc.plan me np.st m2.window ≤ last_of sc.sizes sc.plan me np.st m2.window = np.some in
     let here : window_here sc.sizes sc.plan me np.st x.core.had ≡ w2 =
-    here-is sc.sizes sc.plan me np.st m2.window x.core.had room.ticks np.window (record { from = omega arith; to = omega arith }) in
-    let begins = span-begins sc.sizes sc.plan me x.core.state np.st m2.window x.core.had turned here (xhad ∙ first) in
+    here-is me np.st room.ticks np.window (record { from = omega arith; to = omega arith }) in
+    let begins = span-begins sc.sizes sc.plan me x.core.state m2.window turned here (xhad ∙ first) in
     let s2 : Site = site_closed sc ports me i x outcome.closed s in
     let site : (b : Bool) → is_good_at sc m2 me i ≡ b
     → after_act sc ports me i x s ≡ (elim b as (λ _. Site) [ true ↦ await sc me i (says_in sc me i span) s2 | false ↦ stop s2 ]) =
-    λ b e. after-close sc ports me i x outcome.closed span b s acts.closed begins (good-span sc m2 me me i np.st np.frame ∙ e) in
+    λ b e. after-close sc ports me i x s acts.closed begins (good-span sc m2 me me i np.st np.frame ∙ e) in
     let row_stage : outcome.closed.place.stage ≡ w.stage = closed-stage sc.sizes sc.plan me i (spoken sc m me i st w) w (of_source s.core.inbox) in
     let its_row : Option Row = (go_through sc m (sent_in sc m) me i st w).row in
     let told : Some (row_of me i x.core.state (coming_from s.got) outcome.closed) ≡ its_row =
@@ -307,8 +307,8 @@ closes-window sc hands sent now ports me i p s st a room known times others word
     ∙ ap (λ o. elim (w.stage == 4) as (λ _. Option Row) [ true ↦ s.row | false ↦ o ]) told in
     let up : time_of clock a.tick ≤ time_of clock (a.tick + 1) = times_rise_to clock a.tick (a.tick + 1) (omega arith) in
     let goes_on : is_good_at sc m2 me i ≡ true → Entered sc hands sent a.time me i q np.st s2 = λ good.
-    let it : InTime sc m2 (moment sc hands (next_stage sc.sizes m2 q)) = in-time-there sc hands p q np.place h.stands.window times in
-    enters sc hands sent a.time me i q (a.tick + 1) np.st s2 room (it.keeps me i np.st np.state good) (it.room me i np.st np.state good)
+    let it : InTime sc m2 (moment sc hands (next_stage sc.sizes m2 q)) = in-time-there q np.place h.stands.window times in
+    enters room (it.keeps me i np.st np.state good) (it.room me i np.st np.state good)
     (record {
       state = np.state;
       good = good;
@@ -327,7 +327,7 @@ closes-window sc hands sent now ports me i p s st a room known times others word
       soon = omega (arith, at_time, up);
       before = λ j e. let same : j ≡ a.tick = omega arith in subst (λ j. time_of clock j ≡ a.time) (sym same) (sym at_time);
       at_first = λ e. absurd (omega arith);
-      hears = opened-lists sc hands sent me i p q np.st t s.got s.coming heard np.frame np.place h.stands.window times others np.state good after r.hears;
+      hears = opened-lists q t s.got heard np.frame np.place h.stands.window times others np.state good after r.hears;
     }) in
     let by : (b : Bool) → is_good_at sc m2 me i ≡ b → ClosesWindow sc hands sent ports me i p s st a x =
     λ b. elim b as (λ b. is_good_at sc m2 me i ≡ b → ClosesWindow sc hands sent ports me i p s st a x) [

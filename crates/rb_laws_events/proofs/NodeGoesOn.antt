@@ -31,10 +31,10 @@ tail-close sizes plan me i st w arrivals slot stage =
 
 -- Nothing is sent in a tail.
 
-unsent-of : (sc : Scenario) (m : Moment) (side : Side) (j : ℕ) (o : Option NodeState) → slice_get (of_kind side m.nodes) j ≡ o → m.window ≡ stages_in sc.sizes
+unsent-of : (sc : Scenario) (m : Moment) (side : Side) (j : ℕ) {o : _} → slice_get (of_kind side m.nodes) j ≡ o → m.window ≡ stages_in sc.sizes
     → sending_of sc m side j ≡ None
 unfolding sent_in
-unsent-of sc m side j o e w =
+unsent-of sc m side j {o} e w =
     let make : Side → ℕ → NodeState → Option Sending = λ me i st. sending_in sc m me i st (window_in sc m me st) in
     let at : slice_get (of_kind side (map_each make m.nodes)) j ≡ option_map (make side j) o = get-each make m.nodes side j ∙ ap (option_map (make side j)) e in
     by o (of_kind side (map_each make m.nodes)) at
@@ -61,14 +61,14 @@ unsent-of sc m side j o e w =
 
 pub none-in-tail : (sc : Scenario) (m : Moment) (me : Side) (i j : ℕ) → m.window ≡ stages_in sc.sizes → entry_of sc m me i j ≡ []
 none-in-tail sc m me i j w =
-    ap (λ o. option_to_list (option_map (coming_of sc me i j m.frame) o)) (unsent-of sc m (other me) j (slice_get (of_kind (other me) m.nodes) j) refl w)
+    ap (λ o. option_to_list (option_map (coming_of sc me i j m.frame) o)) (unsent-of sc m (other me) j refl w)
 
 -- The node in the new window.
 
 -- no message of the window has gone out before its first tick
-pub none-gone : (sizes : Sizes) (plan : Plan) (me : Side) (i : ℕ) (st : NodeState) (n word k : ℕ) → HasRoom plan → KeepsTime sizes plan me st
+pub none-gone : {sizes plan me : _} (i : ℕ) {st : _} (n word : ℕ) {k : ℕ} → HasRoom plan → KeepsTime sizes plan me st
     → n ≤ stages_in sizes → k ≡ st.epoch + first_of sizes plan me st n → gone (sending_at sizes plan me i st n word) k ≡ false
-none-gone sizes plan me i st n word k room keeps le first = by (sending_at sizes plan me i st n word) refl
+none-gone {sizes} {plan} {me} i {st} n word {k} room keeps le first = by (sending_at sizes plan me i st n word) refl
   where
     lt-not : (a b : ℕ) → b ≤ a → nat_lt a b ≡ false
     lt-not a b h = grind (arith, nat_tests)
@@ -76,7 +76,7 @@ none-gone sizes plan me i st n word k room keeps le first = by (sending_at sizes
     by : (o : Option Sending) → sending_at sizes plan me i st n word ≡ o → gone o k ≡ false
     by None e = refl
     by (Some s) e =
-        let at : IsTickIn sizes plan me st n s.tick = sent-in sizes plan me i st n word s room.inside keeps le e in
+        let at : IsTickIn sizes plan me st n s.tick = sent-in i n word room.inside keeps le e in
         let from : st.epoch + first_of sizes plan me st n ≤ s.tick = at.from in
         lt-not s.tick k (omega arith)
 
@@ -111,9 +111,9 @@ pub record Entered (sc : Scenario) (hands : List HandIn) (sent : Side → ℕ �
   pub stands : NodeStands sc hands sent t me i q (await sc me i (says_in sc me i (span_of st (window_in sc (moment sc hands q) me st))) s) st a
   pub silent : gone (sending_at sc.sizes sc.plan me i st (moment sc hands q).window (word_at sc (moment sc hands q) me i st)) a.tick ≡ false
 
-pub enters : (sc : Scenario) (hands : List HandIn) (sent : Side → ℕ → ℕ → Bool) (t : ℕ) (me : Side) (i q k : ℕ) (st : NodeState) (s : Site) → HasRoom sc.plan → KeepsTime sc.sizes sc.plan me st
+pub enters : {sc : Scenario} {hands : List HandIn} {sent : Side → ℕ → ℕ → Bool} {t : ℕ} {me : Side} {i q k : ℕ} {st : NodeState} {s : Site} → HasRoom sc.plan → KeepsTime sc.sizes sc.plan me st
     → last_tick sc (moment sc hands q) me st < 2 ^ 31 → Enters sc hands sent t me i q k st s → Entered sc hands sent t me i q st s
-enters sc hands sent t me i q k st s room keeps below e =
+enters {sc} {hands} {sent} {t} {me} {i} {q} {k} {st} {s} room keeps below e =
     let m : Moment = moment sc hands q in
     let n : ℕ = m.window in
     let word : ℕ = word_at sc m me i st in
@@ -121,7 +121,7 @@ enters sc hands sent t me i q k st s room keeps below e =
     let clock : Timeline = clock_of sc me i in
     let says : List Coming = says_in sc me i span in
     let had : s.core.had ≡ k = e.had in
-    let none : gone (sending_at sc.sizes sc.plan me i st n word) k ≡ false = none-gone sc.sizes sc.plan me i st n word k room keeps e.window e.first in
+    let none : gone (sending_at sc.sizes sc.plan me i st n word) k ≡ false = none-gone i n word room keeps e.window e.first in
     let first : k ≡ st.epoch + first_of sc.sizes sc.plan me st n = e.first in
     let some : first_of sc.sizes sc.plan me st n ≤ last_of sc.sizes sc.plan me st n = e.some in
     let at : IsTickIn sc.sizes sc.plan me st n k = record { from = omega arith; to = omega arith } in
@@ -135,9 +135,9 @@ enters sc hands sent t me i q k st s room keeps below e =
       now = e.turned ∙ sym (ap (λ b. by_said b st (kept_in sc.sizes sc.plan me i st n word)) none);
     } in
     let in_s : IsInWindow sc.sizes sc.plan me i st n word s.core.had s.core.state = subst (λ k. IsInWindow sc.sizes sc.plan me i st n word k s.core.state) (sym had) stands in
-    let next = next-found sc.sizes sc.plan me i st n word s.core room in_s below in
+    let next = next-found s.core room in_s below in
     let b : ℕ = next.0 in
-    let lands : NextIn sc.sizes sc.plan me i st n word s.core.had b s.core.state = next-in sc.sizes sc.plan me i st n word s.core.had b s.core.state room in_s next.1.1 in
+    let lands : NextIn sc.sizes sc.plan me i st n word s.core.had b s.core.state = next-in room in_s next.1.1 in
     let a : Timed = record { tick = b; time = time_of clock b } in
     let is : await sc me i says s ≡ record s { ahead = Some a; coming = s.coming ++ says } =
     ap (λ o. record s { ahead = option_map (λ k. let y : Timed = record { tick = k; time = time_of clock k } in y) o; coming = s.coming ++ says }) next.1.0 in

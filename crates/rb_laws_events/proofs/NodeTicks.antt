@@ -1,7 +1,7 @@
 -- For the law that events are rounds: what a core does at a tick of a window, whether it has
 -- already said what it has to say in it or not.
 use Rattle.std.proofs.{Common.{◌≡◌, ℕ, ◌+◌, ◌*◌, ◌-◌, ◌<◌, ◌≤◌, ◌==◌, ◌&&◌, nat_lt, Bool, true, false, refl, ap, sym, ◌∙◌, subst, arith, inl, inr, Option, Some, None, is_some, option_and_then, option_map, unwrap_or, if◌then◌else◌}, lemmas.Bool.{cases_lt, eqb-true, le-ltb, lt-ltb, ltb-false, ltb-true}, lemmas.Bool.Decides.nat_tests}
-use Rattle.rb_base.specs.{Nodes.Side, Nodes.Side.{Biu, Rmu}, Sizes.{Sizes, sync_slot_of}}
+use Rattle.rb_base.specs.{Nodes.Side, Nodes.Side.{Biu, Rmu}, Sizes.Sizes}
 use Rattle.rb_base.proofs.Plain.{less-differs, more-differs}
 use Rattle.rb_rules.specs.{declared.message.Message.Message, declared.plan.Plan.Plan, declared.plan.Window.Window, Core.{if_at, is_tick, state_at, state_kept}, ExactStage.{keep_sent, says}, Hearing.{Sending, sending, window_numbered, tail_at}, NodeState.NodeState, NodeSteps.{message_said, turn_if_known}, Plan.tail_start_of, SyncStage.{new_epoch_of, send_tick_of}}
 use Rattle.rb_rules.proofs.{RoundStates.HasTicks, WindowNumbers.sync-numbered}
@@ -64,14 +64,14 @@ like-kept sizes plan me i st slot stage word = by ((stage == 1) && is_some (says
 abbrev pub by_said : Bool → NodeState → NodeState → NodeState
 by_said b st kept = elim b [ true ↦ kept | false ↦ st ]
 
-pub like-by : (sizes : Sizes) (plan : Plan) (me : Side) (i : ℕ) (st kept : NodeState) (b : Bool) → Like sizes plan me i st kept
+pub like-by : {sizes plan me i st kept : _} (b : Bool) → Like sizes plan me i st kept
     → Like sizes plan me i st (by_said b st kept)
-like-by sizes plan me i st kept true h = h
-like-by sizes plan me i st kept false h = like-itself sizes plan me i st
+like-by true h = h
+like-by {sizes} {plan} {me} {i} {st} false h = like-itself sizes plan me i st
 
-pub like-tick : (sizes : Sizes) (plan : Plan) (me : Side) (i : ℕ) (st y : NodeState) (n k : ℕ) → Like sizes plan me i st y
+pub like-tick : {sizes plan me i st y n k : _} → Like sizes plan me i st y
     → IsTickIn sizes plan me st n k → IsTickIn sizes plan me y n k
-like-tick sizes plan me i st y n k h at =
+like-tick {sizes} {plan} {me} {st} {y} {n} {k} h at =
     let first : first_of sizes plan me y n ≡ first_of sizes plan me st n = ap (λ (w : Window). w.first) (h.windows n) in
     let last : last_of sizes plan me y n ≡ last_of sizes plan me st n = ap (λ (w : Window). w.last) (h.windows n) in
     let epoch : y.epoch ≡ st.epoch = h.epoch in
@@ -79,11 +79,11 @@ like-tick sizes plan me i st y n k h at =
     let to : k ≤ st.epoch + last_of sizes plan me st n = at.to in
     record { from = omega arith; to = omega arith }
 
-pub like-keeps : (sizes : Sizes) (plan : Plan) (me : Side) (i : ℕ) (st y : NodeState) → Like sizes plan me i st y → KeepsTime sizes plan me st
+pub like-keeps : {sizes plan me i st y : _} → Like sizes plan me i st y → KeepsTime sizes plan me st
     → KeepsTime sizes plan me y
-like-keeps sizes plan me i st y h keeps = record {
-  second = λ x e. like-tick sizes plan me i st y (3 * sync_slot_of sizes + 1) (x + plan.l) h (keeps.second x (sym h.k1 ∙ e));
-  third = λ x e. like-tick sizes plan me i st y (3 * sync_slot_of sizes + 2) (x + plan.v) h (keeps.third x (sym h.k2 ∙ e));
+like-keeps {sizes} {plan} {st} {y} h keeps = record {
+  second = λ x e. like-tick h (keeps.second x (sym h.k1 ∙ e));
+  third = λ x e. like-tick h (keeps.third x (sym h.k2 ∙ e));
   next = λ x e. let epoch : y.epoch ≡ st.epoch = h.epoch in let low : st.epoch + tail_start_of sizes plan ≤ x = keeps.next x (sym h.next ∙ e) in omega arith;
 }
 
@@ -95,9 +95,9 @@ tail-first sizes plan me st = ap (λ w. w.first) (sync-numbered sizes plan me st
 pub tail-last : (sizes : Sizes) (plan : Plan) (me : Side) (st : NodeState) → last_of sizes plan me st (stages_in sizes) ≡ (tail_at sizes plan me st).last
 tail-last sizes plan me st = ap (λ w. w.last) (sync-numbered sizes plan me st 3)
 
-pub past-tail : (sizes : Sizes) (plan : Plan) (me : Side) (st : NodeState) (k x : ℕ) → HasTicks plan → st.epoch + tail_start_of sizes plan ≤ x
+pub past-tail : {sizes : Sizes} {plan : Plan} {me : Side} {st : NodeState} {k x : ℕ} → HasTicks plan → st.epoch + tail_start_of sizes plan ≤ x
     → IsTickIn sizes plan me st (stages_in sizes) k → new_epoch_of plan me st ≡ Some x → k < x
-past-tail sizes plan me st k x ticks low at e =
+past-tail {sizes} {plan} {me} {st} {k} {x} ticks low at e =
     let first : first_of sizes plan me st (stages_in sizes) ≡ tail_start_of sizes plan = tail-first sizes plan me st in
     let last : last_of sizes plan me st (stages_in sizes) ≡ x - st.epoch - 1 =
     tail-last sizes plan me st ∙ ap (λ o. unwrap_or o 0 - st.epoch - 1) e in
@@ -107,32 +107,32 @@ past-tail sizes plan me st k x ticks low at e =
     omega arith
 
 -- a node's next epoch comes after each tick of its windows
-pub epoch-later : (sizes : Sizes) (plan : Plan) (me : Side) (st : NodeState) (n k x : ℕ) → HasTicks plan → KeepsTime sizes plan me st
+pub epoch-later : {sizes plan me st n k x : _} → HasTicks plan → KeepsTime sizes plan me st
     → n ≤ stages_in sizes → IsTickIn sizes plan me st n k → new_epoch_of plan me st ≡ Some x → k < x
-epoch-later sizes plan me st n k x ticks keeps le at e =
+epoch-later {sizes} {plan} {me} {st} {n} {k} {x} ticks keeps le at e =
     let low : st.epoch + tail_start_of sizes plan ≤ x = keeps.next x e in
     elim (cases_lt n (stages_in sizes)) [
       | inl lt ↦
           let before : last_of sizes plan me st n < first_of sizes plan me st (stages_in sizes) =
-          ends-before-later sizes plan me st n (stages_in sizes) ticks lt (omega arith) in
+          ends-before-later sizes me st n (stages_in sizes) ticks lt (omega arith) in
           let first : first_of sizes plan me st (stages_in sizes) ≡ tail_start_of sizes plan = tail-first sizes plan me st in
           let to : k ≤ st.epoch + last_of sizes plan me st n = at.to in
           omega arith
       | inr ge ↦
           let same : n ≡ stages_in sizes = omega arith in
-          past-tail sizes plan me st k x ticks low (subst (λ n. IsTickIn sizes plan me st n k) same at) e
+          past-tail ticks low (subst (λ n. IsTickIn sizes plan me st n k) same at) e
     ]
 
 no-tick : (k : ℕ) (o : Option ℕ) → ((x : ℕ) → o ≡ Some x → k < x) → is_tick o k ≡ false
 no-tick k None h = refl
 no-tick k (Some x) h = more-differs x k (h x refl)
 
-pub no-turn : (sizes : Sizes) (plan : Plan) (me : Side) (st : NodeState) (n k : ℕ) → HasTicks plan → KeepsTime sizes plan me st
+pub no-turn : {sizes plan me st : _} (n : ℕ) {k : ℕ} → HasTicks plan → KeepsTime sizes plan me st
     → n ≤ stages_in sizes → IsTickIn sizes plan me st n k → state_at sizes plan me st k ≡ st
 unfolding state_at
-no-turn sizes plan me st n k ticks keeps le at =
+no-turn {sizes} {plan} {me} {st} n {k} ticks keeps le at =
     ap (λ b. elim b as (λ _. NodeState) [ true ↦ turn_if_known sizes plan me st | false ↦ st ])
-    (no-tick k (new_epoch_of plan me st) (λ x e. epoch-later sizes plan me st n k x ticks keeps le at e))
+    (no-tick k (new_epoch_of plan me st) (λ x e. epoch-later ticks keeps le at e))
 
 -- What is known of a tick of window n: the state in which the core takes it, `word` being the word
 -- of the rounds.
@@ -153,16 +153,16 @@ state_in sizes plan me i st n word k = by_said (gone (sending_at sizes plan me i
 
 pub like-in : (sizes : Sizes) (plan : Plan) (me : Side) (i : ℕ) (st : NodeState) (n word k : ℕ) → Like sizes plan me i st (state_in sizes plan me i st n word k)
 like-in sizes plan me i st n word k =
-    like-by sizes plan me i st (kept_in sizes plan me i st n word) (gone (sending_at sizes plan me i st n word) k)
+    like-by (gone (sending_at sizes plan me i st n word) k)
     (like-kept sizes plan me i st (window_numbered sizes plan me st n).slot (window_numbered sizes plan me st n).stage word)
 
 -- What the core says.
 
 -- a sending is of the window's place
-pub sent-place : (sizes : Sizes) (plan : Plan) (me : Side) (i : ℕ) (st : NodeState) (slot stage word : ℕ) (s : Sending)
+pub sent-place : (sizes : Sizes) (plan : Plan) (me : Side) (i : ℕ) (st : NodeState) (slot stage word : ℕ) {s : _}
     → sending sizes plan me i st slot stage word ≡ Some s → HasPlace s.message slot stage
 unfolding sending
-sent-place sizes plan me i st slot stage word s e = by (message_said sizes me i st slot stage word) (send_tick_of sizes plan st slot stage) refl e
+sent-place sizes plan me i st slot stage word {s} e = by (message_said sizes me i st slot stage word) (send_tick_of sizes plan st slot stage) refl e
   where
     some-same : {X : Type 0} (a b : X) → Some a ≡ Some b → a ≡ b
     some-same a b e = cc
@@ -173,17 +173,17 @@ sent-place sizes plan me i st slot stage word s e = by (message_said sizes me i 
     by (Some m) None f e = cc
     by (Some m) (Some t) f e =
         let same : m ≡ s.message = ap (λ (x : Sending). x.message) (some-same (record { tick = t; message = m }) s e) in
-        subst (λ m. HasPlace m slot stage) same (message-place sizes me i st slot stage word m f)
+        subst (λ m. HasPlace m slot stage) same (message-place sizes me i st slot stage word f)
 
 other-of : (a b : ℕ) → (a == b) ≡ false → b ≤ a → b < a
 other-of a b h k = grind (arith, nat_tests)
 
 -- after the tick the state is that of the next tick
-pub after-say : (sizes : Sizes) (me : Side) (i : ℕ) (st kept : NodeState) (slot stage word k : ℕ) (o : Option Sending)
+pub after-say : (sizes : Sizes) (me : Side) (i : ℕ) (st : NodeState) {kept : _} (slot stage word k : ℕ) (o : Option Sending)
     → ((s : Sending) → o ≡ Some s → HasPlace s.message slot stage) → kept ≡ keep_sent sizes me i st slot stage word
     → state_kept sizes me i (by_said (gone o k) st kept) word (if_at k o) ≡ by_said (gone o (k + 1)) st kept
-after-say sizes me i st kept slot stage word k None place is = refl
-after-say sizes me i st kept slot stage word k (Some s) place is = by (nat_lt s.tick k) refl
+after-say sizes me i st slot stage word k None place is = refl
+after-say sizes me i st {kept} slot stage word k (Some s) place is = by (nat_lt s.tick k) refl
   where
     say : Bool → Option Message
     say b = elim b [ true ↦ Some s.message | false ↦ None ]
@@ -192,7 +192,7 @@ after-say sizes me i st kept slot stage word k (Some s) place is = by (nat_lt s.
         → state_kept sizes me i st word (elim b as (λ _. Option Message) [ true ↦ Some s.message | false ↦ None ]) ≡ by_said (nat_lt s.tick (k + 1)) st kept
     at true e h =
         let same : s.tick ≡ k = eqb-true s.tick k e in
-        kept-some sizes me i st slot stage word s.message (place s refl) ∙ sym is
+        kept-some sizes me i st word (place s refl) ∙ sym is
         ∙ sym (ap (λ b. by_said b st kept) (lt-ltb s.tick (k + 1) (omega arith)))
     at false e h =
         let more : k < s.tick = other-of s.tick k e (ltb-false s.tick k h) in
@@ -210,10 +210,10 @@ after-say sizes me i st kept slot stage word k (Some s) place is = by (nat_lt s.
         ∙ at (s.tick == k) refl e
 
 -- two words that come to the same fit
-pub words-fit : (sizes : Sizes) (me : Side) (i : ℕ) (st : NodeState) (slot stage a b : ℕ) (t : Bool) → SameWords sizes me i st slot stage a b
+pub words-fit : {sizes me i st slot stage a b : _} (t : Bool) → SameWords sizes me i st slot stage a b
     → WordFits sizes me i st slot stage a b t
-words-fit sizes me i st slot stage a b false same = record { message = refl; kept = refl }
-words-fit sizes me i st slot stage a b true same = record {
+words-fit false same = record { message = refl; kept = refl }
+words-fit {sizes} {me} {i} {st} {slot} {stage} {a} {b} true same = record {
   message = same.message;
   kept = by (message_said sizes me i st slot stage a) refl ∙ ap (state_kept sizes me i st b) same.message;
 }
@@ -222,6 +222,6 @@ words-fit sizes me i st slot stage a b true same = record {
         → state_kept sizes me i st a (message_said sizes me i st slot stage a) ≡ state_kept sizes me i st b (message_said sizes me i st slot stage a)
     by None e = ap (state_kept sizes me i st a) e ∙ sym (ap (state_kept sizes me i st b) e)
     by (Some m) e =
-        let p : HasPlace m slot stage = message-place sizes me i st slot stage a m e in
-        ap (state_kept sizes me i st a) e ∙ kept-some sizes me i st slot stage a m p ∙ same.kept ∙ sym (kept-some sizes me i st slot stage b m p)
+        let p : HasPlace m slot stage = message-place sizes me i st slot stage a e in
+        ap (state_kept sizes me i st a) e ∙ kept-some sizes me i st a p ∙ same.kept ∙ sym (kept-some sizes me i st b p)
         ∙ sym (ap (state_kept sizes me i st b) e)

@@ -159,13 +159,13 @@ value-place : (st : NodeState) (slot stage : ℕ) (v : Heard) → HasPlace (mess
 value-place st slot stage (heard.Word word) = record { slot_is = refl; stage_is = refl }
 value-place st slot stage heard.Fault = record { slot_is = refl; stage_is = refl }
 
-map-place : (st : NodeState) (slot stage : ℕ) (o : Option Heard) (m : Message) → option_map (message_of st slot stage) o ≡ Some m → HasPlace m slot stage
-map-place st slot stage None m e = cc
-map-place st slot stage (Some v) m e = subst (λ m. HasPlace m slot stage) (same_Some (message_of st slot stage v) m e) (value-place st slot stage v)
+map-place : (st : NodeState) (slot stage : ℕ) (o : Option Heard) {m : _} → option_map (message_of st slot stage) o ≡ Some m → HasPlace m slot stage
+map-place st slot stage None e = cc
+map-place st slot stage (Some v) {m} e = subst (λ m. HasPlace m slot stage) (same_Some (message_of st slot stage v) m e) (value-place st slot stage v)
 
-pub message-place : (sizes : Sizes) (me : Side) (i : ℕ) (st : NodeState) (slot stage word : ℕ) (m : Message)
+pub message-place : (sizes : Sizes) (me : Side) (i : ℕ) (st : NodeState) (slot stage word : ℕ) {m : _}
     → message_said sizes me i st slot stage word ≡ Some m → HasPlace m slot stage
-message-place sizes me i st slot stage word m = by (slot == sync_slot_of sizes) refl
+message-place sizes me i st slot stage word {m} = by (slot == sync_slot_of sizes) refl
   where
     call : (b : Bool) → slot ≡ sync_slot_of sizes → (if b then Some (call_of sizes st stage) else None) ≡ Some m → HasPlace m slot stage
     call true s e =
@@ -175,7 +175,7 @@ message-place sizes me i st slot stage word m = by (slot == sync_slot_of sizes) 
     by : (x : Bool) → (slot == sync_slot_of sizes) ≡ x
         → (if x then calls sizes me st stage else option_map (message_of st slot stage) (says sizes me i st slot stage word)) ≡ Some m → HasPlace m slot stage
     by true s e = call (listens (other me) Sync stage) (eqb-true slot (sync_slot_of sizes) s) e
-    by false s e = map-place st slot stage (says sizes me i st slot stage word) m e
+    by false s e = map-place st slot stage (says sizes me i st slot stage word) e
 
 -- What goes out at a tick, by whether it is the message's tick.
 
@@ -205,9 +205,9 @@ pub record WordFits (sizes : Sizes) (me : Side) (i : ℕ) (st : NodeState) (slot
   pub kept : state_kept sizes me i st given (at_its_tick b (message_said sizes me i st slot stage given))
       ≡ state_kept sizes me i st right (at_its_tick b (message_said sizes me i st slot stage right))
 
-same-fits : (sizes : Sizes) (me : Side) (i : ℕ) (st : NodeState) (slot stage given right : ℕ) → given ≡ right
+same-fits : (sizes : Sizes) (me : Side) (i : ℕ) (st : NodeState) (slot stage : ℕ) {given right : ℕ} → given ≡ right
     → WordFits sizes me i st slot stage given right true
-same-fits sizes me i st slot stage given right e = record {
+same-fits sizes me i st slot stage e = record {
   message = ap (message_said sizes me i st slot stage) e;
   kept = ap (λ word. state_kept sizes me i st word (message_said sizes me i st slot stage word)) e;
 }
@@ -221,31 +221,31 @@ none-fits sizes me i st slot stage given right e =
       kept = ap (state_kept sizes me i st given) e ∙ sym (ap (state_kept sizes me i st right) f);
     }
 
-pub kept-some : (sizes : Sizes) (me : Side) (i : ℕ) (st : NodeState) (slot stage word : ℕ) (m : Message) → HasPlace m slot stage
+pub kept-some : (sizes : Sizes) (me : Side) (i : ℕ) (st : NodeState) {slot stage : ℕ} (word : ℕ) {m : _} → HasPlace m slot stage
     → keep_sent sizes me i st m.slot m.stage word ≡ keep_sent sizes me i st slot stage word
-kept-some sizes me i st slot stage word m p =
+kept-some sizes me i st {slot} word {m} p =
     ap (λ s. keep_sent sizes me i st s m.stage word) p.slot_is ∙ ap (λ s. keep_sent sizes me i st slot s word) p.stage_is
 
-free-fits : (sizes : Sizes) (me : Side) (i : ℕ) (st : NodeState) (slot stage given right : ℕ) (m : Message)
+free-fits : {sizes me i st slot stage given right m : _}
     → message_said sizes me i st slot stage given ≡ Some m → SameWords sizes me i st slot stage given right
     → WordFits sizes me i st slot stage given right true
-free-fits sizes me i st slot stage given right m e same =
-    let p : HasPlace m slot stage = message-place sizes me i st slot stage given m e in
+free-fits {sizes} {me} {i} {st} {slot} {stage} {given} {right} {m} e same =
+    let p : HasPlace m slot stage = message-place sizes me i st slot stage given e in
     let f : message_said sizes me i st slot stage right ≡ Some m = sym same.message ∙ e in
     record {
       message = same.message;
-      kept = ap (state_kept sizes me i st given) e ∙ kept-some sizes me i st slot stage given m p ∙ same.kept
-          ∙ sym (kept-some sizes me i st slot stage right m p) ∙ sym (ap (state_kept sizes me i st right) f);
+      kept = ap (state_kept sizes me i st given) e ∙ kept-some sizes me i st given p ∙ same.kept
+          ∙ sym (kept-some sizes me i st right p) ∙ sym (ap (state_kept sizes me i st right) f);
     }
 
 -- the word that is wanted for a message, or 0 if none is
 abbrev pub word_wanted : Scenario → List PortState → ℕ → Option Message → ℕ
 word_wanted sc ports i m = word_of sc ports i (slot_wanted sc.sizes m)
 
-taken-word : (sc : Scenario) (ports : List PortState) (i slot stage : ℕ) (m : Message) → HasPlace m slot stage → (b : Bool)
+taken-word : (sc : Scenario) (ports : List PortState) (i : ℕ) {slot stage m : _} → HasPlace m slot stage → {b : _}
     → takes_word sc.sizes slot stage ≡ b
     → word_wanted sc ports i (Some m) ≡ (elim b as (λ _. ℕ) [ true ↦ word_for sc ports i slot (role_of sc.sizes slot) | false ↦ 0 ])
-taken-word sc ports i slot stage m p b e =
+taken-word sc ports i {slot} {m} p {b} e =
     let test : takes_word sc.sizes m.slot m.stage ≡ b =
     ap (λ s. takes_word sc.sizes s m.stage) p.slot_is ∙ ap (takes_word sc.sizes slot) p.stage_is ∙ e in
     ap (λ t. word_of sc ports i (elim t as (λ _. Option ℕ) [ true ↦ Some m.slot | false ↦ None ])) test
@@ -269,12 +269,12 @@ wanted-fits sc ports me i st slot stage true = by (message_said sc.sizes me i st
     some : (m : Message) → message_said sc.sizes me i st slot stage 0 ≡ Some m → (t : Bool) → takes_word sc.sizes slot stage ≡ t
         → WordFits sc.sizes me i st slot stage (word_wanted sc ports i (Some m)) (word_for sc ports i slot (role_of sc.sizes slot)) true
     some m e true h =
-        same-fits sc.sizes me i st slot stage (word_wanted sc ports i (Some m)) (word_for sc ports i slot (role_of sc.sizes slot))
-        (taken-word sc ports i slot stage m (message-place sc.sizes me i st slot stage 0 m e) true h)
+        same-fits sc.sizes me i st slot stage
+        (taken-word sc ports i (message-place sc.sizes me i st slot stage 0 e) h)
     some m e false h =
-        let zero_word : 0 ≡ word_wanted sc ports i (Some m) = sym (taken-word sc ports i slot stage m (message-place sc.sizes me i st slot stage 0 m e) false h) in
+        let zero_word : 0 ≡ word_wanted sc ports i (Some m) = sym (taken-word sc ports i (message-place sc.sizes me i st slot stage 0 e) h) in
         subst (λ w. WordFits sc.sizes me i st slot stage w (word_for sc ports i slot (role_of sc.sizes slot)) true) zero_word
-        (free-fits sc.sizes me i st slot stage 0 (word_for sc ports i slot (role_of sc.sizes slot)) m e
+        (free-fits e
         (word-free sc.sizes me i st slot stage 0 (word_for sc ports i slot (role_of sc.sizes slot)) h))
 
     by : (o : Option Message) → message_said sc.sizes me i st slot stage 0 ≡ o

@@ -21,9 +21,9 @@ kept-same f same sizes me i st slot stage word = by ((stage == 1) && is_some (sa
     by false = refl
 
 pub of-state : {X : Type 0} (f : NodeState → X) → ((st : NodeState) (o : Option Heard) → f (record st { sent = o }) ≡ f st)
-    → (sc : Scenario) (m : Moment) (me : Side) (i : ℕ) (st now : NodeState) → IsStateOf sc m me i st now → f now ≡ f st
-of-state f same sc m me i st now (inl is) = ap f is
-of-state f same sc m me i st now (inr kept) = ap f kept ∙ kept-same f same sc.sizes me i st _ _ _
+    → (sc : Scenario) (m : Moment) (me : Side) (i : ℕ) {st now : _} → IsStateOf sc m me i st now → f now ≡ f st
+of-state f same sc m me i (inl is) = ap f is
+of-state f same sc m me i {st} (inr kept) = ap f kept ∙ kept-same f same sc.sizes me i st _ _ _
 
 trusted-same : (kind me : Side) (st : NodeState) (o : Option Heard) → trusted_of kind me (record st { sent = o }) ≡ trusted_of kind me st
 trusted-same Biu Biu st o = refl
@@ -60,14 +60,14 @@ convicted_by_trusted sizes kind trusted = set_of (λ j. nat_lt j (count_of kind 
 convicts-others : (sizes : Sizes) (kind me : Side) (st : NodeState) → convicted_of sizes kind me st ≡ convicted_by_trusted sizes kind (trusted_of kind me st)
 convicts-others sizes kind me st = ap (convicted_by_trusted sizes kind) (trusted-either me kind st)
 
-convicts-in : {w : World} {me : Side} (sc : Scenario) (frame slot : ℕ) (node : RunningNode w me) (a : IsIn sc frame slot node) (kind : Side)
+convicts-in : {w : World} {me : Side} {sc : Scenario} {frame slot : ℕ} {node : RunningNode w me} (a : IsIn sc frame slot node) (kind : Side)
     → convicted_by sc kind node ≡ convicted_of sc.sizes kind me a.st
-convicts-in {w} {me} sc frame slot node a kind =
+convicts-in {w} {me} {sc} {node} a kind =
     convicts-others sc.sizes kind me (state_of sc node) ∙ ap (convicted_by_trusted sc.sizes kind) (a.trusted kind) ∙ sym (convicts-others sc.sizes kind me a.st)
 
-own-is : {w : World} {me : Side} (sc : Scenario) (frame slot : ℕ) (node : RunningNode w me) → StandsInSlot sc frame slot node
+own-is : {w : World} {me : Side} {sc : Scenario} {frame slot : ℕ} {node : RunningNode w me} → StandsInSlot sc frame slot node
     → moment_of sc node ≡ before_stage sc w.hands frame slot (window_of sc node).stage
-own-is {w} {me} sc frame slot node at =
+own-is {w} {me} {sc} {frame} {node} at =
     ap (λ f. before_stage sc w.hands f (window_of sc node).slot (window_of sc node).stage) at.frame_is
     ∙ ap (λ s. before_stage sc w.hands frame s (window_of sc node).stage) at.slot_is
 
@@ -75,41 +75,41 @@ own-is {w} {me} sc frame slot node at =
 at-most-sync : (sizes : Sizes) (n : ℕ) → slot_numbered sizes n ≤ sync_slot_of sizes
 at-most-sync sizes n = omega arith
 
-some-stage : (sizes : Sizes) (n slot stage : ℕ) → slot ≡ slot_numbered sizes n → 3 * slot + stage ≡ n + 1 → 1 ≤ stage
-some-stage sizes n slot stage e h = omega (arith, e, h)
+some-stage : (sizes : Sizes) (n : ℕ) {slot : ℕ} (stage : ℕ) → slot ≡ slot_numbered sizes n → 3 * slot + stage ≡ n + 1 → 1 ≤ stage
+some-stage sizes n stage e h = omega (arith, e, h)
 
-last-stage : (sizes : Sizes) (n slot stage : ℕ) → n ≤ stages_in sizes → slot ≡ slot_numbered sizes n → 3 * slot + stage ≡ n + 1 → stage ≡ 4 → slot ≡ sync_slot_of sizes
-last-stage sizes n slot stage le e h four = omega (arith, le, e, h, four)
+last-stage : (sizes : Sizes) (n : ℕ) {slot stage : ℕ} → n ≤ stages_in sizes → slot ≡ slot_numbered sizes n → 3 * slot + stage ≡ n + 1 → stage ≡ 4 → slot ≡ sync_slot_of sizes
+last-stage sizes n le e h four = omega (arith, le, e, h, four)
 
-inside-of : (f g w slot stage window sync : ℕ) → f * w + 3 * slot + stage - 1 ≡ g * w + window → f ≡ g → slot ≤ sync → stage ≤ 4 → window ≤ 3 * sync + 3
-inside-of f g w slot stage window sync h e le most =
+inside-of : {f g : ℕ} (w slot stage window sync : ℕ) → f * w + 3 * slot + stage - 1 ≡ g * w + window → f ≡ g → slot ≤ sync → stage ≤ 4 → window ≤ 3 * sync + 3
+inside-of {f} {g} w slot stage window sync h e le most =
     let same : f * w ≡ g * w = ap (λ f. f * w) e in
     omega (arith, h, same, le, most)
 
 -- the node's window is in the slot if its own moment is of the run
-is-in : {w : World} {me : Side} (sc : Scenario) → IsLawful sc → (frame slot : ℕ) (node : RunningNode w me) → FollowsTheRounds sc w → StandsInSlot sc frame slot node
+is-in : {w : World} {me : Side} {sc : Scenario} → IsLawful sc → {frame slot : ℕ} {node : RunningNode w me} → FollowsTheRounds sc w → StandsInSlot sc frame slot node
     → IsRunning (before_stage sc w.hands frame slot (window_of sc node).stage) → IsIn sc frame slot node
-is-in {w} {me} sc lawful frame slot node follow at running =
+is-in {w} {me} {sc} lawful {frame} {slot} {node} follow at running =
     record {
       st = h.st;
       there = subst (λ (m : Moment). IsGoodIn sc m me node.index h.st) own_is here;
       now = ap (λ (m : Moment). is_good_now sc m me node.index) (sym own_is) ∙ ap (is_good sc me node.index own.frame) (sym numbered) ∙ h.good;
       good = ap (λ f. is_good sc me node.index f slot) (sym at.frame_is ∙ h.frame) ∙ ap (is_good sc me node.index own.frame) (sym at.slot_is) ∙ h.good;
       within = let most : slot_numbered sc.sizes own.window ≤ sync_slot_of sc.sizes = at-most-sync sc.sizes own.window in omega (arith, slot_here, most);
-      some = some-stage sc.sizes own.window slot (window_of sc node).stage slot_here place;
-      last = last-stage sc.sizes own.window slot (window_of sc node).stage inside slot_here place;
-      epoch = of-state (λ (st : NodeState). st.epoch) (λ st o. refl) sc own me node.index h.st (state_of sc node) h.state;
-      owners = of-state (λ (st : NodeState). st.owners) (λ st o. refl) sc own me node.index h.st (state_of sc node) h.state;
-      votes = of-state (λ (st : NodeState). st.votes) (λ st o. refl) sc own me node.index h.st (state_of sc node) h.state;
-      trusted = λ kind. of-state (trusted_of kind me) (trusted-same kind me) sc own me node.index h.st (state_of sc node) h.state;
-      next_epoch = of-state (new_epoch_of sc.plan me) (next-epoch-same sc.plan me) sc own me node.index h.st (state_of sc node) h.state;
+      some = some-stage sc.sizes own.window (window_of sc node).stage slot_here place;
+      last = last-stage sc.sizes own.window inside slot_here place;
+      epoch = of-state (λ (st : NodeState). st.epoch) (λ st o. refl) sc own me node.index h.state;
+      owners = of-state (λ (st : NodeState). st.owners) (λ st o. refl) sc own me node.index h.state;
+      votes = of-state (λ (st : NodeState). st.votes) (λ st o. refl) sc own me node.index h.state;
+      trusted = λ kind. of-state (trusted_of kind me) (trusted-same kind me) sc own me node.index h.state;
+      next_epoch = of-state (new_epoch_of sc.plan me) (next-epoch-same sc.plan me) sc own me node.index h.state;
     }
   where
     own : Moment
     own = moment_of sc node
 
     own_is : own ≡ before_stage sc w.hands frame slot (window_of sc node).stage
-    own_is = own-is sc frame slot node at
+    own_is = own-is at
 
     h : HoldsTheState sc own me node.index node.site.core
     h = follow.cores me node (ap (λ (m : Moment). m.book.ended) own_is ∙ running)
@@ -125,7 +125,7 @@ is-in {w} {me} sc lawful frame slot node follow at running =
 
     inside : own.window ≤ stages_in sc.sizes
     inside =
-        inside-of (state_of sc node).frame own.frame (windows_in sc.sizes + 1) (window_of sc node).slot (window_of sc node).stage own.window (sync_slot_of sc.sizes)
+        inside-of (windows_in sc.sizes + 1) (window_of sc node).slot (window_of sc node).stage own.window (sync_slot_of sc.sizes)
         ((number-of sc w.hands ((state_of sc node).frame * (windows_in sc.sizes + 1) + 3 * (window_of sc node).slot + (window_of sc node).stage - 1)).0) h.frame
         (subst (λ n. n ≤ sync_slot_of sc.sizes) (sym numbered) (at-most-sync sc.sizes own.window)) at.stage
 
@@ -135,20 +135,20 @@ is-in {w} {me} sc lawful frame slot node follow at running =
         ∙ window-place sc.sizes sc.plan me h.st own.window inside
 
 -- the run goes on before its stage
-runs-there : {w : World} {me : Side} (sc : Scenario) → IsLawful sc → (frame slot : ℕ) (node : RunningNode w me) → StandsInSlot sc frame slot node
+runs-there : {w : World} {me : Side} {sc : Scenario} → IsLawful sc → {frame slot : ℕ} {node : RunningNode w me} → StandsInSlot sc frame slot node
     → IsRunning (before_stage sc w.hands frame slot (window_of sc node).stage)
-runs-there {w} {me} sc lawful frame slot node at = by at.settled
+runs-there {w} {me} {sc} lawful {frame} {slot} {node} at = by at.settled
   where
     by : IsComplete sc w.hands frame slot ⊎ (BeginsFrame sc w.hands frame slot × ((window_of sc node).stage ≡ 1)) → IsRunning (before_stage sc w.hands frame slot (window_of sc node).stage)
     by (inl complete) = complete_before sc w.hands frame slot (window_of sc node).stage at.stage complete
-    by (inr begin) = ap (λ stage. (before_stage sc w.hands frame slot stage).book.ended) begin.1 ∙ settled_before sc w.hands lawful frame slot (inr begin.0)
+    by (inr begin) = ap (λ stage. (before_stage sc w.hands frame slot stage).book.ended) begin.1 ∙ settled_before w.hands lawful frame slot (inr begin.0)
 
-pub in-slot : {w : World} {me : Side} (sc : Scenario) → IsLawful sc → (frame slot : ℕ) (node : RunningNode w me) → FollowsTheRounds sc w → StandsInSlot sc frame slot node
+pub in-slot : {w : World} {me : Side} {sc : Scenario} → IsLawful sc → {frame slot : ℕ} {node : RunningNode w me} → FollowsTheRounds sc w → StandsInSlot sc frame slot node
     → IsIn sc frame slot node
-in-slot sc lawful frame slot node follow at = is-in sc lawful frame slot node follow at (runs-there sc lawful frame slot node at)
+in-slot lawful follow at = is-in lawful follow at (runs-there lawful at)
 
-pub settled-slot : {w : World} {me : Side} (sc : Scenario) (frame slot : ℕ) (node : RunningNode w me) → StandsInSlot sc frame slot node → IsSettled sc w.hands frame slot
-settled-slot {w} {me} sc frame slot node at = by at.settled
+pub settled-slot : {w : World} {me : Side} {sc : Scenario} {frame slot : ℕ} {node : RunningNode w me} → StandsInSlot sc frame slot node → IsSettled sc w.hands frame slot
+settled-slot {w} {me} {sc} {frame} {slot} {node} at = by at.settled
   where
     by : IsComplete sc w.hands frame slot ⊎ (BeginsFrame sc w.hands frame slot × ((window_of sc node).stage ≡ 1)) → IsSettled sc w.hands frame slot
     by (inl complete) = inl complete
@@ -162,26 +162,26 @@ record WasThere (sc : Scenario) (hands : List HandIn) (frame slot : ℕ) (me : S
   there : slice_get (of_kind me (before_slot sc hands frame slot).nodes) i ≡ Some st
   epoch_is : epoch ≡ st.epoch
 
-was-there : (sc : Scenario) (hands : List HandIn) → IsLawful sc → (frame slot : ℕ) → slot ≤ sync_slot_of sc.sizes → (me : Side) (i k stage : ℕ) → stage ≡ k + 1 → k ≤ 3
-    → IsRunning (before_stage sc hands frame slot stage) → (st : NodeState) → IsGoodIn sc (before_stage sc hands frame slot stage) me i st
+was-there : {sc : _} (hands : List HandIn) → IsLawful sc → (frame slot : ℕ) → slot ≤ sync_slot_of sc.sizes → {me i : _} (k : ℕ) {stage : ℕ} → stage ≡ k + 1 → k ≤ 3
+    → IsRunning (before_stage sc hands frame slot stage) → {st : _} → IsGoodIn sc (before_stage sc hands frame slot stage) me i st
     → WasThere sc hands frame slot me i st.epoch
-was-there sc hands lawful frame slot le me i zero stage e small running st good = record {
+was-there {sc} hands lawful frame slot le {me} {i} zero {stage} e small running {st} good = record {
   st = st;
   there = ap (λ stage. slice_get (of_kind me (before_stage sc hands frame slot stage).nodes) i) (sym e) ∙ good.0;
   epoch_is = refl;
 }
-was-there sc hands lawful frame slot le me i (suc k) stage e small running st good =
+was-there {sc} hands lawful frame slot le {me} {i} (suc k) {stage} e small running {st} good =
     let m : Moment = before_stage sc hands frame slot (k + 1) in
     let on : step sc hands m ≡ before_stage sc hands frame slot stage =
     stage_next sc hands frame slot (k + 1) (omega arith) ∙ ap (before_stage sc hands frame slot) (omega (arith, e)) in
     let runs : IsRunning m = running_before sc hands m (ap (λ (m : Moment). m.book.ended) on ∙ running) in
-    let p : IsPlaced sc hands frame slot (k + 1) = placed sc hands lawful frame slot (k + 1) le (omega arith) (omega (arith, small)) runs in
+    let p : IsPlaced sc hands frame slot (k + 1) = placed hands lawful frame slot (k + 1) le (omega arith) (omega (arith, small)) runs in
     let at : m.window ≡ 3 * slot + (k + 1 - 1) = p.window_is in
     let before : WasGood sc m me i st.epoch =
-    was-good sc hands m me i st (omega (arith, at, le, small)) (moments-stand sc hands (frame * (windows_in sc.sizes + 1) + 3 * slot + (k + 1) - 1) (has_ticks sc lawful))
+    was-good hands (omega (arith, at, le, small)) (moments-stand sc hands (frame * (windows_in sc.sizes + 1) + 3 * slot + (k + 1) - 1) (has_ticks lawful))
     (subst (λ (m : Moment). IsGoodIn sc m me i st) (sym on) good) in
     let first : WasThere sc hands frame slot me i before.st.epoch =
-    was-there sc hands lawful frame slot le me i k (k + 1) refl (omega (arith, small)) runs before.st before.good in
+    was-there hands lawful frame slot le k refl (omega (arith, small)) runs before.good in
     record { st = first.st; there = first.there; epoch_is = before.epoch_is ∙ first.epoch_is }
 
 -- the node was good before the slot, with the epoch of its core
@@ -190,26 +190,26 @@ pub record HasBegun {w : World} {me : Side} (sc : Scenario) (frame slot : ℕ) (
   pub is : IsGoodBefore sc w.hands frame slot me node.index st
   pub epoch : (state_of sc node).epoch ≡ st.epoch
 
-pub has-begun : {w : World} {me : Side} (sc : Scenario) → IsLawful sc → (frame slot : ℕ) (node : RunningNode w me) → StandsInSlot sc frame slot node → IsIn sc frame slot node
+pub has-begun : {w : World} {me : Side} {sc : Scenario} → IsLawful sc → {frame slot : ℕ} {node : RunningNode w me} → StandsInSlot sc frame slot node → IsIn sc frame slot node
     → HasBegun sc frame slot node
-has-begun {w} {me} sc lawful frame slot node at a =
+has-begun {w} {me} {sc} lawful {frame} {slot} {node} at a =
     let stage : ℕ = (window_of sc node).stage in
     let some = a.some in
     let most = at.stage in
     let was : WasThere sc w.hands frame slot me node.index a.st.epoch =
-    was-there sc w.hands lawful frame slot a.within me node.index (stage - 1) stage (omega (arith, some)) (omega (arith, most)) (runs-there sc lawful frame slot node at) a.st a.there in
+    was-there w.hands lawful frame slot a.within (stage - 1) (omega (arith, some)) (omega (arith, most)) (runs-there lawful at) a.there in
     record { st = was.st; is = record { good = a.good; state = was.there }; epoch = a.epoch ∙ was.epoch_is }
 
 -- two nodes begin the slot near each other
-begin-near : {w : World} (sc : Scenario) → IsLawful sc → FollowsTheRounds sc w → NodesBeginSlotsNear sc w
-begin-near {w} sc lawful follow frame slot me you mine yours at there =
-    let a : IsIn sc frame slot mine = in-slot sc lawful frame slot mine follow at in
-    let x : HasBegun sc frame slot mine = has-begun sc lawful frame slot mine at a in
-    let y : HasBegun sc frame slot yours = has-begun sc lawful frame slot yours there (in-slot sc lawful frame slot yours follow there) in
+begin-near : {w sc : _} → IsLawful sc → FollowsTheRounds sc w → NodesBeginSlotsNear sc w
+begin-near {w} {sc} lawful follow frame slot me you mine yours at there =
+    let a : IsIn sc frame slot mine = in-slot lawful follow at in
+    let x : HasBegun sc frame slot mine = has-begun lawful at a in
+    let y : HasBegun sc frame slot yours = has-begun lawful there (in-slot lawful follow there) in
     let offset : ℕ = 3 * slot * sc.plan.l in
     let skew : ℕ = stated_skew sc.plan offset in
     let near : time_in_frame sc me mine.index x.st offset ≤ time_in_frame sc you yours.index y.st offset + skew =
-    slots_near sc w.hands lawful frame slot a.within (settled-slot sc frame slot mine at) me you mine.index yours.index x.st y.st x.is y.is in
+    slots_near sc w.hands lawful frame slot a.within (settled-slot at) me you mine.index yours.index x.st y.st x.is y.is in
     subst (λ e. time_of (clock_of sc me mine.index) (e + offset) ≤ begin_of_slot sc slot yours + skew) (sym x.epoch)
     (subst (λ e. time_in_frame sc me mine.index x.st offset ≤ time_of (clock_of sc you yours.index) (e + offset) + skew) (sym y.epoch) near)
 
@@ -228,9 +228,9 @@ pub record HoldsShared {w : World} {me : Side} (sc : Scenario) (frame slot : ℕ
   pub votes : (state_of sc node).votes ≡ holder.votes
   pub trusted : (kind : Side) → trusted_of kind me (state_of sc node) ≡ trusted_of kind me holder
 
-pub holds-shared : {w : World} {me : Side} (sc : Scenario) → IsLawful sc → (frame slot : ℕ) (node : RunningNode w me) → FollowsTheRounds sc w → StandsInSlot sc frame slot node
+pub holds-shared : {w : World} {me : Side} {sc : Scenario} → IsLawful sc → {frame slot : ℕ} {node : RunningNode w me} → FollowsTheRounds sc w → StandsInSlot sc frame slot node
     → (r : SharedIn sc w.hands frame slot) → HoldsShared sc frame slot r.shared node
-holds-shared {w} {me} sc lawful frame slot node follow at r =
+holds-shared {w} {me} {sc} lawful {frame} {slot} {node} follow at r =
     record {
       steps = here.steps;
       m = m;
@@ -251,7 +251,7 @@ holds-shared {w} {me} sc lawful frame slot node follow at r =
     m = before_stage sc w.hands frame slot stage
 
     a : IsIn sc frame slot node
-    a = in-slot sc lawful frame slot node follow at
+    a = in-slot lawful follow at
 
     some : 1 ≤ stage
     some = a.some
@@ -263,7 +263,7 @@ holds-shared {w} {me} sc lawful frame slot node follow at r =
     good = record { there = a.there.0; good = a.now }
 
     p : IsPlaced sc w.hands frame slot stage
-    p = placed sc w.hands lawful frame slot stage a.within some most (runs-there sc lawful frame slot node at)
+    p = placed w.hands lawful frame slot stage a.within some most (runs-there lawful at)
 
     here : SharedAt sc w.hands frame slot r.shared stage
     here = elim (cases_lt stage 4) [
@@ -274,9 +274,9 @@ holds-shared {w} {me} sc lawful frame slot node follow at r =
     ]
 
 -- a node at the start of the slot has the state of the rounds there
-pub before-is : {w : World} {me : Side} (sc : Scenario) (frame slot : ℕ) (node : RunningNode w me) → (window_of sc node).stage ≡ 1 → (a : IsIn sc frame slot node)
+pub before-is : {w : World} {me : Side} {sc : Scenario} {frame slot : ℕ} {node : RunningNode w me} → (window_of sc node).stage ≡ 1 → (a : IsIn sc frame slot node)
     → IsGoodBefore sc w.hands frame slot me node.index a.st
-before-is {w} {me} sc frame slot node first a = record {
+before-is {w} {me} {sc} {frame} {slot} {node} first a = record {
   good = a.good;
   state = ap (λ stage. slice_get (of_kind me (before_stage sc w.hands frame slot stage).nodes) node.index) (sym first) ∙ a.there.0;
 }
@@ -287,9 +287,9 @@ record BothBegin {w : World} {me you : Side} (sc : Scenario) (frame slot : ℕ) 
   mine_first : (window_of sc mine).stage ≡ 1
   yours_first : (window_of sc yours).stage ≡ 1
 
-complete-or-begins : {w : World} {me you : Side} (sc : Scenario) (frame slot : ℕ) (mine : RunningNode w me) (yours : RunningNode w you)
+complete-or-begins : {w : World} {me you : Side} {sc : Scenario} {frame slot : ℕ} {mine : RunningNode w me} {yours : RunningNode w you}
     → StandsInSlot sc frame slot mine → StandsInSlot sc frame slot yours → IsComplete sc w.hands frame slot ⊎ BothBegin sc frame slot mine yours
-complete-or-begins {w} sc frame slot mine yours at there = by at.settled there.settled
+complete-or-begins {w} {sc} {frame} {slot} {mine} {yours} at there = by at.settled there.settled
   where
     by : IsComplete sc w.hands frame slot ⊎ (BeginsFrame sc w.hands frame slot × ((window_of sc mine).stage ≡ 1))
         → IsComplete sc w.hands frame slot ⊎ (BeginsFrame sc w.hands frame slot × ((window_of sc yours).stage ≡ 1))
@@ -302,27 +302,27 @@ pub begins-first : (sc : Scenario) (hands : List HandIn) (frame slot : ℕ) → 
 begins-first sc hands frame zero begin = refl
 begins-first sc hands frame (suc slot) begin = absurd begin
 
-convicts-shared : {w : World} {me : Side} (sc : Scenario) (frame slot : ℕ) (s : Shared) (node : RunningNode w me) → HoldsShared sc frame slot s node → (kind : Side)
+convicts-shared : {w : World} {me : Side} {sc : Scenario} {frame slot : ℕ} {s : Shared} {node : RunningNode w me} → HoldsShared sc frame slot s node → (kind : Side)
     → convicted_by sc kind node ≡ convicted_by_trusted sc.sizes kind (s.trusted kind)
-convicts-shared {w} {me} sc frame slot s node h kind = convicts-others sc.sizes kind me (state_of sc node) ∙ ap (convicted_by_trusted sc.sizes kind) (h.trusted kind ∙ h.holds.trusted kind)
+convicts-shared {w} {me} {sc} {node} h kind = convicts-others sc.sizes kind me (state_of sc node) ∙ ap (convicted_by_trusted sc.sizes kind) (h.trusted kind ∙ h.holds.trusted kind)
 
-pub votes-shared : {w : World} {me : Side} (sc : Scenario) (frame slot : ℕ) (s : Shared) (node : RunningNode w me) → HoldsShared sc frame slot s node → slot ≤ sync_slot_of sc.sizes
+pub votes-shared : {w : World} {me : Side} {sc : Scenario} {frame slot : ℕ} {s : Shared} {node : RunningNode w me} → HoldsShared sc frame slot s node → slot ≤ sync_slot_of sc.sizes
     → (voted : ℕ) → voted < slot → votes_on sc.sizes voted me ≡ true → vote_on (state_of sc node) voted ≡ s.values voted
-votes-shared {w} {me} sc frame slot s node h le voted before votes =
+votes-shared {w} {me} {node} h le voted before votes =
     let window = h.window in
     ap (λ votes. get_or votes voted Fault) h.votes
     ∙ (h.agree.finished voted (omega (arith, before, le)) (omega (arith, before, window))).held me node.index h.holder h.good votes
 
 -- Two nodes.
 
-one-schedule : {w : World} (sc : Scenario) → IsLawful sc → FollowsTheRounds sc w → NodesHoldOneSchedule sc w
-one-schedule {w} sc lawful follow frame slot me you mine yours at there late =
-    elim (complete-or-begins sc frame slot mine yours at there) [
+one-schedule : {w sc : _} → IsLawful sc → FollowsTheRounds sc w → NodesHoldOneSchedule sc w
+one-schedule {w} {sc} lawful follow frame slot me you mine yours at there late =
+    elim (complete-or-begins at there) [
       | inl complete ↦
-          let a : IsIn sc frame slot mine = in-slot sc lawful frame slot mine follow at in
-          let r : SharedIn sc w.hands frame slot = shared-in sc w.hands lawful frame slot a.within complete in
-          let h : HoldsShared sc frame slot r.shared mine = holds-shared sc lawful frame slot mine follow at r in
-          let k : HoldsShared sc frame slot r.shared yours = holds-shared sc lawful frame slot yours follow there r in
+          let a : IsIn sc frame slot mine = in-slot lawful follow at in
+          let r : SharedIn sc w.hands frame slot = shared-in lawful a.within complete in
+          let h : HoldsShared sc frame slot r.shared mine = holds-shared lawful follow at r in
+          let k : HoldsShared sc frame slot r.shared yours = holds-shared lawful follow there r in
           h.owners ∙ h.holds.owners ∙ sym (k.owners ∙ k.holds.owners)
       | inr begin ↦
           let first : slot ≡ 0 = begins-first sc w.hands frame slot begin.begins in
@@ -330,86 +330,86 @@ one-schedule {w} sc lawful follow frame slot me you mine yours at there late =
           absurd (omega (arith, first, late, some))
     ]
 
-convict-the-same : {w : World} (sc : Scenario) → IsLawful sc → FollowsTheRounds sc w → NodesConvictAlike sc w
-convict-the-same {w} sc lawful follow frame slot me you mine yours at there kind =
-    let a : IsIn sc frame slot mine = in-slot sc lawful frame slot mine follow at in
-    elim (complete-or-begins sc frame slot mine yours at there) [
+convict-the-same : {w sc : _} → IsLawful sc → FollowsTheRounds sc w → NodesConvictAlike sc w
+convict-the-same {w} {sc} lawful follow frame slot me you mine yours at there kind =
+    let a : IsIn sc frame slot mine = in-slot lawful follow at in
+    elim (complete-or-begins at there) [
       | inl complete ↦
-          let r : SharedIn sc w.hands frame slot = shared-in sc w.hands lawful frame slot a.within complete in
-          convicts-shared sc frame slot r.shared mine (holds-shared sc lawful frame slot mine follow at r) kind
-          ∙ sym (convicts-shared sc frame slot r.shared yours (holds-shared sc lawful frame slot yours follow there r) kind)
+          let r : SharedIn sc w.hands frame slot = shared-in lawful a.within complete in
+          convicts-shared (holds-shared lawful follow at r) kind
+          ∙ sym (convicts-shared (holds-shared lawful follow there r) kind)
       | inr begin ↦
-          let b : IsIn sc frame slot yours = in-slot sc lawful frame slot yours follow there in
-          convicts-in sc frame slot mine a kind
-          ∙ convict-alike sc w.hands lawful frame slot a.within (inr begin.begins) me you mine.index yours.index a.st b.st
-          (before-is sc frame slot mine begin.mine_first a) (before-is sc frame slot yours begin.yours_first b) kind
-          ∙ sym (convicts-in sc frame slot yours b kind)
+          let b : IsIn sc frame slot yours = in-slot lawful follow there in
+          convicts-in a kind
+          ∙ convict-alike w.hands lawful frame slot a.within (inr begin.begins) me you mine.index yours.index a.st b.st
+          (before-is begin.mine_first a) (before-is begin.yours_first b) kind
+          ∙ sym (convicts-in b kind)
     ]
 
-trusted-stays : (sc : Scenario) → IsLawful sc → (kind : Side) (j frame slot trusted : ℕ) → is_good sc kind j frame slot ≡ true → has trusted j ≡ true
+trusted-stays : {sc : _} → IsLawful sc → (kind : Side) (j frame slot trusted : ℕ) → is_good sc kind j frame slot ≡ true → has trusted j ≡ true
     → has (convicted_by_trusted sc.sizes kind trusted) j ≡ false
-trusted-stays sc law kind j frame slot trusted good trusts =
+trusted-stays {sc} law kind j frame slot trusted good trusts =
     has-set_of j (λ j. nat_lt j (count_of kind sc.sizes) && not (has trusted j)) (good_below_16 sc law.sizes kind j frame slot good)
     ∙ and_right (nat_lt j (count_of kind sc.sizes)) (not (has trusted j)) (ap not trusts)
 
-convict-no-good-node : {w : World} (sc : Scenario) → IsLawful sc → FollowsTheRounds sc w → NodesConvictNoGoodNode sc w
-convict-no-good-node {w} sc lawful follow frame slot me node at kind j good =
-    let a : IsIn sc frame slot node = in-slot sc lawful frame slot node follow at in
-    elim (complete-or-begins sc frame slot node node at at) [
+convict-no-good-node : {w sc : _} → IsLawful sc → FollowsTheRounds sc w → NodesConvictNoGoodNode sc w
+convict-no-good-node {w} {sc} lawful follow frame slot me node at kind j good =
+    let a : IsIn sc frame slot node = in-slot lawful follow at in
+    elim (complete-or-begins at at) [
       | inl complete ↦
-          let r : SharedIn sc w.hands frame slot = shared-in sc w.hands lawful frame slot a.within complete in
+          let r : SharedIn sc w.hands frame slot = shared-in lawful a.within complete in
           let le = a.within in
           let p : IsPlaced sc w.hands frame slot 1 =
-          placed sc w.hands lawful frame slot 1 le (omega arith) (omega arith) (complete_before sc w.hands frame slot 1 (omega arith) complete) in
+          placed w.hands lawful frame slot 1 le (omega arith) (omega arith) (complete_before sc w.hands frame slot 1 (omega arith) complete) in
           let m : Moment = before_stage sc w.hands frame slot 1 in
           let window : m.window ≡ 3 * slot + (1 - 1) = p.window_is in
           let now : is_good_now sc m kind j ≡ true =
           ap (λ f. is_good sc kind j f (slot_numbered sc.sizes m.window)) p.frame_is ∙ ap (is_good sc kind j frame) (omega (arith, window, le)) ∙ good in
           let trusted : has (r.shared.trusted kind) j ≡ true = (r.at 1 (omega arith) (omega arith)).agree.trusted kind j now in
-          ap (λ set. has set j) (convicts-shared sc frame slot r.shared node (holds-shared sc lawful frame slot node follow at r) kind)
-          ∙ trusted-stays sc lawful kind j frame slot (r.shared.trusted kind) good trusted
+          ap (λ set. has set j) (convicts-shared (holds-shared lawful follow at r) kind)
+          ∙ trusted-stays lawful kind j frame slot (r.shared.trusted kind) good trusted
       | inr begin ↦
-          ap (λ set. has set j) (convicts-in sc frame slot node a kind)
-          ∙ none_convicted sc w.hands lawful frame slot a.within (inr begin.begins) me node.index a.st (before-is sc frame slot node begin.mine_first a) kind j good
+          ap (λ set. has set j) (convicts-in a kind)
+          ∙ none_convicted sc w.hands lawful frame slot a.within (inr begin.begins) me node.index a.st (before-is begin.mine_first a) kind j good
     ]
 
-convict-whom-all-accused : {w : World} (sc : Scenario) → IsLawful sc → FollowsTheRounds sc w → NodesConvictWhomAllAccused sc w
-convict-whom-all-accused {w} sc lawful follow frame complete accused j count all me node at = by at.settled
+convict-whom-all-accused : {w sc : _} → IsLawful sc → FollowsTheRounds sc w → NodesConvictWhomAllAccused sc w
+convict-whom-all-accused {w} {sc} lawful follow frame complete accused j count all me node at = by at.settled
   where
     hands : List HandIn
     hands = w.hands
 
     a : IsIn sc (frame + 1) 0 node
-    a = in-slot sc lawful (frame + 1) 0 node follow at
+    a = in-slot lawful follow at
 
     convicts : (st : NodeState) → IsGoodBefore sc hands (frame + 1) 0 me node.index st → has (convicted_of sc.sizes accused me st) j ≡ true
     convicts st before = accused_by_all sc hands lawful frame complete accused j count all me node.index st before
 
     by : IsComplete sc hands (frame + 1) 0 ⊎ (BeginsFrame sc hands (frame + 1) 0 × ((window_of sc node).stage ≡ 1)) → has (convicted_by sc accused node) j ≡ true
-    by (inr begin) = ap (λ set. has set j) (convicts-in sc (frame + 1) 0 node a accused) ∙ convicts a.st (before-is sc (frame + 1) 0 node begin.1 a)
+    by (inr begin) = ap (λ set. has set j) (convicts-in a accused) ∙ convicts a.st (before-is begin.1 a)
     by (inl whole) =
-        let r : SharedIn sc hands (frame + 1) 0 = shared-in sc hands lawful (frame + 1) 0 a.within whole in
-        let x : HasBegun sc (frame + 1) 0 node = has-begun sc lawful (frame + 1) 0 node at a in
+        let r : SharedIn sc hands (frame + 1) 0 = shared-in lawful a.within whole in
+        let x : HasBegun sc (frame + 1) 0 node = has-begun lawful at a in
         let p : IsPlaced sc hands (frame + 1) 0 1 =
-        placed sc hands lawful (frame + 1) 0 1 a.within (omega arith) (omega arith) (complete_before sc hands (frame + 1) 0 1 (omega arith) whole) in
+        placed hands lawful (frame + 1) 0 1 a.within (omega arith) (omega arith) (complete_before sc hands (frame + 1) 0 1 (omega arith) whole) in
         let good : IsGoodNode sc (before_slot sc hands (frame + 1) 0) me node.index x.st =
-        good_before_slot sc hands (frame + 1) 0 a.within p me node.index x.st x.is in
+        good_before_slot a.within p x.is in
         let holds = (r.at 1 (omega arith) (omega arith)).agree.nodes me node.index x.st good in
         ap (λ set. has set j)
-        (convicts-shared sc (frame + 1) 0 r.shared node (holds-shared sc lawful (frame + 1) 0 node follow at r) accused
+        (convicts-shared (holds-shared lawful follow at r) accused
         ∙ ap (convicted_by_trusted sc.sizes accused) (sym (holds.trusted accused)) ∙ sym (convicts-others sc.sizes accused me x.st))
         ∙ convicts x.st x.is
 
-vote-the-same : {w : World} (sc : Scenario) → IsLawful sc → FollowsTheRounds sc w → NodesVoteAlike sc w
-vote-the-same {w} sc lawful follow frame slot me you mine yours at there voted before mine_votes yours_votes =
-    elim (complete-or-begins sc frame slot mine yours at there) [
+vote-the-same : {w sc : _} → IsLawful sc → FollowsTheRounds sc w → NodesVoteAlike sc w
+vote-the-same {w} {sc} lawful follow frame slot me you mine yours at there voted before mine_votes yours_votes =
+    elim (complete-or-begins at there) [
       | inl complete ↦
-          let a : IsIn sc frame slot mine = in-slot sc lawful frame slot mine follow at in
-          let r : SharedIn sc w.hands frame slot = shared-in sc w.hands lawful frame slot a.within complete in
-          let h : HoldsShared sc frame slot r.shared mine = holds-shared sc lawful frame slot mine follow at r in
-          let k : HoldsShared sc frame slot r.shared yours = holds-shared sc lawful frame slot yours follow there r in
-          votes-shared sc frame slot r.shared mine h a.within voted before mine_votes
-          ∙ sym (votes-shared sc frame slot r.shared yours k a.within voted before yours_votes)
+          let a : IsIn sc frame slot mine = in-slot lawful follow at in
+          let r : SharedIn sc w.hands frame slot = shared-in lawful a.within complete in
+          let h : HoldsShared sc frame slot r.shared mine = holds-shared lawful follow at r in
+          let k : HoldsShared sc frame slot r.shared yours = holds-shared lawful follow there r in
+          votes-shared h a.within voted before mine_votes
+          ∙ sym (votes-shared k a.within voted before yours_votes)
       | inr begin ↦
           let first : slot ≡ 0 = begins-first sc w.hands frame slot begin.begins in
           absurd (omega (arith, first, before))
@@ -419,12 +419,12 @@ pub nodes-agree : RunningNodesAgreeInLawful
 nodes-agree sc lawful choices =
     let follow : FollowsTheRounds sc (world_after sc choices) = cores-follow sc lawful choices in
     record {
-      skew = begin-near sc lawful follow;
-      schedules = one-schedule sc lawful follow;
-      convictions = convict-the-same sc lawful follow;
-      good_nodes_stay = convict-no-good-node sc lawful follow;
-      votes = vote-the-same sc lawful follow;
+      skew = begin-near lawful follow;
+      schedules = one-schedule lawful follow;
+      convictions = convict-the-same lawful follow;
+      good_nodes_stay = convict-no-good-node lawful follow;
+      votes = vote-the-same lawful follow;
     }
 
-pub nodes-convict : (sc : Scenario) → IsLawful sc → (choices : List Choice) → NodesConvictWhomAllAccused sc (world_after sc choices)
-nodes-convict sc lawful choices = convict-whom-all-accused sc lawful (cores-follow sc lawful choices)
+pub nodes-convict : {sc : _} → IsLawful sc → (choices : List Choice) → NodesConvictWhomAllAccused sc (world_after sc choices)
+nodes-convict {sc} lawful choices = convict-whom-all-accused lawful (cores-follow sc lawful choices)

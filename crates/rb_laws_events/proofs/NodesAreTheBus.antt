@@ -11,11 +11,11 @@ use Rattle.rb_laws_events.proofs.{CoresPast.cores-follow, NodesAlike.{HasBegun, 
 
 -- The rounds stand for a run of the bus, since good nodes keep time.
 
-pub keeps-time : (sc : Scenario) (hands : List HandIn) → IsLawful sc → KeepsTime sc hands
-keeps-time sc hands lawful = record { near = (epochs_near sc hands lawful).0; takes = (epochs_near sc hands lawful).1 }
+pub keeps-time : {sc : _} (hands : List HandIn) → IsLawful sc → KeepsTime sc hands
+keeps-time {sc} hands lawful = record { near = (epochs_near sc hands lawful).0; takes = (epochs_near sc hands lawful).1 }
 
 pub stands-for : (sc : Scenario) (hands : List HandIn) → IsLawful sc → StandsFor sc hands
-stands-for sc hands lawful = rounds_stand sc hands lawful (keeps-time sc hands lawful)
+stands-for sc hands lawful = rounds_stand sc hands lawful (keeps-time hands lawful)
 
 -- At the start of the slot.
 
@@ -28,32 +28,32 @@ record IsAsBegun {w : World} {me : Side} (sc : Scenario) (frame slot : ℕ) (nod
   owners : (state_of sc node).owners ≡ st.owners
   votes : (voted : ℕ) → voted < slot → votes_on sc.sizes voted me ≡ true → vote_on (state_of sc node) voted ≡ vote_on st voted
 
-as-begun : {w : World} {me : Side} (sc : Scenario) → IsLawful sc → (frame slot : ℕ) (node : RunningNode w me) → FollowsTheRounds sc w → StandsInSlot sc frame slot node
+as-begun : {w : World} {me : Side} {sc : Scenario} → IsLawful sc → {frame slot : ℕ} {node : RunningNode w me} → FollowsTheRounds sc w → StandsInSlot sc frame slot node
     → IsAsBegun sc frame slot node
-as-begun {w} {me} sc lawful frame slot node follow at = by at.settled
+as-begun {w} {me} {sc} lawful {frame} {slot} {node} follow at = by at.settled
   where
     a : IsIn sc frame slot node
-    a = in-slot sc lawful frame slot node follow at
+    a = in-slot lawful follow at
 
     by : IsComplete sc w.hands frame slot ⊎ (BeginsFrame sc w.hands frame slot × ((window_of sc node).stage ≡ 1)) → IsAsBegun sc frame slot node
     by (inr begin) = record {
       st = a.st;
-      before = before-is sc frame slot node begin.1 a;
+      before = before-is begin.1 a;
       epoch = a.epoch;
       trusted = a.trusted;
       owners = a.owners;
       votes = λ voted lt votes. ap (λ votes. get_or votes voted Fault) a.votes;
     }
     by (inl complete) =
-        let r : SharedIn sc w.hands frame slot = shared-in sc w.hands lawful frame slot a.within complete in
-        let h : HoldsShared sc frame slot r.shared node = holds-shared sc lawful frame slot node follow at r in
-        let x : HasBegun sc frame slot node = has-begun sc lawful frame slot node at a in
+        let r : SharedIn sc w.hands frame slot = shared-in lawful a.within complete in
+        let h : HoldsShared sc frame slot r.shared node = holds-shared lawful follow at r in
+        let x : HasBegun sc frame slot node = has-begun lawful at a in
         let first : SharedAt sc w.hands frame slot r.shared 1 = r.at 1 (omega arith) (omega arith) in
         let p : IsPlaced sc w.hands frame slot 1 =
-        placed sc w.hands lawful frame slot 1 a.within (omega arith) (omega arith) (complete_before sc w.hands frame slot 1 (omega arith) complete) in
+        placed w.hands lawful frame slot 1 a.within (omega arith) (omega arith) (complete_before sc w.hands frame slot 1 (omega arith) complete) in
         let window = p.window_is in
         let le = a.within in
-        let good : IsGoodNode sc (before_slot sc w.hands frame slot) me node.index x.st = good_before_slot sc w.hands frame slot le p me node.index x.st x.is in
+        let good : IsGoodNode sc (before_slot sc w.hands frame slot) me node.index x.st = good_before_slot le p x.is in
         let holds : Holds sc (before_slot sc w.hands frame slot) r.shared me x.st = first.agree.nodes me node.index x.st good in
         record {
           st = x.st;
@@ -62,21 +62,21 @@ as-begun {w} {me} sc lawful frame slot node follow at = by at.settled
           trusted = λ kind. h.trusted kind ∙ h.holds.trusted kind ∙ sym (holds.trusted kind);
           owners = h.owners ∙ h.holds.owners ∙ sym holds.owners;
           votes = λ voted lt votes.
-              votes-shared sc frame slot r.shared node h le voted lt votes
+              votes-shared h le voted lt votes
               ∙ sym ((first.agree.finished voted (omega (arith, lt, le)) (omega (arith, lt, window))).held me node.index x.st good votes);
         }
 
 -- the bus agrees with a good node before each slot that is settled
-agrees : (sc : Scenario) (hands : List HandIn) (machine : StandsFor sc hands) (frame slot : ℕ) → slot ≤ sync_slot_of sc.sizes → IsSettled sc hands frame slot
+agrees : {sc hands : _} (machine : StandsFor sc hands) {frame : ℕ} (slot : ℕ) → slot ≤ sync_slot_of sc.sizes → IsSettled sc hands frame slot
     → (me : Side) (i : ℕ) (st : NodeState) → IsGoodBefore sc hands frame slot me i st → AgreesBefore sc (machine.bus (steps_to sc.sizes frame slot)) me i st
-agrees sc hands machine frame slot le (inl complete) = (machine.slots frame slot le complete).before
-agrees sc hands machine frame zero le (inr begins) = (machine.frames frame begins).good_nodes
-agrees sc hands machine frame (suc slot) le (inr begins) = absurd begins
+agrees machine {frame} slot le (inl complete) = (machine.slots frame slot le complete).before
+agrees machine {frame} zero le (inr begins) = (machine.frames frame begins).good_nodes
+agrees machine (suc slot) le (inr begins) = absurd begins
 
 -- the bus agrees with any state that has the epoch, the trusted nodes and the owners of such a one
-agrees-then : (sc : Scenario) (bus : AbstractBus) (me : Side) (i : ℕ) (st now : NodeState) → now.epoch ≡ st.epoch → ((kind : Side) → trusted_of kind me now ≡ trusted_of kind me st)
+agrees-then : {sc : Scenario} {bus : AbstractBus} {me : Side} {i : ℕ} {st : NodeState} (now : NodeState) → now.epoch ≡ st.epoch → ((kind : Side) → trusted_of kind me now ≡ trusted_of kind me st)
     → now.owners ≡ st.owners → AgreesBefore sc bus me i st → AgreesBefore sc bus me i now
-agrees-then sc bus me i st now epoch trusted owners a =
+agrees-then {sc} {bus} {me} {i} now epoch trusted owners a =
     let offset : ℕ = 3 * bus.slot * sc.plan.l in
     record {
       band = record {
@@ -90,19 +90,19 @@ agrees-then sc bus me i st now epoch trusted owners a =
 -- The values of finished slots.
 
 -- the bus of the rounds keeps the value of a slot through the frame
-value-stays : (sc : Scenario) (hands : List HandIn) → IsLawful sc → (low : ℕ → ℕ) (frame voted slot : ℕ) → voted < slot → slot ≤ sync_slot_of sc.sizes
+value-stays : {sc : _} (hands : List HandIn) → IsLawful sc → (low : ℕ → ℕ) (frame voted slot : ℕ) → voted < slot → slot ≤ sync_slot_of sc.sizes
     → IsRunning (before_slot sc hands frame slot) → value_on (bus_before sc hands low frame slot) voted ≡ value_on (bus_then sc hands low frame voted) voted
-value-stays sc hands lawful low frame voted zero lt le running = absurd (omega (arith, lt))
-value-stays sc hands lawful low frame voted (suc slot) lt le running =
+value-stays hands lawful low frame voted zero lt le running = absurd (omega (arith, lt))
+value-stays {sc} hands lawful low frame voted (suc slot) lt le running =
     elim (cases_lt voted slot) [
       | inl earlier ↦
           let complete : IsComplete sc hands frame slot = ap (λ (m : Moment). m.book.ended) (sym (slot-follows sc hands frame slot)) ∙ running in
           let runs : IsRunning (before_slot sc hands frame slot) = complete_before sc hands frame slot 1 (omega arith) complete in
-          let h : IsHeld sc hands (low frame) frame slot (bus_before sc hands low frame slot) = held_at sc hands lawful low frame slot (omega (arith, le)) runs in
+          let h : IsHeld sc hands (low frame) frame slot (bus_before sc hands low frame slot) = held_at hands lawful low frame slot (omega (arith, le)) runs in
           let long = h.bus_is.long in
-          ap (λ (bus : AbstractBus). value_on bus voted) (bus-over-slot sc hands low frame slot h (omega (arith, le)))
+          ap (λ (bus : AbstractBus). value_on bus voted) (bus-over-slot low h (omega (arith, le)))
           ∙ get_or-append (bus_before sc hands low frame slot).values (value_in_rounds sc hands frame slot ∷ []) Fault voted (omega (arith, long, earlier))
-          ∙ value-stays sc hands lawful low frame voted slot earlier (omega (arith, le)) runs
+          ∙ value-stays hands lawful low frame voted slot earlier (omega (arith, le)) runs
       | inr last ↦
           let same : suc slot ≡ suc voted = omega (arith, lt, last) in
           ap (λ k. value_on (bus_before sc hands low frame k) voted) same
@@ -113,11 +113,11 @@ value-stays sc hands lawful low frame voted (suc slot) lt le running =
     index a slot = omega arith
 
 -- a good node's vote on a finished slot is the value that the bus gave it
-votes-it : (sc : Scenario) (hands : List HandIn) → IsLawful sc → (machine : StandsFor sc hands) (frame slot : ℕ) → slot ≤ sync_slot_of sc.sizes → IsComplete sc hands frame slot
-    → (me : Side) (i : ℕ) (st : NodeState) → IsGoodBefore sc hands frame slot me i st → (voted : ℕ) → voted < slot → votes_on sc.sizes voted me ≡ true
+votes-it : {sc hands : _} → IsLawful sc → (machine : StandsFor sc hands) {frame slot : ℕ} → slot ≤ sync_slot_of sc.sizes → IsComplete sc hands frame slot
+    → {me i st : _} → IsGoodBefore sc hands frame slot me i st → (voted : ℕ) → voted < slot → votes_on sc.sizes voted me ≡ true
     → vote_on st voted ≡ value_on (machine.bus (steps_to sc.sizes frame voted + 1)) voted
-votes-it sc hands lawful machine frame slot le complete me i st before voted lt votes =
-    in_slot ∙ value-stays sc hands lawful low frame voted slot lt le running ∙ sym (votes_then below votes) ∙ agreed.vote below votes
+votes-it {sc} {hands} lawful machine {frame} {slot} le complete {me} {i} {st} before voted lt votes =
+    in_slot ∙ value-stays hands lawful low frame voted slot lt le running ∙ sym (votes_then below votes) ∙ agreed.vote below votes
   where
     low : ℕ → ℕ
     low n = 0
@@ -126,13 +126,13 @@ votes-it sc hands lawful machine frame slot le complete me i st before voted lt 
     running = complete_before sc hands frame slot 1 (omega arith) complete
 
     h : IsHeld sc hands (low frame) frame slot (bus_before sc hands low frame slot)
-    h = held_at sc hands lawful low frame slot le running
+    h = held_at hands lawful low frame slot le running
 
     in_slot : vote_on st voted ≡ value_on (bus_before sc hands low frame slot) voted
     in_slot =
         let window = h.window_is in
         let good : IsGoodNode sc (before_slot sc hands frame slot) me i st =
-        good_before_slot sc hands frame slot le (as_placed sc hands (low frame) frame slot (bus_before sc hands low frame slot) h) me i st before in
+        good_before_slot le (as_placed h) before in
         (h.agree.finished voted (omega (arith, lt, le)) (omega (arith, lt, window))).held me i st good votes ∙ h.bus_is.values voted lt
 
     below : voted < sync_slot_of sc.sizes
@@ -147,14 +147,14 @@ votes-it sc hands lawful machine frame slot le complete me i st before voted lt 
         (earlier (frame * (windows_in sc.sizes + 1)) voted slot lt) complete
 
     p : IsPlaced sc hands frame voted 4
-    p = placed sc hands lawful frame voted 4 (omega (arith, below)) (omega arith) (omega arith) complete_then
+    p = placed hands lawful frame voted 4 (omega (arith, below)) (omega arith) (omega arith) complete_then
 
     next-slot : (window sync : ℕ) → voted < sync → window ≡ 3 * voted + (4 - 1) → min (window / 3) sync ≡ voted + 1
     next-slot window sync lt e = omega (arith, lt, e)
 
     there : Present (slice_get (of_kind me (after_slot sc hands frame voted).nodes) i)
     there =
-        good_state sc hands p.steps (after_slot sc hands frame voted) p.shared p.agree me i
+        good_state p.agree me i
         (ap (λ f. is_good sc me i f (slot_numbered sc.sizes (after_slot sc hands frame voted).window)) p.frame_is
         ∙ ap (is_good sc me i frame) (next-slot (after_slot sc hands frame voted).window (sync_slot_of sc.sizes) below p.window_is)
         ∙ good_earlier sc me i frame (voted + 1) slot (omega (arith, lt)) before.good)
@@ -163,15 +163,15 @@ votes-it sc hands lawful machine frame slot le complete me i st before voted lt 
     after = record { good = good_earlier sc me i frame voted slot (omega (arith, lt)) before.good; state = there.is }
 
     votes_then : HoldsVote sc voted (bus_then sc hands low frame voted) me there.value
-    votes_then = (bus-slot-step sc hands lawful low frame voted below complete_then).votes me i there.value after
+    votes_then = (bus-slot-step lawful low frame voted below complete_then).votes me i there.value after
 
     agreed : AgreesAfter sc frame voted (machine.bus (steps_to sc.sizes frame voted + 1)) me there.value
     agreed = (machine.slots frame voted (omega (arith, below)) complete_then).after me i there.value after
 
 -- Whom the node accuses.
 
-accuse-no-good-node : {w : World} (sc : Scenario) → IsLawful sc → FollowsTheRounds sc w → NodesAccuseNoGoodNode sc w
-accuse-no-good-node {w} sc lawful follow me node running j good = (
+accuse-no-good-node : {w sc : _} → IsLawful sc → FollowsTheRounds sc w → NodesAccuseNoGoodNode sc w
+accuse-no-good-node {w} {sc} lawful follow me node running j good = (
   ap (λ (far : Standing). has far.direct j) same ∙ holds.spares.direct j (now (other me) j good),
   ap (λ (far : Standing). has far.mismatch j) same ∙ holds.spares.mismatch j (now (other me) j good),
 )
@@ -183,7 +183,7 @@ accuse-no-good-node {w} sc lawful follow me node running j good = (
     h = follow.cores me node running
 
     same : (state_of sc node).far ≡ h.st.far
-    same = of-state (λ (st : NodeState). st.far) (λ st o. refl) sc own me node.index h.st (state_of sc node) h.state
+    same = of-state (λ (st : NodeState). st.far) (λ st o. refl) sc own me node.index h.state
 
     now : (kind : Side) (i : ℕ) → is_good sc kind i (state_of sc node).frame (window_of sc node).slot ≡ true → is_good_now sc own kind i ≡ true
     now kind i here =
@@ -191,39 +191,39 @@ accuse-no-good-node {w} sc lawful follow me node running j good = (
         ∙ ap (is_good sc kind i (state_of sc node).frame) (sym (ap (λ (w : Window). w.slot) h.window ∙ slot-is sc.sizes sc.plan me h.st own.window)) ∙ here
 
     a : IsAgreed sc w.hands ((state_of sc node).frame * (windows_in sc.sizes + 1) + 3 * (window_of sc node).slot + (window_of sc node).stage - 1)
-    a = agreement sc w.hands lawful _ running
+    a = agreement w.hands lawful _ running
 
     holds : Holds sc own a.shared me h.st
     holds = a.agree.nodes me node.index h.st (record { there = h.there; good = now me node.index (ap (λ f. is_good sc me node.index f (window_of sc node).slot) h.frame ∙ h.good) })
 
 -- The law.
 
-hold-the-bus : {w : World} (sc : Scenario) → IsLawful sc → FollowsTheRounds sc w → (machine : StandsFor sc w.hands) → NodesHoldTheBus sc w machine
-hold-the-bus {w} sc lawful follow machine frame slot me node at =
-    let a : IsIn sc frame slot node = in-slot sc lawful frame slot node follow at in
-    let x : IsAsBegun sc frame slot node = as-begun sc lawful frame slot node follow at in
-    agrees-then sc (machine.bus (steps_to sc.sizes frame slot)) me node.index x.st (state_of sc node) x.epoch x.trusted x.owners
-    (agrees sc w.hands machine frame slot a.within (settled-slot sc frame slot node at) me node.index x.st x.before)
+hold-the-bus : {w sc : _} → IsLawful sc → FollowsTheRounds sc w → (machine : StandsFor sc w.hands) → NodesHoldTheBus sc w machine
+hold-the-bus {w} {sc} lawful follow machine frame slot me node at =
+    let a : IsIn sc frame slot node = in-slot lawful follow at in
+    let x : IsAsBegun sc frame slot node = as-begun lawful follow at in
+    agrees-then (state_of sc node) x.epoch x.trusted x.owners
+    (agrees machine slot a.within (settled-slot at) me node.index x.st x.before)
 
-vote-as-the-bus : {w : World} (sc : Scenario) → IsLawful sc → FollowsTheRounds sc w → (machine : StandsFor sc w.hands) → NodesVoteAsTheBus sc w machine
-vote-as-the-bus {w} sc lawful follow machine frame slot me node at voted lt below votes = x.votes voted lt votes ∙ by at.settled
+vote-as-the-bus : {w sc : _} → IsLawful sc → FollowsTheRounds sc w → (machine : StandsFor sc w.hands) → NodesVoteAsTheBus sc w machine
+vote-as-the-bus {w} {sc} lawful follow machine frame slot me node at voted lt below votes = x.votes voted lt votes ∙ by at.settled
   where
     a : IsIn sc frame slot node
-    a = in-slot sc lawful frame slot node follow at
+    a = in-slot lawful follow at
 
     x : IsAsBegun sc frame slot node
-    x = as-begun sc lawful frame slot node follow at
+    x = as-begun lawful follow at
 
     by : IsComplete sc w.hands frame slot ⊎ (BeginsFrame sc w.hands frame slot × ((window_of sc node).stage ≡ 1))
         → vote_on x.st voted ≡ value_on (machine.bus (steps_to sc.sizes frame voted + 1)) voted
-    by (inl complete) = votes-it sc w.hands lawful machine frame slot a.within complete me node.index x.st x.before voted lt votes
+    by (inl complete) = votes-it lawful machine a.within complete x.before voted lt votes
     by (inr begin) = let first : slot ≡ 0 = begins-first sc w.hands frame slot begin.0 in absurd (omega (arith, first, lt))
 
-know-the-next : {w : World} (sc : Scenario) → IsLawful sc → FollowsTheRounds sc w → NodesKnowTheNextFrame sc w
-know-the-next {w} sc lawful follow frame slot me node at tail = by at.settled
+know-the-next : {w sc : _} → IsLawful sc → FollowsTheRounds sc w → NodesKnowTheNextFrame sc w
+know-the-next {w} {sc} lawful follow frame slot me node at tail = by at.settled
   where
     a : IsIn sc frame slot node
-    a = in-slot sc lawful frame slot node follow at
+    a = in-slot lawful follow at
 
     by : IsComplete sc w.hands frame slot ⊎ (BeginsFrame sc w.hands frame slot × ((window_of sc node).stage ≡ 1)) → FrameTakes sc.sizes sc.plan me (state_of sc node)
     by (inr begin) = let first = begin.1 in absurd (omega (arith, first, tail))
@@ -240,13 +240,13 @@ know-the-next {w} sc lawful follow frame slot me node at tail = by at.settled
           most = subst (λ e. takes.epoch < e + tail_start_of sc.sizes sc.plan + max sc.plan.z (sc.plan.v + sc.plan.c)) (sym a.epoch) takes.most;
         }
 
-pub nodes-are-the-bus : (sc : Scenario) → IsLawful sc → (choices : List Choice) → RunningNodesAreTheBus sc (world_after sc choices)
-nodes-are-the-bus sc lawful choices =
+pub nodes-are-the-bus : {sc : _} → IsLawful sc → (choices : List Choice) → RunningNodesAreTheBus sc (world_after sc choices)
+nodes-are-the-bus {sc} lawful choices =
     let follow : FollowsTheRounds sc (world_after sc choices) = cores-follow sc lawful choices in
     record {
       stands = stands-for sc (world_after sc choices).hands lawful;
-      before = hold-the-bus sc lawful follow;
-      votes = vote-as-the-bus sc lawful follow;
-      accusations = accuse-no-good-node sc lawful follow;
-      next_frames = know-the-next sc lawful follow;
+      before = hold-the-bus lawful follow;
+      votes = vote-as-the-bus lawful follow;
+      accusations = accuse-no-good-node lawful follow;
+      next_frames = know-the-next lawful follow;
     }

@@ -3,7 +3,7 @@
 use Rattle.std.proofs.{Common.{◌≡◌, ℕ, ◌<◌, ◌≤◌, Bool, true, false, List, [], ◌∷◌, ◌++◌, flat_map, length, length-set, option_and_then, refl, ap, sym, ◌∙◌, subst, arith, inl, inr, Option, Some, None, slice_get}, lemmas.Option.{none-some, same_Some}}
 use Rattle.std.specs.Prelude.{⊤}
 use Rattle.rb_base.specs.{Nodes.Side, Nodes.Side.{Biu, Rmu}, declared.values.Delivery.Delivery}
-use Rattle.rb_rules.specs.{declared.closing.Closed.Closed, Book.{Begun, Each, Row, in_order, of_kind}, Core.Act, Goodness.{Scenario, clock_of}, Hearing.{Coming, port_at, port_line}, Lawful.IsLawful, Plan.{longest_of, shortest_of}, Ports.{HandIn, PortState, delivered_to}, Rounds.moment, Clock.time_of, NodeState.NodeState, WorldStep.{Due, Pending, Site, Timed, World, after_act, after_arrival, at_node, happens, pass_and_tick, times_of, with_act, with_delivery, with_pending}, WorldStep.Pending.{Tick, Arrival}}
+use Rattle.rb_rules.specs.{declared.closing.Closed.Closed, Book.{Begun, Row, in_order, of_kind}, Core.Act, Goodness.{Scenario, clock_of}, Hearing.{Coming, port_at, port_line}, Lawful.IsLawful, Plan.{longest_of, shortest_of}, Ports.{HandIn, PortState, delivered_to}, Rounds.moment, Clock.time_of, NodeState.NodeState, WorldStep.{Due, Pending, Site, Timed, World, after_act, after_arrival, at_node, happens, pass_and_tick, times_of, with_act, with_delivery, with_pending}, WorldStep.Pending.{Tick, Arrival}}
 use Rattle.rb_laws_events.specs.Closing.{stages_in}
 use Rattle.rb_laws_events.proofs.{Behind.pend-of, Pace.{Bound, IsWithin}, ToldSoFar.{AllHaveTold, all-have-told, so-far-after, so-far-arrival}, UpToThere.{UpTo, next-le, next-up-to}, CloseOrder.shortest-some, Completing.EventAt, SettledOnce.Settled, DueEvents.{IsReady, every-at, every-back, every-front, every-unflat}, EventNodes.{arrival-at, arrival-site, handed-arrival, ports-arrival, tick-at}, NodeActs.HasRoom, Invariant.{last_tick, next_stage}, NodeEvents.{all-after, tick-after}, PendingLists.StandsAt, PortMoments.has-word, PortsInRounds.{AllHanded, PortsStand, handed-after, line-at-begin, ports-after}, Receiving.every-stands, RoundNodes.slot_numbered, SameHeard.Every, Settling.{RowOfRounds, RowsOfRounds}, SettlingFrames.{BegunInRounds, BegunOfRounds, IsOfMoment, TellRounds, ports_before}, Telling.{begun-then, closed-row, still-tell}, Timing.{AreInTime, HavePassed}, ToldInOrder.{AllTold, one-changes}, WorldEvents.{AfterTick, passed-on, tick-event}, WorldStands.{AllPend, IsDown, IsUp, SitesStand, arrival-keeps-world, sent_by}, WorldTicks.moved}
 use Rattle.rb_rules.proofs.{Drift.HasLengths, Stamps.Moves}
@@ -34,21 +34,21 @@ all-pend w t all = at
     nodes = every-unflat (λ u. t ≤ u) times_of (in_order w.sites) all
 
     at : (me : Side) (i : ℕ) (s : Site) → slice_get (of_kind me w.sites) i ≡ Some s → Every (λ u. t ≤ u) (times_of s)
-    at Biu i s e = every-at (λ s. Every (λ u. t ≤ u) (times_of s)) w.sites.bius i s e (every-front (λ s. Every (λ u. t ≤ u) (times_of s)) w.sites.bius w.sites.rmus (every-unflat (λ u. t ≤ u) times_of (in_order w.sites) all))
-    at Rmu i s e = every-at (λ s. Every (λ u. t ≤ u) (times_of s)) w.sites.rmus i s e (every-back (λ s. Every (λ u. t ≤ u) (times_of s)) w.sites.bius w.sites.rmus (every-unflat (λ u. t ≤ u) times_of (in_order w.sites) all))
+    at Biu i s e = every-at (λ s. Every (λ u. t ≤ u) (times_of s)) w.sites.bius i e (every-front (λ s. Every (λ u. t ≤ u) (times_of s)) w.sites.bius w.sites.rmus (every-unflat (λ u. t ≤ u) times_of (in_order w.sites) all))
+    at Rmu i s e = every-at (λ s. Every (λ u. t ≤ u) (times_of s)) w.sites.rmus i e (every-back (λ s. Every (λ u. t ≤ u) (times_of s)) w.sites.bius w.sites.rmus (every-unflat (λ u. t ≤ u) times_of (in_order w.sites) all))
 
 pub none-stands : (n : ℕ) (c : Coming) (cs : List Coming) → cs ≡ [] → StandsAt n c cs → ⊥
 none-stands n c [] e s = s
 none-stands n c (x ∷ xs) e s = cc
 
 -- the clock of a good node moves
-pub moves-of : (sc : Scenario) → IsLawful sc → (me : Side) (i : ℕ) → HasLengths (shortest_of sc.plan) (longest_of sc.plan) (clock_of sc me i) → Moves (clock_of sc me i)
-moves-of sc lawful me i lengths tick = let low = (lengths tick).0 in let some : 1 ≤ shortest_of sc.plan = shortest-some sc lawful in omega arith
+pub moves-of : {sc : _} → IsLawful sc → (me : Side) (i : ℕ) → HasLengths (shortest_of sc.plan) (longest_of sc.plan) (clock_of sc me i) → Moves (clock_of sc me i)
+moves-of {sc} lawful me i lengths tick = let low = (lengths tick).0 in let some : 1 ≤ shortest_of sc.plan = shortest-some lawful in omega arith
 
-tell-rows : (sc : Scenario) (hands : List HandIn) (sites : Each Site) → TellRounds sc hands sites → (me : Side) (i : ℕ) (s : Site) → slice_get (of_kind me sites) i ≡ Some s
+tell-rows : {sc hands sites : _} → TellRounds sc hands sites → (me : Side) (i : ℕ) {s : _} → slice_get (of_kind me sites) i ≡ Some s
     → ((row : Row) → s.row ≡ Some row → RowOfRounds sc hands me i row) × ((b : Begun) → s.begun ≡ Some b → BegunInRounds sc hands me i b)
 unfolding RowsOfRounds BegunOfRounds
-tell-rows sc hands sites h me i s there = (λ row e. h.rows me i s row there e, λ b e. h.begun me i s b there e)
+tell-rows h me i {s} there = (λ row e. h.rows me i s row there e, λ b e. h.begun me i s b there e)
 
 -- the nodes and the ports after an event; none is beyond moment n
 pub record AfterEvent (sc : Scenario) (at : Side → ℕ → ℕ) (w : World) (n now : ℕ) (x : World) : Type 0 where
@@ -81,11 +81,11 @@ ClosesEarlier sc hands at n me i (Tick k) =
 ClosesEarlier sc hands at n me i (Arrival place c) = ⊤
 
 -- a tick that happens leaves the world in the rounds
-tick-happens : (sc : Scenario) (now : ℕ) (at : Side → ℕ → ℕ) (w : World) (n : ℕ) (me : Side) (i k t : ℕ) (s : Site) (a : Timed) → IsLawful sc → HasRoom sc.plan
+tick-happens : {sc : Scenario} {now : ℕ} {at : Side → ℕ → ℕ} {w : World} {n : ℕ} {me : Side} {i k t : ℕ} {s : Site} {a : Timed} → IsLawful sc → HasRoom sc.plan
     → AreInTime sc w.hands at → WorldInRounds sc now at w → MayHappen sc at w n → ClosesEarlier sc w.hands at n me i (Tick k) → slice_get (of_kind me w.sites) i ≡ Some s → s.ahead ≡ Some a → a.tick ≡ k → a.time ≡ t
     → Every (λ c. t < c.time) s.coming → AllPend t w.sites → AfterEvent sc at w n t (with_act sc w me i k (pass_and_tick sc w.ports me i k s.core))
 unfolding with_act
-tick-happens sc now at w n me i k t s a lawful room times h may early there pend tick time alone first =
+tick-happens {sc} {now} {at} {w} {n} {me} {i} {k} {t} {s} {a} lawful room times h may early there pend tick time alone first =
     let hands : List HandIn = w.hands in
     let x : Act = pass_and_tick sc w.ports me i a.tick s.core in
     let runs : s.runs ≡ true = is-up s.runs refl in
@@ -98,7 +98,7 @@ tick-happens sc now at w n me i k t s a lawful room times h may early there pend
     let port : me ≡ Biu → port_at sc w.ports i ≡ port_at sc (moment sc hands (at me i)).ports i =
     λ e. h.ports i s (ap (λ y. slice_get (of_kind y w.sites) i) (sym e) ∙ there) runs ∙ ap (λ y. port_at sc (moment sc hands (at y i)).ports i) (sym e) in
     let after : AfterTick sc hands at w.sites w.ports me i s a x =
-    tick-event sc hands now at w.sites w.ports me i s a lawful room times h.passed h.sites (record {
+    tick-event lawful room times h.passed h.sites (record {
       there = there;
       runs = runs;
       pend = pend;
@@ -106,21 +106,21 @@ tick-happens sc now at w n me i k t s a lawful room times h may early there pend
       first = subst (λ t. AllPend t w.sites) (sym time) first;
       later = later;
       word = λ st e. has-word sc w.ports (moment sc hands (at me i)) me i st port;
-      next = λ st e last. next-up-to sc hands n (at me i) may.up_to may.stage (closes_early st e last) up.stands.stands.window;
+      next = λ st e last. next-up-to (at me i) may.up_to may.stage (closes_early st e last) up.stands.stands.window;
     }) in
-    let before = tell-rows sc hands w.sites h.tell me i s there in
+    let before = tell-rows h.tell me i there in
     let line : (moment sc hands (at me i)).window ≡ 0 → after.st.epoch ≡ a.tick → port_line me i (port_at sc w.ports i) ≡ port_line me i (port_at sc (ports_before sc hands (at me i)) i) =
-    line-at-begin sc hands at w.sites w.ports me i s a after.st h.handed h.told h.ports there runs pend after.there after.good in
+    line-at-begin w.ports me i h.handed h.told h.ports there runs pend after.there after.good in
     let rows : (row : Row) → (after_act sc w.ports me i x s).row ≡ Some row → RowOfRounds sc hands me i row = λ row e. elim after.node [
       | inl stays ↦ before.0 row (sym (ap (λ (z : Site). z.row) stays.1.site) ∙ e)
-      | inr closes ↦ closed-row sc hands me i (at me i) after.st s row after.stands.window after.there after.frame before.0 (sym closes.1.0.row ∙ e)
+      | inr closes ↦ closed-row sc hands me i (at me i) s after.stands.window after.there after.frame before.0 (sym closes.1.0.row ∙ e)
     ] in
     let begun : (b : Begun) → (after_act sc w.ports me i x s).begun ≡ Some b → BegunInRounds sc hands me i b = λ b e. elim after.node [
       | inl stays ↦
-          begun-then sc hands w.ports me i (at me i) a.tick after.st x s.begun b room after.there after.frame after.stands.window after.stands.keeps after.stands.at stays.1.act.epoch
+          begun-then sc hands w.ports i (at me i) x s.begun room after.there after.frame after.stands.window after.stands.keeps after.stands.at stays.1.act.epoch
           line before.1 (sym (ap (λ (z : Site). z.begun) stays.1.site) ∙ e)
       | inr closes ↦
-          begun-then sc hands w.ports me i (at me i) a.tick after.st x s.begun b room after.there after.frame after.stands.window after.stands.keeps after.stands.at closes.1.0.act.epoch
+          begun-then sc hands w.ports i (at me i) x s.begun room after.there after.frame after.stands.window after.stands.keeps after.stands.at closes.1.0.act.epoch
           line before.1 (sym closes.1.0.begun ∙ e)
     ] in
     let frame : ℕ = x.core.state.frame in
@@ -139,15 +139,15 @@ tick-happens sc now at w n me i k t s a lawful room times h may early there pend
       now_at = moved me i after.r at;
       sites = after.sites_stand;
       passed = after.passed;
-      tell = still-tell sc hands w.sites me i frame a.tick x.message (after_act sc w.ports me i x) s there rows begun h.tell;
-      event = tick-at sc hands now at w.sites w.ports me i s a x lawful room times h.passed h.sites h.told there runs pend after;
+      tell = still-tell me i frame a.tick x.message (after_act sc w.ports me i x) there rows begun h.tell;
+      event = tick-at lawful room times h.passed h.sites h.told there runs pend after;
       many = length-delivery sc i (option_and_then (λ (c : Closed). c.delivered) x.closed) w.ports ∙ h.many;
-      ports = ports-after sc hands at w.sites w.ports me i frame a.tick x.message s a x room.ticks h.many h.handed h.told there runs after h.ports;
-      handed = handed-after sc hands at w.sites w.ports me i frame a.tick x.message s a x h.told there after hands h.handed;
+      ports = ports-after frame a.tick x.message room.ticks h.many h.handed h.told there runs after h.ports;
+      handed = handed-after frame a.tick x.message h.told there after hands h.handed;
       hands = refl;
-      so_far = all-have-told sc hands at w.sites me i frame a.tick after.r x.message (after_act sc w.ports me i x) s there
-          (so-far-after sc hands at w.sites w.ports me i s a x pend after (h.so_far me i s there)) h.so_far;
-      bound = one-changes (λ side j q z. q ≤ n) sc at w.sites me i frame a.tick after.r x.message (after_act sc w.ports me i x) s (λ side j q z le. le) there moves
+      so_far = all-have-told frame a.tick x.message (after_act sc w.ports me i x) there
+          (so-far-after pend after (h.so_far me i s there)) h.so_far;
+      bound = one-changes (λ side j q z. q ≤ n) sc at w.sites me i frame a.tick after.r x.message (after_act sc w.ports me i x) (λ side j q z le. le) there moves
           (λ side j z other e. may.bound side j z e);
     } in
     subst (λ k. AfterEvent sc at w n t (with_act sc w me i k (pass_and_tick sc w.ports me i k s.core))) tick
@@ -158,38 +158,38 @@ tick-happens sc now at w n me i k t s a lawful room times h may early there pend
     is-up false e = let down : IsDown sc w.hands me i (at me i) s = h.sites.down me i s there e in absurd (none-some a (sym down.ahead ∙ pend))
 
 -- an arrival changes nothing of what the nodes have told
-arrival-told : (sc : Scenario) (hands : List HandIn) (sites : Each Site) (me : Side) (i n : ℕ) (c : Coming) (s : Site) → slice_get (of_kind me sites) i ≡ Some s
+arrival-told : {sc hands sites : _} (me : Side) (i n : ℕ) (c : Coming) {s : _} → slice_get (of_kind me sites) i ≡ Some s
     → TellRounds sc hands sites → TellRounds sc hands (at_node me i (after_arrival sc me i n c) sites)
 unfolding after_arrival
-arrival-told sc hands sites me i n c s there h =
-    let before = tell-rows sc hands sites h me i s there in
-    still-tell sc hands sites me i 0 0 None (after_arrival sc me i n c) s there before.0 before.1 h
+arrival-told {sc} me i n c there h =
+    let before = tell-rows h me i there in
+    still-tell me i 0 0 None (after_arrival sc me i n c) there before.0 before.1 h
 
-arrival-happens : (sc : Scenario) (now : ℕ) (at : Side → ℕ → ℕ) (w : World) (most : ℕ) (me : Side) (i n t : ℕ) (c : Coming) (s : Site) → IsLawful sc → HasRoom sc.plan
+arrival-happens : {sc : Scenario} {now : ℕ} {at : Side → ℕ → ℕ} {w : World} {most : ℕ} (me : Side) (i n : ℕ) {t : ℕ} (c : Coming) {s : Site} → IsLawful sc → HasRoom sc.plan
     → AreInTime sc w.hands at → WorldInRounds sc now at w → MayHappen sc at w most → slice_get (of_kind me w.sites) i ≡ Some s → StandsAt n c s.coming → c.time ≡ t → AllPend t w.sites
     → AfterEvent sc at w most t (record w { sites = at_node me i (after_arrival sc me i n c) w.sites })
-arrival-happens sc now at w most me i n t c s lawful room times h may there stands time first =
+arrival-happens {sc} {now} {at} {w} {most} me i n {t} c {s} lawful room times h may there stands time first =
     let hands : List HandIn = w.hands in
     let runs : s.runs ≡ true = is-up s.runs refl in
     let up : IsUp sc hands (sent_by sc hands at w.sites) now me i (at me i) s = h.sites.up me i s there runs in
-    let later : now ≤ c.time = every-stands (λ c. now ≤ c.time) n c s.coming stands up.stands.receives.coming_after in
+    let later : now ≤ c.time = every-stands (λ c. now ≤ c.time) n s.coming stands up.stands.receives.coming_after in
     let pend : AllPend c.time w.sites = subst (λ t. AllPend t w.sites) (sym time) first in
     let own : Every (λ u. c.time ≤ u) (times_of s) = pend-of c.time w.sites pend me i s there in
     let lengths : HasLengths (shortest_of sc.plan) (longest_of sc.plan) (clock_of sc me i) =
-    good-clock sc lawful me i (moment sc hands (at me i)).frame (slot_numbered sc.sizes (moment sc hands (at me i)).window) up.stands.good in
+    good-clock lawful me i (moment sc hands (at me i)).frame (slot_numbered sc.sizes (moment sc hands (at me i)).window) up.stands.good in
     let done : AfterEvent sc at w most c.time (record w { sites = at_node me i (after_arrival sc me i n c) w.sites }) = record {
       now_at = at;
-      sites = arrival-keeps-world sc hands now at w.sites me i n c s (moves-of sc lawful me i lengths) there runs later pend
-          (λ a e. record { at = stands; least = all-after c.time s.ahead s.coming own; before_tick = tick-after c.time s.ahead a s.coming e own }) h.sites;
-      passed = passed-on sc hands now c.time at later h.passed;
-      tell = arrival-told sc hands w.sites me i n c s there h.tell;
-      event = arrival-at sc hands now at w.sites me i n c s room times h.passed h.sites h.told there runs;
+      sites = arrival-keeps-world me i n c (moves-of lawful me i lengths) there runs later pend
+          (λ a e. record { at = stands; least = all-after c.time s.ahead s.coming own; before_tick = tick-after c.time s.ahead s.coming e own }) h.sites;
+      passed = passed-on c.time later h.passed;
+      tell = arrival-told me i n c there h.tell;
+      event = arrival-at me i n c room times h.passed h.sites h.told there runs;
       many = h.many;
       ports = ports-arrival sc hands at w.sites w.ports me i n c h.ports;
       handed = handed-arrival sc w.sites me i n c hands h.handed;
       hands = refl;
-      so_far = so-far-arrival sc hands at w.sites me i n c h.so_far;
-      bound = λ side j z e. let old = arrival-site sc w.sites me i n c side j z e in may.bound side j old.0 old.1.0;
+      so_far = so-far-arrival me i n c h.so_far;
+      bound = λ side j z e. let old = arrival-site sc w.sites me i n c side j e in may.bound side j old.0 old.1.0;
     } in
     subst (λ t. AfterEvent sc at w most t (record w { sites = at_node me i (after_arrival sc me i n c) w.sites })) time done
   where
@@ -198,22 +198,22 @@ arrival-happens sc now at w most me i n t c s lawful room times h may there stan
     is-up false e = let down : IsDown sc w.hands me i (at me i) s = h.sites.down me i s there e in absurd (none-stands n c s.coming down.coming stands)
 
 -- a node with a pending tick runs
-pub up-there : (sc : Scenario) (now : ℕ) (at : Side → ℕ → ℕ) (w : World) (me : Side) (i : ℕ) (s : Site) (a : Timed) → SitesStand sc w.hands now at w.sites
+pub up-there : {sc now at : _} (w : World) (me : Side) (i : ℕ) {s a : _} → SitesStand sc w.hands now at w.sites
     → slice_get (of_kind me w.sites) i ≡ Some s → s.ahead ≡ Some a → IsUp sc w.hands (sent_by sc w.hands at w.sites) now me i (at me i) s
-up-there sc now at w me i s a h there pend = by s.runs refl
+up-there {sc} {now} {at} w me i {s} {a} h there pend = by s.runs refl
   where
     by : (b : Bool) → s.runs ≡ b → IsUp sc w.hands (sent_by sc w.hands at w.sites) now me i (at me i) s
     by true e = h.up me i s there e
     by false e = let down : IsDown sc w.hands me i (at me i) s = h.down me i s there e in absurd (none-some a (sym down.ahead ∙ pend))
 
-pub happens-is : (sc : Scenario) (w : World) (d : Due) (s : Site) → slice_get (of_kind d.side w.sites) d.node ≡ Some s → happens sc w d ≡ with_pending sc w d.side d.node s d.pending
+pub happens-is : (sc : Scenario) (w : World) (d : Due) {s : _} → slice_get (of_kind d.side w.sites) d.node ≡ Some s → happens sc w d ≡ with_pending sc w d.side d.node s d.pending
 unfolding happens
-happens-is sc w d s there = ap (λ o. elim o as (λ _. World) [ None ↦ w | Some s ↦ with_pending sc w d.side d.node s d.pending ]) there
+happens-is sc w d {s} there = ap (λ o. elim o as (λ _. World) [ None ↦ w | Some s ↦ with_pending sc w d.side d.node s d.pending ]) there
 
-pub pending-happens : (sc : Scenario) (now : ℕ) (at : Side → ℕ → ℕ) (w : World) (most : ℕ) (me : Side) (i t : ℕ) (s : Site) (p : Pending) → IsLawful sc → HasRoom sc.plan
+pub pending-happens : {sc : Scenario} {now : ℕ} {at : Side → ℕ → ℕ} {w : World} {most : ℕ} (me : Side) (i : ℕ) {t : ℕ} {s : Site} (p : Pending) → IsLawful sc → HasRoom sc.plan
     → AreInTime sc w.hands at → WorldInRounds sc now at w → MayHappen sc at w most → ClosesEarlier sc w.hands at most me i p
     → slice_get (of_kind me w.sites) i ≡ Some s → IsReady t s p → AllPend t w.sites → AfterEvent sc at w most t (with_pending sc w me i s p)
-pending-happens sc now at w most me i t s (Tick k) lawful room times h may early there ready first =
-    tick-happens sc now at w most me i k t s ready.0 lawful room times h may early there ready.1.0 ready.1.1.0 ready.1.1.1.0 ready.1.1.1.1 first
-pending-happens sc now at w most me i t s (Arrival n c) lawful room times h may early there ready first =
-    arrival-happens sc now at w most me i n t c s lawful room times h may there ready.0 ready.1 first
+pending-happens me i (Tick k) lawful room times h may early there ready first =
+    tick-happens lawful room times h may early there ready.1.0 ready.1.1.0 ready.1.1.1.0 ready.1.1.1.1 first
+pending-happens me i (Arrival n c) lawful room times h may early there ready first =
+    arrival-happens me i n c lawful room times h may there ready.0 ready.1 first

@@ -7,16 +7,16 @@ use Rattle.rb_laws_events.specs.Closing.{stages_in}
 use Rattle.rb_laws_events.proofs.{Behind.begins-at, HandedIn.{AreEarly, passed-handed, port-handed, sites-handed, tell-handed, told-handed}, HandedMoments.{Alike, handed-alike}, MomentBooks.{next_of, number-of, place_at, settles-next, SettlesNext}, NodeActs.HasRoom, ToldSoFar.so-far-handed, OneEvent.WorldInRounds, RoundNodes.slot_numbered, SameHeard.Every, SettlingFrames.{IsOfMoment, RunsIn, runs-in}, Waiting.AfterRecord}
 
 -- a book that settles a frame's first stage next is that of the frame's first moment
-at-first : (sc : Scenario) (hands : List HandIn) (b : Book) (frame : ℕ) → 1 ≤ sc.sizes.bius → IsOfMoment sc hands b → b.ended ≡ false
+at-first : (sc : Scenario) (hands : List HandIn) {b : _} (frame : ℕ) → 1 ≤ sc.sizes.bius → IsOfMoment sc hands b → b.ended ≡ false
     → b.upcoming ≡ (if frame == sc.frames then End else Stage (record { frame = frame; slot = 0; stage = 1 }))
     → (g : ℕ) × ((g ≡ frame * (windows_in sc.sizes + 1)) × (b ≡ (moment sc hands g).book))
 unfolding SettlesNext
-at-first sc hands b frame some (inl fresh) going up = absurd (never (frame == sc.frames) (sym (ap (λ (b : Book). b.upcoming) fresh) ∙ up))
+at-first sc hands {b} frame some (inl fresh) going up = absurd (never (frame == sc.frames) (sym (ap (λ (b : Book). b.upcoming) fresh) ∙ up))
   where
     never : (t : Bool) → Begin 0 ≡ (if t then End else Stage (record { frame = frame; slot = 0; stage = 1 })) → ⊥
     never true e = cc
     never false e = cc
-at-first sc hands b frame some (inr at) going up =
+at-first sc hands {b} frame some (inr at) going up =
     let g : ℕ = at.0 in
     let m : Moment = moment sc hands g in
     let runs : m.book.ended ≡ false = sym (ap (λ (b : Book). b.ended) at.1) ∙ going in
@@ -76,14 +76,14 @@ handed sc now at w biu state frame lawful room h turn good =
     let a : AfterRecord sc at w frame = h.settled.turn frame turn in
     let some : 1 ≤ sc.sizes.bius = lawful.sizes.some_biu in
     let early : AreEarly sc at w.sites frame = record { some_biu = some; early = a.near } in
-    let book = at-first sc hands w.book frame some h.book a.going a.next in
+    let book = at-first sc hands frame some h.book a.going a.next in
     let alike : Alike sc (moment sc hands book.0) (moment sc more book.0) = handed-alike sc hands x book.0 (omega (arith, book.1.0, some)) in
     record {
       stands = record {
-        sites = sites-handed sc hands x now at w.sites early h.sites;
-        passed = passed-handed sc hands x now at w.sites early h.sites.counts h.passed;
-        tell = tell-handed sc hands x at w.sites early h.told h.tell;
-        told = told-handed sc hands x at w.sites early h.told;
+        sites = sites-handed x early h.sites;
+        passed = passed-handed x early h.sites.counts h.passed;
+        tell = tell-handed x early h.told h.tell;
+        told = told-handed x early h.told;
         book = inr (book.0, book.1.1 ∙ sym (ap (λ (m : Moment). m.book) alike.is));
         many = with-state-long biu state w.ports ∙ h.many;
         ports = λ j s there runs.
@@ -102,7 +102,7 @@ handed sc now at w biu state frame lawful room h turn good =
           waits = h.settled.waits;
           turn = λ frame e. let a : AfterRecord sc at w frame = h.settled.turn frame e in record { begun = a.begun; near = a.near; going = a.going; next = a.next };
         };
-        so_far = so-far-handed sc hands x at w.sites early h.so_far;
+        so_far = so-far-handed x early h.so_far;
         bound = h.bound;
       };
       sites = refl;
@@ -111,17 +111,17 @@ handed sc now at w biu state frame lawful room h turn good =
         (
           ap (λ (m : Moment). m.book.ended) alike.is ∙ sym (ap (λ (b : Book). b.ended) book.1.1) ∙ a.going,
           (
-            (begins-at sc more book.0 frame book.1.0).1,
+            (begins-at sc more frame book.1.0).1,
             λ me i s there. let le : at me i ≤ frame * (windows_in sc.sizes + 1) + 1 = a.near me i s there in omega (arith, le, book.1.0),
           ),
         ),
       );
     }
 
-pub hand-keeps : (sc : Scenario) (now : ℕ) (at : Side → ℕ → ℕ) (w : World) (biu state : ℕ) → IsLawful sc → HasRoom sc.plan → WorldInRounds sc now at w
+pub hand-keeps : {sc now at w : _} (biu state : ℕ) → IsLawful sc → HasRoom sc.plan → WorldInRounds sc now at w
     → HandsIn sc now at w (hand sc w biu state)
 unfolding hand
-hand-keeps sc now at w biu state lawful room h = by (frame_in w.turn) refl
+hand-keeps {sc} {now} {at} {w} biu state lawful room h = by (frame_in w.turn) refl
   where
     by : (o : Option ℕ) → frame_in w.turn ≡ o → HandsIn sc now at w (elim o as (λ _. World) [
       | None ↦ w

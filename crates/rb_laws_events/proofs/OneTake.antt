@@ -55,11 +55,11 @@ settle-ports sc way (suc n) w = by (record_since w (settle_next sc way w)) (sett
     by (Some r) rest = next-ports
 
 -- what is settled changes the book and the turn alone
-pub settled-stands : (sc : Scenario) (now : ℕ) (at : Side → ℕ → ℕ) (x y : World) (hands : List HandIn) → y.sites ≡ x.sites → y.hands ≡ hands → y.ports ≡ x.ports
+pub settled-stands : {sc : Scenario} {now : ℕ} {at : Side → ℕ → ℕ} (x : World) {y : World} {hands : List HandIn} → y.sites ≡ x.sites → y.hands ≡ hands → y.ports ≡ x.ports
     → SitesStand sc hands now at x.sites → HavePassed sc hands now at → TellRounds sc hands x.sites → AllTold sc hands at x.sites → IsOfMoment sc hands y.book
     → length x.ports ≡ sc.sizes.bius → PortsStand sc hands at x.sites x.ports → AllHanded sc x.sites hands → Settled sc at y → AllHaveTold sc hands at x.sites → Bound sc at x.sites y.book
     → WorldInRounds sc now at y
-settled-stands sc now at x y hands same_sites same_hands same_ports sites passed tell told book many ports handed settled so_far bound = record {
+settled-stands {sc} {now} {at} x {y} {hands} same_sites same_hands same_ports sites passed tell told book many ports handed settled so_far bound = record {
   sites = subst (λ hs. SitesStand sc hs now at y.sites) (sym same_hands) (subst (SitesStand sc hands now at) (sym same_sites) sites);
   passed = subst (λ hs. HavePassed sc hs now at) (sym same_hands) passed;
   tell = subst (λ hs. TellRounds sc hs y.sites) (sym same_hands) (subst (TellRounds sc hands) (sym same_sites) tell);
@@ -74,8 +74,8 @@ settled-stands sc now at x y hands same_sites same_hands same_ports sites passed
   bound = subst (λ sites. Bound sc at sites y.book) (sym same_sites) bound;
 }
 
-pub is-paced : (sc : Scenario) (now : ℕ) (at : Side → ℕ → ℕ) (w : World) → WorldInRounds sc now at w → Paced sc at w.sites w.book
-is-paced sc now at w h = record {
+pub is-paced : {sc now at w : _} → WorldInRounds sc now at w → Paced sc at w.sites w.book
+is-paced {sc} {w} h = record {
   bound = h.bound;
   waits = λ going needs. not-complete (needs_no_event sc w.book.upcoming) (is_complete sc w.sites w.book.upcoming) needs (h.settled.waits going);
 }
@@ -85,15 +85,15 @@ is-paced sc now at w h = record {
     not-complete false b e h = h
 
 -- what waits in a world if the next record needs an event
-pub world-waits : (sc : Scenario) (now : ℕ) (at : Side → ℕ → ℕ) (w : World) → WorldInRounds sc now at w → w.book.ended ≡ false → needs_no_event sc w.book.upcoming ≡ false
+pub world-waits : {sc now at w : _} → WorldInRounds sc now at w → w.book.ended ≡ false → needs_no_event sc w.book.upcoming ≡ false
     → (n : ℕ) × WaitsAt sc w.hands at w.sites w.book n
-world-waits sc now at w h going needs =
-    waits-at sc w.hands now at w.sites w.book h.sites h.so_far (is-paced sc now at w h) going needs h.book
+world-waits h going needs =
+    waits-at h.sites h.so_far (is-paced h) going needs h.book
 
 -- the nodes are in time where they stand
-pub are-in-time : (sc : Scenario) (now : ℕ) (at : Side → ℕ → ℕ) (w : World) (n : ℕ) → WorldInRounds sc now at w → MayHappen sc at w n
+pub are-in-time : {sc now at w n : _} → WorldInRounds sc now at w → MayHappen sc at w n
     → AreInTime sc w.hands at
-are-in-time sc now at w n h may =
+are-in-time {sc} {now} {at} {w} {n} h may =
     let hands : List HandIn = w.hands in
     let site : (me : Side) (i frame slot : ℕ) → is_good sc me i frame slot ≡ true → (s : Site) × (slice_get (of_kind me w.sites) i ≡ Some s) =
     λ me i frame slot good.
@@ -103,7 +103,7 @@ are-in-time sc now at w n h may =
     let within : (me : Side) (i : ℕ) → is_good_at sc (moment sc hands (at me i)) me i ≡ true → (at me i ≤ n) × ((moment sc hands (at me i)).window ≤ stages_in sc.sizes) =
     λ me i good.
     let s = site me i (moment sc hands (at me i)).frame (slot_numbered sc.sizes (moment sc hands (at me i)).window) good in
-    let up : IsUp sc hands (sent_by sc hands at w.sites) now me i (at me i) s.0 = h.sites.up me i s.0 s.1 (runs-there sc hands now at w.sites h.sites me i s.0 s.1 good) in
+    let up : IsUp sc hands (sent_by sc hands at w.sites) now me i (at me i) s.0 = h.sites.up me i s.0 s.1 (runs-there h.sites me i s.1 good) in
     (may.bound me i s.0 s.1, up.stands.stands.window) in
     record {
       each = λ me i good. let in_it = within me i good in may.up_to.times (at me i) in_it.0 in_it.1;
@@ -123,9 +123,9 @@ pub record StandsUpTo (sc : Scenario) (hands : List HandIn) (n : ℕ) (w : World
 
 -- if the next record needs an event, no event closes the window of the moment at which the book
 -- waits
-pub closes-earlier : (sc : Scenario) (now : ℕ) (at : Side → ℕ → ℕ) (w : World) (n : ℕ) (d : Due) → IsLawful sc → WorldInRounds sc now at w → WaitsAt sc w.hands at w.sites w.book n
+pub closes-earlier : {sc now at w n d : _} → IsLawful sc → WorldInRounds sc now at w → WaitsAt sc w.hands at w.sites w.book n
     → UpTo sc w.hands n → (due : IsDue w d) → ClosesEarlier sc w.hands at n d.side d.node d.pending
-closes-earlier sc now at w n d lawful h waits up_to due = by d.pending due.ready
+closes-earlier {sc} {now} {at} {w} {n} {d} lawful h waits up_to due = by d.pending due.ready
   where
     by : (p : Pending) → IsReady due.t due.s p → ClosesEarlier sc w.hands at n d.side d.node p
     by (Arrival place c) ready = tt
@@ -134,40 +134,40 @@ closes-earlier sc now at w n d lawful h waits up_to due = by d.pending due.ready
         let i : ℕ = d.node in
         let s : Site = due.s in
         let a : Timed = ready.0 in
-        let up : IsUp sc w.hands (sent_by sc w.hands at w.sites) now me i (at me i) s = up-there sc now at w me i s a h.sites due.there ready.1.0 in
+        let up : IsUp sc w.hands (sent_by sc w.hands at w.sites) now me i (at me i) s = up-there w me i h.sites due.there ready.1.0 in
         let same : up.a ≡ a = same_Some up.a a (sym up.stands.receives.pends ∙ ready.1.0) in
         let later : now ≤ a.time = subst (λ (b : Timed). now ≤ b.time) same up.stands.receives.tick_after in
         let at_time : a.time ≡ time_of (clock_of sc me i) a.tick = subst (λ (b : Timed). b.time ≡ time_of (clock_of sc me i) b.tick) same up.stands.receives.at_time in
-        closes-before sc w.hands now a.time at w.sites n lawful later h.sites h.passed (subst (λ t. AllPend t w.sites) (sym ready.1.1.1.0) (all-pend w due.t due.first)) waits.stage waits.behind
-        (λ q lt within. up_to.times q (omega arith) within) up_to.well me i (at me i) refl
+        closes-before lawful later h.sites h.passed (subst (λ t. AllPend t w.sites) (sym ready.1.1.1.0) (all-pend w due.t due.first)) waits.stage waits.behind
+        (λ q lt within. up_to.times q (omega arith) within) up_to.well refl
         (record { st = st; state = e; good = up.stands.good; time = at_time ∙ ap (time_of (clock_of sc me i)) (ready.1.1.0 ∙ last) }) (waits.bound me i s due.there)
 
 -- a due event that is taken keeps the world in the rounds, and leaves the book one of the rounds
-pub take-keeps : (sc : Scenario) (now : ℕ) (at : Side → ℕ → ℕ) (w : World) (d : Due) → IsLawful sc → HasRoom sc.plan → WorldInRounds sc now at w
-    → (n : ℕ) → MayHappen sc at w n → w.book.ended ≡ false → (due : IsDue w d) → ClosesEarlier sc w.hands at n d.side d.node d.pending
+pub take-keeps : {sc now at w d : _} → IsLawful sc → HasRoom sc.plan → WorldInRounds sc now at w
+    → {n : ℕ} → MayHappen sc at w n → w.book.ended ≡ false → (due : IsDue w d) → ClosesEarlier sc w.hands at n d.side d.node d.pending
     → StandsUpTo sc w.hands n (take_if_due sc w (Some d))
-take-keeps sc now at w d lawful room h n may going due early =
+take-keeps {sc} {now} {at} {w} {d} lawful room h {n} may going due early =
     let x : World = happens sc w d in
     let y : World = settle sc ByAnEvent 2 x in
-    let times : AreInTime sc w.hands at = are-in-time sc now at w n h may in
+    let times : AreInTime sc w.hands at = are-in-time h may in
     let event : AfterEvent sc at w n due.t (with_pending sc w d.side d.node due.s d.pending) =
-    pending-happens sc now at w n d.side d.node due.t due.s d.pending lawful room times h may early due.there due.ready (all-pend w due.t due.first) in
-    let after : AfterEvent sc at w n due.t x = subst (AfterEvent sc at w n due.t) (sym (happens-is sc w d due.s due.there)) event in
+    pending-happens d.side d.node d.pending lawful room times h may early due.there due.ready (all-pend w due.t due.first) in
+    let after : AfterEvent sc at w n due.t x = subst (AfterEvent sc at w n due.t) (sym (happens-is sc w d due.there)) event in
     let same_book : x.book ≡ w.book = happens-book sc w d in
     let is : IsOfMoment sc w.hands x.book = subst (IsOfMoment sc w.hands) (sym same_book) h.book in
     let waits : is_due sc w.sites x.book.upcoming ≡ false = ap (λ (b : Book). is_due sc w.sites b.upcoming) same_book ∙ h.settled.waits going in
     let within : Bound sc after.now_at x.sites x.book =
     λ going me i s there. subst (λ (b : Book). IsWithin sc.sizes b.upcoming (after.now_at me i)) (sym same_book) (may.within (after.now_at me i) (after.bound me i s there)) in
-    let paced : Paced sc after.now_at x.sites y.book = event-paced sc w.hands after.now_at x x.sites lawful.sizes refl after.sites.counts after.event.told within in
+    let paced : Paced sc after.now_at x.sites y.book = event-paced x lawful.sizes refl after.sites.counts after.event.told within in
     let same_sites : y.sites ≡ x.sites = settle-sites sc ByAnEvent 2 x in
     let same_hands : y.hands ≡ w.hands = settle-hands sc ByAnEvent 2 x ∙ after.hands in
     record {
       stands = record {
         now = due.t;
         at = after.now_at;
-        stands = settled-stands sc due.t after.now_at x y w.hands same_sites same_hands (settle-ports sc ByAnEvent 2 x)
-            after.sites after.passed after.tell after.event.told (all-settled sc ByAnEvent 2 x w.hands x.sites room.ticks after.hands refl after.tell is) after.many after.ports after.handed
-            (event-settled sc w.hands at after.now_at w.sites x after.event (ap (λ (b : Book). b.ended) same_book ∙ going) is waits) after.so_far paced.bound;
+        stands = settled-stands x same_sites same_hands (settle-ports sc ByAnEvent 2 x)
+            after.sites after.passed after.tell after.event.told (all-settled ByAnEvent 2 x room.ticks after.hands refl after.tell is) after.many after.ports after.handed
+            (event-settled x after.event (ap (λ (b : Book). b.ended) same_book ∙ going) is waits) after.so_far paced.bound;
       };
       hands_are = same_hands;
       bound = λ me i s there. after.bound me i s (ap (λ sites. slice_get (of_kind me sites) i) (sym same_sites) ∙ there);

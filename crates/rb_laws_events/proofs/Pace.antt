@@ -76,8 +76,8 @@ Bound sc at sites b = b.ended ≡ false → (me : Side) (i : ℕ) (s : Site) →
 abbrev pub Waits : Scenario → Each Site → Book → Type 0
 Waits sc sites b = b.ended ≡ false → needs_no_event sc b.upcoming ≡ false → is_complete sc sites b.upcoming ≡ false
 
-still-running : (b x : Book) → GoesOn b x → x.ended ≡ false → b.ended ≡ false
-still-running b x on h = by b.ended refl
+still-running : {b x : _} → GoesOn b x → x.ended ≡ false → b.ended ≡ false
+still-running {b} on h = by b.ended refl
   where
     by : (e : Bool) → b.ended ≡ e → e ≡ false
     by true e = true-false (sym e ∙ sym (ap (λ (b : Book). b.ended) (on.over e)) ∙ h)
@@ -111,46 +111,46 @@ frame-upcoming sc frame begun b = by b.ended refl
     by false e h = refl
 
 -- a milestone that is settled leaves all within the next
-pub settled-bound : (sc : Scenario) (at : Side → ℕ → ℕ) (sites : Each Site) (b : Book) (m : Milestone) → b.upcoming ≡ m → Bound sc at sites b → Bound sc at sites (book_with sc sites b m)
-settled-bound sc at sites b (Begin frame) e bound going me i s there =
-    let was : IsWithin sc.sizes b.upcoming (at me i) = bound (still-running b (book_with sc sites b (Begin frame)) (book-on sc sites b (Begin frame)) going) me i s there in
+pub settled-bound : (sc : Scenario) (at : Side → ℕ → ℕ) {sites : _} (b : Book) (m : Milestone) → b.upcoming ≡ m → Bound sc at sites b → Bound sc at sites (book_with sc sites b m)
+settled-bound sc at {sites} b (Begin frame) e bound going me i s there =
+    let was : IsWithin sc.sizes b.upcoming (at me i) = bound (still-running (book-on sc sites b (Begin frame)) going) me i s there in
     let le : at me i ≤ frame * (windows_in sc.sizes + 1) = subst (λ m. IsWithin sc.sizes m (at me i)) e was in
     subst (λ m. IsWithin sc.sizes m (at me i)) (sym (frame-upcoming sc frame _ b going)) (frame-within sc frame (at me i) le)
-settled-bound sc at sites b (Stage place) e bound going me i s there =
-    let was : IsWithin sc.sizes b.upcoming (at me i) = bound (still-running b (book_with sc sites b (Stage place)) (book-on sc sites b (Stage place)) going) me i s there in
+settled-bound sc at {sites} b (Stage place) e bound going me i s there =
+    let was : IsWithin sc.sizes b.upcoming (at me i) = bound (still-running (book-on sc sites b (Stage place)) going) me i s there in
     let le : at me i ≤ number_of sc.sizes (after_stage sc.sizes place) = subst (λ m. IsWithin sc.sizes m (at me i)) e was in
     subst (λ m. IsWithin sc.sizes m (at me i)) (sym (stage-book-next sc place _ b going)) (after-within sc.sizes place (at me i) le)
-settled-bound sc at sites b End e bound going me i s there = true-false (sym (ended-end b) ∙ going)
+settled-bound sc at b End e bound going me i s there = true-false (sym (ended-end b) ∙ going)
 
 -- a stage that nobody has closed is not complete
-pub stage-waits : (sc : Scenario) (hands : List HandIn) (at : Side → ℕ → ℕ) (sites : Each Site) (place : Place) → ((me : Side) → length (of_kind me sites) ≡ count_of me sc.sizes)
+pub stage-waits : {sc : Scenario} {hands : List HandIn} {at : Side → ℕ → ℕ} {sites : Each Site} (place : Place) → ((me : Side) → length (of_kind me sites) ≡ count_of me sc.sizes)
     → AllTold sc hands at sites → ((me : Side) (i : ℕ) (s : Site) → slice_get (of_kind me sites) i ≡ Some s → at me i ≤ number_at sc.sizes place)
     → needs_no_event sc (Stage place) ≡ false → is_complete sc sites (Stage place) ≡ false
-stage-waits sc hands at sites place counts told before needs =
+stage-waits {sc} {at} {sites} place counts told before needs =
     let good = somebody sc place.frame place.slot needs in
     let me : Side = good.0 in
     let i : ℕ = good.1.0 in
     let counted : i < count_of me sc.sizes = good_counts sc me i place.frame place.slot good.1.1 in
     let long : length (of_kind me sites) ≡ count_of me sc.sizes = counts me in
     let site = item-at (of_kind me sites) i (omega arith) in
-    untold sc place.frame place.slot (λ (s : Site). row_for place s.row) sites me i site.0 site.1 good.1.1
+    untold sc place.frame place.slot (λ (s : Site). row_for place s.row) sites me i site.1 good.1.1
     (no-row sc.sizes place site.0.row (λ row e.
     let lt : number_at sc.sizes row.place < at me i = (told me i site.0 site.1).row row e in
     let le : at me i ≤ number_at sc.sizes place = before me i site.0 site.1 in
     omega arith))
 
 -- the start of a frame after which the book waits for the first stage
-begin-waits : (sc : Scenario) (hands : List HandIn) (at : Side → ℕ → ℕ) (sites : Each Site) (frame : ℕ) → ((me : Side) → length (of_kind me sites) ≡ count_of me sc.sizes)
+begin-waits : {sc : Scenario} {hands : List HandIn} {at : Side → ℕ → ℕ} {sites : Each Site} (frame : ℕ) → ((me : Side) → length (of_kind me sites) ≡ count_of me sc.sizes)
     → AllTold sc hands at sites → ((me : Side) (i : ℕ) (s : Site) → slice_get (of_kind me sites) i ≡ Some s → at me i ≤ frame * (windows_in sc.sizes + 1))
-    → (m : Milestone) → m ≡ (if frame == sc.frames then End else Stage (record { frame = frame; slot = 0; stage = 1 })) → needs_no_event sc m ≡ false → is_complete sc sites m ≡ false
-begin-waits sc hands at sites frame counts told before m e =
+    → {m : Milestone} → m ≡ (if frame == sc.frames then End else Stage (record { frame = frame; slot = 0; stage = 1 })) → needs_no_event sc m ≡ false → is_complete sc sites m ≡ false
+begin-waits {sc} {at} {sites} frame counts told before {m} e =
     subst (λ m. needs_no_event sc m ≡ false → is_complete sc sites m ≡ false) (sym e) (by (frame == sc.frames))
   where
     by : (b : Bool) → needs_no_event sc (if b then End else Stage (record { frame = frame; slot = 0; stage = 1 })) ≡ false
         → is_complete sc sites (if b then End else Stage (record { frame = frame; slot = 0; stage = 1 })) ≡ false
     by true h = true-false h
     by false h =
-        stage-waits sc hands at sites (record { frame = frame; slot = 0; stage = 1 }) counts told
+        stage-waits (record { frame = frame; slot = 0; stage = 1 }) counts told
         (λ me i s there. let le : at me i ≤ frame * (windows_in sc.sizes + 1) = before me i s there in omega arith) h
 
 -- `place` is the last stage of a frame
@@ -159,16 +159,15 @@ pub record IsLastStage (sc : Scenario) (place : Place) : Type 0 where
   pub slot : (place.slot == sync_slot_of sc.sizes) ≡ true
 
 -- after any milestone but the last stage of a frame the book waits for what is not complete
-pub settled-waits : (sc : Scenario) (hands : List HandIn) (at : Side → ℕ → ℕ) (sites : Each Site) (b : Book) (m : Milestone) → b.upcoming ≡ m
+pub settled-waits : {sc : Scenario} {hands : List HandIn} {at : Side → ℕ → ℕ} {sites : Each Site} (b : Book) (m : Milestone) → b.upcoming ≡ m
     → ((me : Side) → length (of_kind me sites) ≡ count_of me sc.sizes) → AllTold sc hands at sites → Bound sc at sites b
     → Waits sc sites (book_with sc sites b m) ⊎ ((place : Place) × ((m ≡ Stage place) × IsLastStage sc place))
-settled-waits sc hands at sites b End e counts told bound = inl (λ going. true-false (sym (ended-end b) ∙ going))
-settled-waits sc hands at sites b (Begin frame) e counts told bound =
+settled-waits b End e counts told bound = inl (λ going. true-false (sym (ended-end b) ∙ going))
+settled-waits {sc} {at} {sites} b (Begin frame) e counts told bound =
     inl (λ going needs.
-    begin-waits sc hands at sites frame counts told
-    (λ me i s there. subst (λ m. IsWithin sc.sizes m (at me i)) e (bound (still-running b (book_with sc sites b (Begin frame)) (book-on sc sites b (Begin frame)) going) me i s there))
-    (book_with sc sites b (Begin frame)).upcoming (frame-upcoming sc frame _ b going) needs)
-settled-waits sc hands at sites b (Stage place) e counts told bound = by (nat_lt place.stage 3) (place.slot == sync_slot_of sc.sizes) refl refl
+    begin-waits frame counts told
+    (λ me i s there. subst (λ m. IsWithin sc.sizes m (at me i)) e (bound (still-running (book-on sc sites b (Begin frame)) going) me i s there)) (frame-upcoming sc frame _ b going) needs)
+settled-waits {sc} {at} {sites} b (Stage place) e counts told bound = by (nat_lt place.stage 3) (place.slot == sync_slot_of sc.sizes) refl refl
   where
     after : (early last : Bool) → nat_lt place.stage 3 ≡ early → (place.slot == sync_slot_of sc.sizes) ≡ last → (place2 : Place) → then_stage sc.sizes place early last ≡ Stage place2
         → Waits sc sites (book_with sc sites b (Stage place))
@@ -176,10 +175,10 @@ settled-waits sc hands at sites b (Stage place) e counts told bound = by (nat_lt
         let up : (book_with sc sites b (Stage place)).upcoming ≡ Stage place2 =
         stage-book-next sc place _ b going ∙ ap (λ t. then_stage sc.sizes place t (place.slot == sync_slot_of sc.sizes)) f ∙ ap (then_stage sc.sizes place early) g ∙ is in
         subst (λ m. is_complete sc sites m ≡ false) (sym up)
-        (stage-waits sc hands at sites place2 counts told
+        (stage-waits place2 counts told
         (λ me i s there.
         let le : at me i ≤ number_of sc.sizes (after_stage sc.sizes place) =
-        subst (λ m. IsWithin sc.sizes m (at me i)) e (bound (still-running b (book_with sc sites b (Stage place)) (book-on sc sites b (Stage place)) going) me i s there) in
+        subst (λ m. IsWithin sc.sizes m (at me i)) e (bound (still-running (book-on sc sites b (Stage place)) going) me i s there) in
         subst (λ m. at me i ≤ number_of sc.sizes m) (ap (λ t. then_stage sc.sizes place t (place.slot == sync_slot_of sc.sizes)) f ∙ ap (then_stage sc.sizes place early) g ∙ is) le)
         (ap (needs_no_event sc) (sym up) ∙ needs))
 
@@ -218,9 +217,9 @@ pub record Paced (sc : Scenario) (at : Side → ℕ → ℕ) (sites : Each Site)
   pub bound : Bound sc at sites b
   pub waits : Waits sc sites b
 
-next-bound : (sc : Scenario) (at : Side → ℕ → ℕ) (way : Way) (w : World) (sites : Each Site) → w.sites ≡ sites → Bound sc at sites w.book → Bound sc at sites (settle_next sc way w).book
-next-bound sc at way w sites same bound = elim (next-cases sc way w) [
-  | inl on ↦ subst (Bound sc at sites) (sym on.book) (subst (λ x. Bound sc at sites (book_with sc x w.book w.book.upcoming)) (sym same) (settled-bound sc at sites w.book w.book.upcoming refl bound))
+next-bound : (sc : Scenario) (at : Side → ℕ → ℕ) (way : Way) (w : World) {sites : _} → w.sites ≡ sites → Bound sc at sites w.book → Bound sc at sites (settle_next sc way w).book
+next-bound sc at way w {sites} same bound = elim (next-cases sc way w) [
+  | inl on ↦ subst (Bound sc at sites) (sym on.book) (subst (λ x. Bound sc at sites (book_with sc x w.book w.book.upcoming)) (sym same) (settled-bound sc at w.book w.book.upcoming refl bound))
   | inr off ↦ subst (Bound sc at sites) (sym off.book) bound
 ]
 
@@ -238,15 +237,15 @@ nobody-then sc shape frame slot h = by (nobody_good sc (frame + 1) 0) refl
         let good = somebody sc (frame + 1) 0 e in
         absurd (nobody sc shape frame slot h good.0 good.1.0 (good_before sc good.0 good.1.0 frame (frame + 1) slot 0 (omega arith) good.1.1))
 
-then-begins : (sizes : Sizes) (sc : Scenario) (place : Place) → IsLastStage sc place → after_stage sc.sizes place ≡ Begin (place.frame + 1)
-then-begins sizes sc place last =
+then-begins : (sizes : Sizes) {sc place : _} → IsLastStage sc place → after_stage sc.sizes place ≡ Begin (place.frame + 1)
+then-begins sizes {sc} {place} last =
     ap (λ t. then_stage sc.sizes place t (place.slot == sync_slot_of sc.sizes)) last.stage ∙ ap (then_stage sc.sizes place false) last.slot
 
 -- one milestone keeps the pace, in whatever way it is settled
-next-paced : (sc : Scenario) (hands : List HandIn) (at : Side → ℕ → ℕ) (way : Way) (w : World) (sites : Each Site) → IsShape sc.sizes → w.sites ≡ sites
+next-paced : {sc : Scenario} {hands : List HandIn} {at : Side → ℕ → ℕ} (way : Way) (w : World) {sites : Each Site} → IsShape sc.sizes → w.sites ≡ sites
     → ((me : Side) → length (of_kind me sites) ≡ count_of me sc.sizes) → AllTold sc hands at sites → Paced sc at sites w.book → Paced sc at sites (settle_next sc way w).book
-next-paced sc hands at way w sites shape same counts told paced =
-    let bound : Bound sc at sites (settle_next sc way w).book = next-bound sc at way w sites same paced.bound in
+next-paced {sc} {at} way w {sites} shape same counts told paced =
+    let bound : Bound sc at sites (settle_next sc way w).book = next-bound sc at way w same paced.bound in
     elim (next-cases sc way w) [
       | inr off ↦ subst (Paced sc at sites) (sym off.book) paced
       | inl on ↦ by w.book.ended refl on bound
@@ -275,36 +274,36 @@ next-paced sc hands at way w sites shape same counts told paced =
         let none : needs_no_event sc w.book.upcoming ≡ true = needed way on.comes e complete paced.waits in
         record {
           bound = bound;
-          waits = subst (Waits sc sites) (sym is) (elim (settled-waits sc hands at sites w.book w.book.upcoming refl counts told paced.bound) [
+          waits = subst (Waits sc sites) (sym is) (elim (settled-waits w.book w.book.upcoming refl counts told paced.bound) [
             | inl waits ↦ waits
             | inr last ↦ λ going needs.
                 let empty : nobody_good sc last.0.frame last.0.slot ≡ true = ap (needs_no_event sc) (sym last.1.0) ∙ none in
                 let running : (with_stage sc last.0 _ w.book).ended ≡ false = ap (λ m. (book_with sc sites w.book m).ended) (sym last.1.0) ∙ going in
                 let up : (book_with sc sites w.book w.book.upcoming).upcoming ≡ Begin (last.0.frame + 1) =
-                ap (λ m. (book_with sc sites w.book m).upcoming) last.1.0 ∙ stage-book-next sc last.0 _ w.book running ∙ then-begins sc.sizes sc last.0 last.1.1 in
+                ap (λ m. (book_with sc sites w.book m).upcoming) last.1.0 ∙ stage-book-next sc last.0 _ w.book running ∙ then-begins sc.sizes last.1.1 in
                 true-false (sym (nobody-then sc shape last.0.frame last.0.slot empty) ∙ ap (needs_no_event sc) (sym up) ∙ needs)
           ]);
         }
 
-rest-paced : (sc : Scenario) (at : Side → ℕ → ℕ) (sites : Each Site) (way : Way) (n : ℕ) (next : World) → Paced sc at sites next.book → Paced sc at sites (settle sc way n next).book
+rest-paced : {sc at sites : _} (way : Way) (n : ℕ) (next : World) → Paced sc at sites next.book → Paced sc at sites (settle sc way n next).book
     → (r : Option Record) → Paced sc at sites (elim r as (λ _. World) [ None ↦ settle sc way n next | Some r ↦ record next { turn = Some r } ]).book
-rest-paced sc at sites way n next one rest None = rest
-rest-paced sc at sites way n next one rest (Some r) = one
+rest-paced way n next one rest None = rest
+rest-paced way n next one rest (Some r) = one
 
-pub settle-paced : (sc : Scenario) (hands : List HandIn) (at : Side → ℕ → ℕ) (way : Way) (n : ℕ) (w : World) (sites : Each Site) → IsShape sc.sizes → w.sites ≡ sites
+pub settle-paced : {sc : Scenario} {hands : List HandIn} {at : Side → ℕ → ℕ} (way : Way) (n : ℕ) (w : World) {sites : Each Site} → IsShape sc.sizes → w.sites ≡ sites
     → ((me : Side) → length (of_kind me sites) ≡ count_of me sc.sizes) → AllTold sc hands at sites → Paced sc at sites w.book → Paced sc at sites (settle sc way n w).book
-settle-paced sc hands at way zero w sites shape same counts told paced = paced
-settle-paced sc hands at way (suc n) w sites shape same counts told paced =
+settle-paced way zero w shape same counts told paced = paced
+settle-paced {sc} {at} way (suc n) w {sites} shape same counts told paced =
     let next : World = settle_next sc way w in
-    let one : Paced sc at sites next.book = next-paced sc hands at way w sites shape same counts told paced in
-    rest-paced sc at sites way n next one (settle-paced sc hands at way n next sites shape (next-sites sc way w ∙ same) counts told one) (record_since w next)
+    let one : Paced sc at sites next.book = next-paced way w shape same counts told paced in
+    rest-paced way n next one (settle-paced way n next shape (next-sites sc way w ∙ same) counts told one) (record_since w next)
 
 -- After an event.
 
 -- the last stage of a frame gives no record
-last-given : (sc : Scenario) (place : Place) (rows : Each (Option Row)) (b : Book) → IsLastStage sc place → (with_stage sc place rows b).ended ≡ false → (with_stage sc place rows b).given ≡ b.given
+last-given : {sc place : _} (rows : Each (Option Row)) (b : Book) → IsLastStage sc place → (with_stage sc place rows b).ended ≡ false → (with_stage sc place rows b).given ≡ b.given
 unfolding with_stage
-last-given sc place rows b last = by b.ended (verdict_of (judged_of sc place rows ∷ b.stages))
+last-given {sc} {place} rows b last = by b.ended (verdict_of (judged_of sc place rows ∷ b.stages))
   where
     none : (a c : Bool) → c ≡ false → (if a && c then Record.Slot place.frame place.slot b.lines ∷ [] else []) ≡ []
     none true c e = ap (λ t. if t then Record.Slot place.frame place.slot b.lines ∷ [] else []) e
@@ -324,8 +323,8 @@ last-given sc place rows b last = by b.ended (verdict_of (judged_of sc place row
     by false v h = verdict v h
 
 -- if an event completes nothing more, what the book waits for is not complete
-left-waits : (sc : Scenario) (w : World) (sites : Each Site) → w.sites ≡ sites → IsLeft sc ByAnEvent w → Waits sc sites w.book
-left-waits sc w sites same off going needs = by (needs_no_event sc w.book.upcoming) (is_complete sc sites w.book.upcoming) needs (ap (λ x. not (needs_no_event sc w.book.upcoming) && is_complete sc x w.book.upcoming) (sym same) ∙ off.test)
+left-waits : {sc : Scenario} {w : World} {sites : Each Site} → w.sites ≡ sites → IsLeft sc ByAnEvent w → Waits sc sites w.book
+left-waits {sc} {w} {sites} same off going needs = by (needs_no_event sc w.book.upcoming) (is_complete sc sites w.book.upcoming) needs (ap (λ x. not (needs_no_event sc w.book.upcoming) && is_complete sc x w.book.upcoming) (sym same) ∙ off.test)
   where
     by : (a c : Bool) → a ≡ false → (not a && c) ≡ false → c ≡ false
     by true c e h = true-false e
@@ -334,19 +333,19 @@ left-waits sc w sites same off going needs = by (needs_no_event sc w.book.upcomi
 begin-stage : {P : Type 0} (frame : ℕ) (place : Place) → Begin frame ≡ Stage place → P
 begin-stage frame place e = absurd (cc)
 
-pub event-paced : (sc : Scenario) (hands : List HandIn) (at : Side → ℕ → ℕ) (w : World) (sites : Each Site) → IsShape sc.sizes → w.sites ≡ sites
+pub event-paced : {sc : Scenario} {hands : List HandIn} {at : Side → ℕ → ℕ} (w : World) {sites : Each Site} → IsShape sc.sizes → w.sites ≡ sites
     → ((me : Side) → length (of_kind me sites) ≡ count_of me sc.sizes) → AllTold sc hands at sites → Bound sc at sites w.book → Paced sc at sites (settle sc ByAnEvent 2 w).book
-event-paced sc hands at w sites shape same counts told bound =
+event-paced {sc} {at} w {sites} shape same counts told bound =
     let next : World = settle_next sc ByAnEvent w in
     let next_same : next.sites ≡ sites = next-sites sc ByAnEvent w ∙ same in
-    let next_bound : Bound sc at sites next.book = next-bound sc at ByAnEvent w sites same bound in
+    let next_bound : Bound sc at sites next.book = next-bound sc at ByAnEvent w same bound in
     let finish : Paced sc at sites next.book → Paced sc at sites (settle sc ByAnEvent 2 w).book =
-    λ one. rest-paced sc at sites ByAnEvent 1 next one (settle-paced sc hands at ByAnEvent 1 next sites shape next_same counts told one) (record_since w next) in
+    λ one. rest-paced ByAnEvent 1 next one (settle-paced ByAnEvent 1 next shape next_same counts told one) (record_since w next) in
     elim (next-cases sc ByAnEvent w) [
-      | inr off ↦ settle-paced sc hands at ByAnEvent 2 w sites shape same counts told (record { bound = bound; waits = left-waits sc w sites same off })
+      | inr off ↦ settle-paced ByAnEvent 2 w shape same counts told (record { bound = bound; waits = left-waits same off })
       | inl on ↦
           let is : next.book ≡ book_with sc sites w.book w.book.upcoming = on.book ∙ ap (λ x. book_with sc x w.book w.book.upcoming) same in
-          elim (settled-waits sc hands at sites w.book w.book.upcoming refl counts told bound) [
+          elim (settled-waits w.book w.book.upcoming refl counts told bound) [
             | inl waits ↦ finish (record { bound = next_bound; waits = subst (Waits sc sites) (sym is) waits })
             | inr last ↦ by next.book.ended refl is last next_same next_bound finish
           ]
@@ -359,12 +358,12 @@ event-paced sc hands at w sites shape same counts told bound =
     begun : (next : World) (frame : ℕ) → next.book.upcoming ≡ Begin frame → next.sites ≡ sites → Bound sc at sites next.book → Paced sc at sites (settle_next sc ByAnEvent next).book
     begun next frame up same bound =
         elim (next-cases sc ByAnEvent next) [
-          | inr off ↦ subst (Paced sc at sites) (sym off.book) (record { bound = bound; waits = left-waits sc next sites same off })
+          | inr off ↦ subst (Paced sc at sites) (sym off.book) (record { bound = bound; waits = left-waits same off })
           | inl on ↦
               let is : (settle_next sc ByAnEvent next).book ≡ book_with sc sites next.book next.book.upcoming = on.book ∙ ap (λ x. book_with sc x next.book next.book.upcoming) same in
               record {
-                bound = next-bound sc at ByAnEvent next sites same bound;
-                waits = elim (settled-waits sc hands at sites next.book next.book.upcoming refl counts told bound) [
+                bound = next-bound sc at ByAnEvent next same bound;
+                waits = elim (settled-waits next.book next.book.upcoming refl counts told bound) [
                   | inl waits ↦ subst (Waits sc sites) (sym is) waits
                   | inr last ↦ begin-stage frame last.0 (sym up ∙ last.1.0)
                 ];
@@ -380,9 +379,9 @@ event-paced sc hands at w sites shape same counts told bound =
         let place : Place = last.0 in
         let stage_is : next.book ≡ book_with sc sites w.book (Stage place) = is ∙ ap (book_with sc sites w.book) last.1.0 in
         let running : (book_with sc sites w.book (Stage place)).ended ≡ false = ap (λ (b : Book). b.ended) (sym stage_is) ∙ e in
-        let given : next.book.given ≡ w.book.given = ap (λ (b : Book). b.given) stage_is ∙ last-given sc place _ w.book last.1.1 running in
-        let none : record_since w next ≡ None = none-past w.book.given next.book.given given in
-        let up : next.book.upcoming ≡ Begin (place.frame + 1) = ap (λ (b : Book). b.upcoming) stage_is ∙ stage-book-next sc place _ w.book running ∙ then-begins sc.sizes sc place last.1.1 in
+        let given : next.book.given ≡ w.book.given = ap (λ (b : Book). b.given) stage_is ∙ last-given _ w.book last.1.1 running in
+        let none : record_since w next ≡ None = none-past w.book.given given in
+        let up : next.book.upcoming ≡ Begin (place.frame + 1) = ap (λ (b : Book). b.upcoming) stage_is ∙ stage-book-next sc place _ w.book running ∙ then-begins sc.sizes last.1.1 in
         let one : Paced sc at sites (settle_next sc ByAnEvent next).book = begun next (place.frame + 1) up next_same next_bound in
         subst (λ r. Paced sc at sites (elim r as (λ _. World) [ None ↦ settle sc ByAnEvent 1 next | Some r ↦ record next { turn = Some r } ]).book) (sym none)
         (subst (Paced sc at sites) (sym (after-one (settle_next sc ByAnEvent next) (record_since next (settle_next sc ByAnEvent next)))) one)

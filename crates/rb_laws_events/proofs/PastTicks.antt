@@ -18,10 +18,10 @@ pub record IsPast (sizes : Sizes) (plan : Plan) (me : Side) (frame e n : ℕ) (c
   pub next : (x : ℕ) → new_epoch_of plan me c ≡ Some x → c.epoch + tail_start_of sizes plan ≤ x
 
 -- a node turns at no tick of its window
-pub turns-later : (sizes : Sizes) (plan : Plan) (me : Side) (c : NodeState) (n k : ℕ) → HasTicks plan → ((x : ℕ) → new_epoch_of plan me c ≡ Some x → c.epoch + tail_start_of sizes plan ≤ x)
+pub turns-later : {sizes plan me c n k : _} → HasTicks plan → ((x : ℕ) → new_epoch_of plan me c ≡ Some x → c.epoch + tail_start_of sizes plan ≤ x)
     → n ≤ stages_in sizes → IsTickIn sizes plan me c n k → state_at sizes plan me c k ≡ c
 unfolding state_at
-turns-later sizes plan me c n k ticks next le at =
+turns-later {sizes} {plan} {me} {c} {n} {k} ticks next le at =
     ap (λ b. elim b as (λ _. NodeState) [ true ↦ turn_if_known sizes plan me c | false ↦ c ]) (no-tick (new_epoch_of plan me c) later)
   where
     no-tick : (o : Option ℕ) → ((x : ℕ) → o ≡ Some x → k < x) → is_tick o k ≡ false
@@ -34,12 +34,12 @@ turns-later sizes plan me c n k ticks next le at =
         let to : k ≤ c.epoch + last_of sizes plan me c n = at.to in
         elim (cases_lt n (stages_in sizes)) [
           | inl lt ↦
-              let before : last_of sizes plan me c n < first_of sizes plan me c (stages_in sizes) = ends-before-later sizes plan me c n (stages_in sizes) ticks lt (omega arith) in
+              let before : last_of sizes plan me c n < first_of sizes plan me c (stages_in sizes) = ends-before-later sizes me c n (stages_in sizes) ticks lt (omega arith) in
               let first : first_of sizes plan me c (stages_in sizes) ≡ tail_start_of sizes plan = tail-first sizes plan me c in
               omega (arith, low, to, before, first)
           | inr ge ↦
               let same : n ≡ stages_in sizes = omega (arith, le, ge) in
-              past-tail sizes plan me c k x ticks low (subst (λ n. IsTickIn sizes plan me c n k) same at) e
+              past-tail ticks low (subst (λ n. IsTickIn sizes plan me c n k) same at) e
         ]
 
 -- what a core says changes neither its frame nor its windows
@@ -52,9 +52,9 @@ kept-like sizes plan me i c word (Some m) =
     by true = refl
     by false = refl
 
-pub past-kept : (sizes : Sizes) (plan : Plan) (me : Side) (i frame e n : ℕ) (c y : NodeState) (had more : ℕ) → Like sizes plan me i c y → y.frame ≡ c.frame → had ≤ more
+pub past-kept : {sizes plan me i frame e n c y had : _} (more : ℕ) → Like sizes plan me i c y → y.frame ≡ c.frame → had ≤ more
     → IsPast sizes plan me frame e n c had → IsPast sizes plan me frame e n y more
-past-kept sizes plan me i frame e n c y had more like same le h =
+past-kept {sizes} {plan} {me} {n} {c} {y} more like same le h =
     let first : first_of sizes plan me y n ≡ first_of sizes plan me c n = ap (λ w. w.first) (like.windows n) in
     let epoch : y.epoch ≡ c.epoch = like.epoch in
     record {
@@ -71,14 +71,14 @@ pub record TellsNone (sizes : Sizes) (plan : Plan) (me : Side) (i frame e n : �
   pub past : IsPast sizes plan me frame e n x.core.state x.core.had
 
 -- a tick of a window before its last closes no window
-pub past-tick : (sizes : Sizes) (plan : Plan) (me : Side) (i frame e n : ℕ) (c : Core) (word : ℕ) → HasTicks plan → n ≤ stages_in sizes → IsPast sizes plan me frame e n c.state c.had
+pub past-tick : {sizes plan me : _} (i : ℕ) {frame e n : ℕ} (c : Core) (word : ℕ) → HasTicks plan → n ≤ stages_in sizes → IsPast sizes plan me frame e n c.state c.had
     → c.had < c.state.epoch + last_of sizes plan me c.state n → TellsNone sizes plan me i frame e n c.state (tick sizes plan me i c word)
-past-tick sizes plan me i frame e n c word ticks le h before =
+past-tick {sizes} {plan} {me} i {frame} {e} {n} c word ticks le h before =
     tick-by Tells sizes plan me i c word (λ _. record { closed = refl; like = like-itself sizes plan me i c.state; past = h })
     (λ _. subst (λ z. Tells (act_of sizes plan me i c word z)) (sym now) (act-by Tells sizes plan me i c c.state m kept (λ last. true-false (sym last ∙ not-last)) (λ _. record {
       closed = refl;
       like = like.0;
-      past = past-kept sizes plan me i frame e n c.state kept c.had (c.had + 1) like.0 like.1 (omega arith) h;
+      past = past-kept (c.had + 1) like.0 like.1 (omega arith) h;
     })))
   where
     Tells : Act → Type 0
@@ -88,10 +88,10 @@ past-tick sizes plan me i frame e n c word ticks le h before =
     at = record { from = h.from; to = omega (arith, before) }
 
     now : state_at sizes plan me c.state c.had ≡ c.state
-    now = turns-later sizes plan me c.state n c.had ticks h.next le at
+    now = turns-later ticks h.next le at
 
     not-last : is_last sizes plan me c.state c.had ≡ false
-    not-last = last-is sizes plan me c.state n c.had ticks le at ∙ less-differs c.had (c.state.epoch + last_of sizes plan me c.state n) before
+    not-last = last-is me c.state ticks le at ∙ less-differs c.had (c.state.epoch + last_of sizes plan me c.state n) before
 
     m : Option Message
     m = said_at sizes plan me i c.state word c.had
@@ -102,10 +102,10 @@ past-tick sizes plan me i frame e n c word ticks le h before =
     like : Like sizes plan me i c.state kept × (kept.frame ≡ c.state.frame)
     like = kept-like sizes plan me i c.state word m
 
-pub past-arrival : (sizes : Sizes) (plan : Plan) (me : Side) (frame e n : ℕ) (c : Core) (j : ℕ) (bytes : List ℕ) → IsPast sizes plan me frame e n c.state c.had
+pub past-arrival : {sizes plan me frame e n : _} (c : Core) (j : ℕ) (bytes : List ℕ) → IsPast sizes plan me frame e n c.state c.had
     → IsPast sizes plan me frame e n (arrive sizes me c j bytes).state (arrive sizes me c j bytes).had
 unfolding arrive
-past-arrival sizes plan me frame e n c j bytes h = by (nat_lt j (count_of (other me) sizes) && not (is_spent c))
+past-arrival {sizes} {plan} {me} {frame} {e} {n} c j bytes h = by (nat_lt j (count_of (other me) sizes) && not (is_spent c))
   where
     comes : Bool → Core
     comes b = elim b as (λ _. Core) [

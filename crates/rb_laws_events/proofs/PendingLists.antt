@@ -47,21 +47,21 @@ fewer q (suc n) x (y ∷ ys) s =
     λ b. elim b as (λ b. length (cond b (y ∷ filter q (remove ys n)) (filter q (remove ys n))) + cond (q x) 1 0 ≡ length (cond b (y ∷ filter q ys) (filter q ys))) [ true ↦ omega (arith, more) | false ↦ more ] in
     go (q y)
 
-pub same_others : (q : Coming → Bool) (n : ℕ) (x : Coming) (xs : List Coming) → StandsAt n x xs → q x ≡ false → filter q (remove xs n) ≡ filter q xs
-same_others q n x [] s h = absurd s
-same_others q zero x (y ∷ ys) s h = let e : q y ≡ false = ap q s ∙ h in ap (λ b. cond b (y ∷ filter q ys) (filter q ys)) (sym e)
-same_others q (suc n) x (y ∷ ys) s h = ap (λ l. cond (q y) (y ∷ l) l) (same_others q n x ys s h)
+pub same_others : (q : Coming → Bool) (n : ℕ) {x : _} (xs : List Coming) → StandsAt n x xs → q x ≡ false → filter q (remove xs n) ≡ filter q xs
+same_others q n [] s h = absurd s
+same_others q zero (y ∷ ys) s h = let e : q y ≡ false = ap q s ∙ h in ap (λ b. cond b (y ∷ filter q ys) (filter q ys)) (sym e)
+same_others q (suc n) (y ∷ ys) s h = ap (λ l. cond (q y) (y ∷ l) l) (same_others q n ys s h)
 
 -- what holds for all items that pass holds for item `x`, if it passes
-passing : (P : Coming → Type 0) (q : Coming → Bool) (n : ℕ) (x : Coming) (xs : List Coming) → StandsAt n x xs → q x ≡ true → Every P (filter q xs) → P x
-passing P q n x [] s h e = absurd s
-passing P q zero x (y ∷ ys) s h e =
+passing : (P : Coming → Type 0) (q : Coming → Bool) (n : ℕ) {x : _} (xs : List Coming) → StandsAt n x xs → q x ≡ true → Every P (filter q xs) → P x
+passing P q n [] s h e = absurd s
+passing P q zero (y ∷ ys) s h e =
     let t : q y ≡ true = ap q s ∙ h in
     let both : P y × Every P (filter q ys) = subst (λ b. Every P (cond b (y ∷ filter q ys) (filter q ys))) t e in
     subst P s both.0
-passing P q (suc n) x (y ∷ ys) s h e =
+passing P q (suc n) (y ∷ ys) s h e =
     let go : (b : Bool) → Every P (cond b (y ∷ filter q ys) (filter q ys)) → Every P (filter q ys) = λ b. elim b as (λ b. Every P (cond b (y ∷ filter q ys) (filter q ys)) → Every P (filter q ys)) [ true ↦ λ e. e.1 | false ↦ λ e. e ] in
-    passing P q n x ys s h (go (q y) e)
+    passing P q n ys s h (go (q y) e)
 
 -- an item is put at the end
 pub filter-last : (q : Coming → Bool) (xs : List Coming) (x : Coming) → filter q (xs ++ x ∷ []) ≡ filter q xs ++ cond (q x) (x ∷ []) []
@@ -78,9 +78,9 @@ each-append P (x ∷ xs) ys a b = (a.0, each-append P xs ys a.1 b)
 
 -- an arrival by the window's last tick was pending and has come now. For every source what was sent
 -- stays the same
-pub arrival-keeps : (j t n : ℕ) (c : Coming) (got coming sent next : List Coming) → StandsAt n c coming → c.time ≤ t
+pub arrival-keeps : {j t : ℕ} (n : ℕ) (c : Coming) {got coming sent next : _} → StandsAt n c coming → c.time ≤ t
     → Hears j t got coming sent next → Hears j t (got ++ c ∷ []) (remove coming n) sent next
-arrival-keeps j t n c got coming sent next at le h =
+arrival-keeps {j} {t} n c {got} {coming} {sent} {next} at le h =
     let in_time : nat_le c.time t ≡ true = grind (arith, nat_tests) in
     let not_later : nat_lt t c.time ≡ false = grind (arith, nat_tests) in
     let P : Coming → Type 0 = λ x. IsOneOf x sent in
@@ -88,13 +88,13 @@ arrival-keeps j t n c got coming sent next at le h =
     let as_many : length (coming_from got j) + length (filter (is_now j t) coming) ≡ length sent = h.as_many in
     let same_later : filter (is_later j t) (remove coming n) ≡ next =
     (let go : (b : Bool) → (c.from == j) ≡ b → is_later j t c ≡ false = λ b. elim b as (λ b. (c.from == j) ≡ b → is_later j t c ≡ false) [ true ↦ λ e. rw (e, not_later) refl | false ↦ λ e. rw e refl ] in
-    same_others (is_later j t) n c coming at (go (c.from == j) refl) ∙ h.later) in
+    same_others (is_later j t) n coming at (go (c.from == j) refl) ∙ h.later) in
     let go : (b : Bool) → (c.from == j) ≡ b → Hears j t (got ++ c ∷ []) (remove coming n) sent next =
     λ b. elim b as (λ b. (c.from == j) ≡ b → Hears j t (got ++ c ∷ []) (remove coming n) sent next) [
       | true ↦ λ e.
           let now : is_now j t c ≡ true = rw (e, in_time) refl in
           let more : coming_from (got ++ c ∷ []) j ≡ coming_from got j ++ c ∷ [] = filter-last (λ x. x.from == j) got c ∙ ap (λ b. coming_from got j ++ cond b (c ∷ []) []) e in
-          let its : IsOneOf c sent = passing P (is_now j t) n c coming at now h.pends in
+          let its : IsOneOf c sent = passing P (is_now j t) n coming at now h.pends in
           let one : ◌≡◌ {A = ℕ} (cond (is_now j t c) 1 0) 1 = ap (λ b. cond b 1 0) now in
           let long : length (coming_from (got ++ c ∷ []) j) ≡ length (coming_from got j) + 1 = ap length more ∙ length-append (coming_from got j) (c ∷ []) in
           record {
@@ -106,7 +106,7 @@ arrival-keeps j t n c got coming sent next at le h =
       | false ↦ λ e.
           let now : is_now j t c ≡ false = rw e refl in
           let more : coming_from (got ++ c ∷ []) j ≡ coming_from got j = filter-last (λ x. x.from == j) got c ∙ ap (λ b. coming_from got j ++ cond b (c ∷ []) []) e ∙ append-nil (coming_from got j) in
-          let same : filter (is_now j t) (remove coming n) ≡ filter (is_now j t) coming = same_others (is_now j t) n c coming at now in
+          let same : filter (is_now j t) (remove coming n) ≡ filter (is_now j t) coming = same_others (is_now j t) n coming at now in
           record {
             came = subst (Every P) (sym more) h.came;
             pends = subst (Every P) (sym same) h.pends;
@@ -117,8 +117,8 @@ arrival-keeps j t n c got coming sent next at le h =
     go (c.from == j) refl
 
 -- if nothing is pending for the window, all that was sent has come
-pub all-came : (j t : ℕ) (got coming sent next : List Coming) → filter (is_now j t) coming ≡ [] → Hears j t got coming sent next → AllOf (coming_from got j) sent
-all-came j t got coming sent next none h =
+pub all-came : {j t got coming sent next : _} → filter (is_now j t) coming ≡ [] → Hears j t got coming sent next → AllOf (coming_from got j) sent
+all-came {j} {t} {got} {coming} {sent} none h =
     let as_many : length (coming_from got j) + length (filter (is_now j t) coming) ≡ length sent = h.as_many in
     let zero_now : length (filter (is_now j t) coming) ≡ 0 = ap length none in
     record { as_many = omega arith; entries = h.came }

@@ -34,8 +34,8 @@ pub record Fits (sizes : Sizes) (plan : Plan) : Type 0 where
   pub in_z : skew_of sizes plan + drift_in plan (plan.l + plan.v) + shortest_of plan + plan.h * shortest_of plan ≤ plan.z * shortest_of plan
   pub skew : 2 * longest_of plan + drift_in plan (plan.l + plan.v + plan.z) ≤ plan.p
 
-pub fits : (sizes : Sizes) (plan : Plan) → IsPlan plan → IsFeasible sizes plan → Fits sizes plan
-fits sizes plan is feasible =
+pub fits : {sizes plan : _} → IsPlan plan → IsFeasible sizes plan → Fits sizes plan
+fits {sizes} {plan} is feasible =
     let none : Sides = record { left = pos 0; right = pos 0 } in
     let inside : SendsInside plan = sends_inside_all sizes plan is feasible in
     let u : ℕ = shortest_of plan in

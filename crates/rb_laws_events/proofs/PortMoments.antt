@@ -51,12 +51,12 @@ in-window-ports sc hands p inside =
     ap (λ b. (stepped sc hands (moment sc hands p) ((moment sc hands p).frame == sc.frames) b).ports) (lt-ltb (moment sc hands p).window (windows_in sc.sizes) inside)
 
 -- the rounds change a port by what the row of its BIU's window delivers
-pub port-after-window : (sc : Scenario) (hands : List HandIn) (p i : ℕ) (st : NodeState) → (moment sc hands p).window < windows_in sc.sizes → i < sc.sizes.bius
+pub port-after-window : (sc : Scenario) (hands : List HandIn) (p i : ℕ) {st : _} → (moment sc hands p).window < windows_in sc.sizes → i < sc.sizes.bius
     → slice_get (of_kind Biu (moment sc hands p).nodes) i ≡ Some st
     → port_at sc (moment sc hands (suc p)).ports i
     ≡ port_after (line_in (go_through sc (moment sc hands p) (sent_in sc (moment sc hands p)) Biu i st (window_in sc (moment sc hands p) Biu st)).row) (port_at sc (moment sc hands p).ports i)
 unfolding results_of
-port-after-window sc hands p i st inside counted there =
+port-after-window sc hands p i {st} inside counted there =
     let m : Moment = moment sc hands p in
     let go : Side → ℕ → NodeState → Result = λ me i st. go_through sc m (sent_in sc m) me i st (window_in sc m me st) in
     let rows : List (Option Row) = (map_each (λ me i (r : Result). r.row) (map_each go m.nodes)).bius in

@@ -12,9 +12,9 @@ record IsAfter {w : World} (sc : Scenario) (frame slot : ℕ) (node : RunningNod
   good : is_good sc Biu node.index frame slot ≡ true
   port : port_at sc w.ports node.index ≡ port_at sc (after_slot sc w.hands frame slot).ports node.index
 
-is-after : {w : World} (sc : Scenario) → IsLawful sc → (frame slot : ℕ) (node : RunningNode w Biu) → HoldsItsState sc node → HasItsPort sc node
+is-after : {w : World} {sc : Scenario} → IsLawful sc → {frame slot : ℕ} {node : RunningNode w Biu} → HoldsItsState sc node → HasItsPort sc node
     → StandsAfterSlot sc frame slot node → IsAfter sc frame slot node
-is-after {w} sc lawful frame slot node h in_rounds at = by at.place
+is-after {w} {sc} lawful {frame} {slot} {node} h in_rounds at = by at.place
   where
     i : ℕ
     i = node.index
@@ -45,7 +45,7 @@ is-after {w} sc lawful frame slot node h in_rounds at = by at.place
         record {
           good = ap (is_good sc Biu i frame) (sym here.0) ∙ good_here;
           port = elim (cases_lt window.stage 4) [
-            | inl lt ↦ port slot 3 here.0 (omega (arith, low, lt)) ∙ before-third sc w.hands lawful frame slot i at.within at.complete counted
+            | inl lt ↦ port slot 3 here.0 (omega (arith, low, lt)) ∙ before-third w.hands lawful frame i at.within at.complete counted
             | inr ge ↦ port slot 4 here.0 (omega (arith, high, ge))
           ];
         }
@@ -56,25 +56,25 @@ is-after {w} sc lawful frame slot node h in_rounds at = by at.place
           good = good_earlier sc Biu i frame slot (slot + 1) (omega arith) (ap (is_good sc Biu i frame) (sym next.0) ∙ good_here);
           port = elim (cases_lt window.stage 2) [
             | inl lt ↦ port (slot + 1) 1 next.0 (omega (arith, low, lt)) ∙ then-first sc w.hands frame slot i
-            | inr ge ↦ port (slot + 1) 2 next.0 (omega (arith, high, ge)) ∙ then-second sc w.hands lawful frame slot i at.within at.complete counted
+            | inr ge ↦ port (slot + 1) 2 next.0 (omega (arith, high, ge)) ∙ then-second w.hands lawful frame i at.within at.complete counted
           ];
         }
 
-after-slot : (sc : Scenario) → IsLawful sc → (choices : List Choice) (frame slot : ℕ) (node : RunningNode (world_after sc choices) Biu) → StandsAfterSlot sc frame slot node
+after-slot : {sc : Scenario} → IsLawful sc → (choices : List Choice) {frame slot : ℕ} {node : RunningNode (world_after sc choices) Biu} → StandsAfterSlot sc frame slot node
     → IsAfter sc frame slot node
-after-slot sc lawful choices frame slot node at = by at.goes_on
+after-slot {sc} lawful choices {frame} {slot} {node} at = by at.goes_on
   where
     by : IsBeforeTheBreak sc (world_after sc choices) ⊎ IsRunning (moment_of sc node) → IsAfter sc frame slot node
     by (inl before) =
-        let h : HoldsTheRounds sc (world_after sc choices) = cores-hold sc lawful choices before in is-after sc lawful frame slot node (h.cores Biu node) (h.ports node) at
+        let h : HoldsTheRounds sc (world_after sc choices) = cores-hold sc lawful choices before in is-after lawful (h.cores Biu node) (h.ports node) at
     by (inr running) =
         let h : FollowsTheRounds sc (world_after sc choices) = cores-follow sc lawful choices in
-        is-after sc lawful frame slot node (h.cores Biu node running) (h.ports node running) at
+        is-after lawful (h.cores Biu node running) (h.ports node running) at
 
 pub ports-agree : RunningPortsAgreeInLawful
 ports-agree sc lawful choices frame slot mine yours at there alike =
-    let a : IsAfter sc frame slot mine = after-slot sc lawful choices frame slot mine at in
-    let b : IsAfter sc frame slot yours = after-slot sc lawful choices frame slot yours there in
+    let a : IsAfter sc frame slot mine = after-slot lawful choices at in
+    let b : IsAfter sc frame slot yours = after-slot lawful choices there in
     a.port ∙ ports_alike sc (world_after sc choices).hands lawful frame slot at.within at.complete mine.index yours.index a.good b.good alike ∙ sym b.port
 
 -- What the bus makes of a port.
@@ -84,16 +84,16 @@ record IsAtBegin {w : World} (sc : Scenario) (frame : ℕ) (node : RunningNode w
   good : is_good sc Biu node.index frame 0 ≡ true
   port : port_at sc w.ports node.index ≡ port_at sc (before_slot sc w.hands frame 0).ports node.index
 
-is-at-begin : {w : World} (sc : Scenario) → IsLawful sc → (frame : ℕ) (node : RunningNode w Biu) → HoldsItsState sc node → HasItsPort sc node
+is-at-begin : {w : World} {sc : Scenario} → IsLawful sc → {frame : ℕ} {node : RunningNode w Biu} → HoldsItsState sc node → HasItsPort sc node
     → StandsAtBegin sc frame node → IsAtBegin sc frame node
-is-at-begin {w} sc lawful frame node h in_rounds at =
+is-at-begin {w} {sc} lawful {frame} {node} h in_rounds at =
     record {
       good = good;
       port = elim (cases_lt window.stage 2) [
         | inl lt ↦ port 1 (let low = at.stage.0 in omega (arith, low, lt))
         | inr ge ↦
             port 2 (let high = at.stage.1 in omega (arith, high, ge))
-            ∙ begin-stays sc w.hands lawful frame i (reached sc w.hands lawful frame at.reached) (good_counts sc Biu i frame 0 good)
+            ∙ begin-stays w.hands lawful frame i (reached w.hands lawful frame at.reached) (good_counts sc Biu i frame 0 good)
       ];
     }
   where
@@ -113,24 +113,24 @@ is-at-begin {w} sc lawful frame node h in_rounds at =
         ∙ ap (λ n. port_at sc (before_stage sc w.hands frame n window.stage).ports i) at.slot_is
         ∙ ap (λ n. port_at sc (before_stage sc w.hands frame 0 n).ports i) e
 
-at-begin : (sc : Scenario) → IsLawful sc → (choices : List Choice) (frame : ℕ) (node : RunningNode (world_after sc choices) Biu) → StandsAtBegin sc frame node
+at-begin : {sc : Scenario} → IsLawful sc → (choices : List Choice) {frame : ℕ} {node : RunningNode (world_after sc choices) Biu} → StandsAtBegin sc frame node
     → IsAtBegin sc frame node
-at-begin sc lawful choices frame node at = by at.goes_on
+at-begin {sc} lawful choices {frame} {node} at = by at.goes_on
   where
     by : IsBeforeTheBreak sc (world_after sc choices) ⊎ IsRunning (moment_of sc node) → IsAtBegin sc frame node
     by (inl before) =
         let h : HoldsTheRounds sc (world_after sc choices) = cores-hold sc lawful choices before in
-        is-at-begin sc lawful frame node (h.cores Biu node) (h.ports node) at
+        is-at-begin lawful (h.cores Biu node) (h.ports node) at
     by (inr running) =
         let h : FollowsTheRounds sc (world_after sc choices) = cores-follow sc lawful choices in
-        is-at-begin sc lawful frame node (h.cores Biu node running) (h.ports node running) at
+        is-at-begin lawful (h.cores Biu node running) (h.ports node running) at
 
-pub ports-follow-the-bus : (sc : Scenario) → IsLawful sc → (choices : List Choice) → RunningPortsFollowTheBus sc (world_after sc choices)
-ports-follow-the-bus sc lawful choices = record {
+pub ports-follow-the-bus : {sc : _} → IsLawful sc → (choices : List Choice) → RunningPortsFollowTheBus sc (world_after sc choices)
+ports-follow-the-bus {sc} lawful choices = record {
   begun = λ frame node at.
-      let a : IsAtBegin sc frame node = at-begin sc lawful choices frame node at in
-      a.port ∙ begun-port sc (world_after sc choices).hands lawful frame node.index at.reached a.good;
+      let a : IsAtBegin sc frame node = at-begin lawful choices at in
+      a.port ∙ begun-port (world_after sc choices).hands lawful frame node.index at.reached a.good;
   after = λ frame slot node at.
-      let a : IsAfter sc frame slot node = after-slot sc lawful choices frame slot node at in
+      let a : IsAfter sc frame slot node = after-slot lawful choices at in
       a.port ∙ ports_follow sc (world_after sc choices).hands lawful frame slot at.within at.complete node.index a.good;
 }

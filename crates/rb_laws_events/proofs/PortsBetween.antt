@@ -44,7 +44,7 @@ still sc hands p i ticks counted inside other =
           let st = item-at (of_kind Biu m.nodes) i (omega (arith, long, counted)) in
           let w : Window = window_in sc m Biu st.0 in
           let stage : w.stage ≡ m.window % 3 + 1 = stage-is-of sc.sizes sc.plan Biu st.0 m.window (omega (arith, early)) in
-          port-after-window sc hands p i st.0 inside counted st.1
+          port-after-window sc hands p i inside counted st.1
           ∙ ap (λ l. port_after l (port_at sc m.ports i)) (no-line sc m Biu i st.0 w (ap (λ s. s == 2) stage ∙ not-two m.window other))
     ]
 
@@ -54,15 +54,15 @@ third-number : (a slot : ℕ) → suc (a + 3 * slot + 3 - 1) ≡ a + 3 * slot + 
 third-number a slot = omega arith
 
 -- before the third stage of a slot a port is as after the slot
-pub before-third : (sc : Scenario) (hands : List HandIn) → IsLawful sc → (frame slot i : ℕ) → slot ≤ sync_slot_of sc.sizes → IsComplete sc hands frame slot → i < sc.sizes.bius
+pub before-third : {sc : _} (hands : List HandIn) → IsLawful sc → (frame : ℕ) {slot : ℕ} (i : ℕ) → slot ≤ sync_slot_of sc.sizes → IsComplete sc hands frame slot → i < sc.sizes.bius
     → port_at sc (before_stage sc hands frame slot 3).ports i ≡ port_at sc (after_slot sc hands frame slot).ports i
-before-third sc hands lawful frame slot i le complete counted =
-    let p : IsPlaced sc hands frame slot 3 = placed sc hands lawful frame slot 3 le (omega arith) (omega arith) (complete_before sc hands frame slot 3 (omega arith) complete) in
+before-third {sc} hands lawful frame {slot} i le complete counted =
+    let p : IsPlaced sc hands frame slot 3 = placed hands lawful frame slot 3 le (omega arith) (omega arith) (complete_before sc hands frame slot 3 (omega arith) complete) in
     let window = p.window_is in
     let inside : (before_stage sc hands frame slot 3).window < windows_in sc.sizes = omega (arith, window, le) in
     let stage : (before_stage sc hands frame slot 3).window % 3 ≡ 2 = omega (arith, window) in
     sym (ap (λ n. port_at sc (moment sc hands n).ports i) (sym (third-number (frame * (windows_in sc.sizes + 1)) slot))
-    ∙ still sc hands (frame * (windows_in sc.sizes + 1) + 3 * slot + 3 - 1) i (has_ticks sc lawful) counted inside (inr stage))
+    ∙ still sc hands (frame * (windows_in sc.sizes + 1) + 3 * slot + 3 - 1) i (has_ticks lawful) counted inside (inr stage))
 
 next-first : (a slot : ℕ) → a + 3 * (slot + 1) + 1 - 1 ≡ a + 3 * slot + 4 - 1
 next-first a slot = omega arith
@@ -73,26 +73,26 @@ next-second a slot = omega arith
 pub then-first : (sc : Scenario) (hands : List HandIn) (frame slot i : ℕ) → port_at sc (before_stage sc hands frame (slot + 1) 1).ports i ≡ port_at sc (after_slot sc hands frame slot).ports i
 then-first sc hands frame slot i = ap (λ n. port_at sc (moment sc hands n).ports i) (next-first (frame * (windows_in sc.sizes + 1)) slot)
 
-pub then-second : (sc : Scenario) (hands : List HandIn) → IsLawful sc → (frame slot i : ℕ) → slot ≤ sync_slot_of sc.sizes → IsComplete sc hands frame slot → i < sc.sizes.bius
+pub then-second : {sc : _} (hands : List HandIn) → IsLawful sc → (frame : ℕ) {slot : ℕ} (i : ℕ) → slot ≤ sync_slot_of sc.sizes → IsComplete sc hands frame slot → i < sc.sizes.bius
     → port_at sc (before_stage sc hands frame (slot + 1) 2).ports i ≡ port_at sc (after_slot sc hands frame slot).ports i
-then-second sc hands lawful frame slot i le complete counted =
-    let p : IsPlaced sc hands frame slot 4 = placed sc hands lawful frame slot 4 le (omega arith) (omega arith) complete in
+then-second {sc} hands lawful frame {slot} i le complete counted =
+    let p : IsPlaced sc hands frame slot 4 = placed hands lawful frame slot 4 le (omega arith) (omega arith) complete in
     let window = p.window_is in
     let inside : (after_slot sc hands frame slot).window < windows_in sc.sizes = omega (arith, window, le) in
     let stage : (after_slot sc hands frame slot).window % 3 ≡ 0 = omega (arith, window) in
     ap (λ n. port_at sc (moment sc hands n).ports i) (next-second (frame * (windows_in sc.sizes + 1)) slot)
-    ∙ still sc hands (frame * (windows_in sc.sizes + 1) + 3 * slot + 4 - 1) i (has_ticks sc lawful) counted inside (inl stage)
+    ∙ still sc hands (frame * (windows_in sc.sizes + 1) + 3 * slot + 4 - 1) i (has_ticks lawful) counted inside (inl stage)
 
 begin-second : (a : ℕ) → a + 3 * 0 + 2 - 1 ≡ suc (a + 3 * 0 + 1 - 1)
 begin-second a = omega arith
 
 -- before stage 2 of a frame's first slot a port is as before stage 1
-pub begin-stays : (sc : Scenario) (hands : List HandIn) → IsLawful sc → (frame i : ℕ) → IsRunning (before_stage sc hands frame 0 1) → i < sc.sizes.bius
+pub begin-stays : {sc : _} (hands : List HandIn) → IsLawful sc → (frame i : ℕ) → IsRunning (before_stage sc hands frame 0 1) → i < sc.sizes.bius
     → port_at sc (before_stage sc hands frame 0 2).ports i ≡ port_at sc (before_stage sc hands frame 0 1).ports i
-begin-stays sc hands lawful frame i running counted =
-    let p : IsPlaced sc hands frame 0 1 = placed sc hands lawful frame 0 1 (omega arith) (omega arith) (omega arith) running in
+begin-stays {sc} hands lawful frame i running counted =
+    let p : IsPlaced sc hands frame 0 1 = placed hands lawful frame 0 1 (omega arith) (omega arith) (omega arith) running in
     let window = p.window_is in
     let inside : (before_stage sc hands frame 0 1).window < windows_in sc.sizes = omega (arith, window) in
     let stage : (before_stage sc hands frame 0 1).window % 3 ≡ 0 = omega (arith, window) in
     ap (λ n. port_at sc (moment sc hands n).ports i) (begin-second (frame * (windows_in sc.sizes + 1)))
-    ∙ still sc hands (frame * (windows_in sc.sizes + 1) + 3 * 0 + 1 - 1) i (has_ticks sc lawful) counted inside (inl stage)
+    ∙ still sc hands (frame * (windows_in sc.sizes + 1) + 3 * 0 + 1 - 1) i (has_ticks lawful) counted inside (inl stage)

@@ -28,9 +28,9 @@ none-of frame (h ∷ hs) P never all = (by (h.frame == frame) refl, none-of fram
     by false e = e
 
 -- the frame that a node enters begins for it
-none-entered : (sc : Scenario) (hands : List HandIn) (sites : Each Site) (me : Side) (i p q : ℕ) (s : Site) → AllHanded sc sites hands → slice_get (of_kind me sites) i ≡ Some s
+none-entered : {sc hands : _} (sites : Each Site) {me i p : _} (q : ℕ) {s : _} → AllHanded sc sites hands → slice_get (of_kind me sites) i ≡ Some s
     → NodeTold sc hands me i p s → p < q → is_good_at sc (moment sc hands q) me i ≡ true → (moment sc hands q).window ≡ 0 → NoneHanded (moment sc hands q).frame hands
-none-entered sc hands sites me i p q s all there told later good first =
+none-entered {sc} {hands} sites {me} {i} {p} q {s} all there told later good first =
     let m : Moment = moment sc hands q in
     let slot : slot_numbered sc.sizes m.window ≡ 0 = omega (arith, first) in
     let here : is_good sc me i m.frame 0 ≡ true = ap (is_good sc me i m.frame) (sym slot) ∙ good in
@@ -43,10 +43,10 @@ none-entered sc hands sites me i p q s all there told later good first =
     let f : h.frame * (windows_in sc.sizes + 1) ≡ m.frame * (windows_in sc.sizes + 1) = ap (λ f. f * (windows_in sc.sizes + 1)) same in
     omega (arith, le, number.0, up, f, first, later)) all
 
-none-begun : (sc : Scenario) (hands : List HandIn) (sites : Each Site) (me : Side) (i p : ℕ) (s : Site) (a : Timed) (st : NodeState) → AllHanded sc sites hands
+none-begun : {sc hands : _} (sites : Each Site) {me i p s a st : _} → AllHanded sc sites hands
     → slice_get (of_kind me sites) i ≡ Some s → s.ahead ≡ Some a → slice_get (of_kind me (moment sc hands p).nodes) i ≡ Some st
     → NodeTold sc hands me i p s → is_good_at sc (moment sc hands p) me i ≡ true → (moment sc hands p).window ≡ 0 → st.epoch ≡ a.tick → NoneHanded (moment sc hands p).frame hands
-none-begun sc hands sites me i p s a st all there pend state told good first at_epoch =
+none-begun {sc} {hands} sites {me} {i} {p} {s} {a} {st} all there pend state told good first at_epoch =
     let m : Moment = moment sc hands p in
     let slot : slot_numbered sc.sizes m.window ≡ 0 = omega (arith, first) in
     let here : is_good sc me i m.frame 0 ≡ true = ap (is_good sc me i m.frame) (sym slot) ∙ good in
@@ -87,14 +87,14 @@ before-is sc hands (suc e) first none =
           ports-turned sc hands e ge ∙ none-over ((moment sc hands e).frame + 1) hands (moment sc hands e).ports (subst (λ f. NoneHanded f hands) frame none)
     ]
 
-pub line-at-begin : (sc : Scenario) (hands : List HandIn) (at : Side → ℕ → ℕ) (sites : Each Site) (ports : List PortState) (me : Side) (i : ℕ) (s : Site) (a : Timed) (st : NodeState)
+pub line-at-begin : {sc hands at sites : _} (ports : List PortState) (me : Side) (i : ℕ) {s a st : _}
     → AllHanded sc sites hands → AllTold sc hands at sites → PortsStand sc hands at sites ports → slice_get (of_kind me sites) i ≡ Some s → s.runs ≡ true → s.ahead ≡ Some a
     → slice_get (of_kind me (moment sc hands (at me i)).nodes) i ≡ Some st → is_good_at sc (moment sc hands (at me i)) me i ≡ true
     → (moment sc hands (at me i)).window ≡ 0 → st.epoch ≡ a.tick
     → port_line me i (port_at sc ports i) ≡ port_line me i (port_at sc (ports_before sc hands (at me i)) i)
-line-at-begin sc hands at sites ports Rmu i s a st all told stand there runs pend state good first at_epoch = refl
-line-at-begin sc hands at sites ports Biu i s a st all told stand there runs pend state good first at_epoch =
-    let none : NoneHanded (moment sc hands (at Biu i)).frame hands = none-begun sc hands sites Biu i (at Biu i) s a st all there pend state (told Biu i s there) good first at_epoch in
+line-at-begin ports Rmu i all told stand there runs pend state good first at_epoch = refl
+line-at-begin {sc} {hands} {at} {sites} ports Biu i {s} all told stand there runs pend state good first at_epoch =
+    let none : NoneHanded (moment sc hands (at Biu i)).frame hands = none-begun sites all there pend state (told Biu i s there) good first at_epoch in
     ap (port_line Biu i) (stand i s there runs ∙ ap (λ ports. port_at sc ports i) (before-is sc hands (at Biu i) first none))
 
 -- A tick.
@@ -128,17 +128,17 @@ none-delivered me i x heard c h = by c.delivered h
     by (Some d) h = cc
 
 -- the ports of other nodes stay
-others-keep : (sc : Scenario) (hands : List HandIn) (at : Side → ℕ → ℕ) (sites : Each Site) (ports : List PortState) (me : Side) (i : ℕ) (s : Site) (a : Timed) (x : Act) (j : ℕ)
+others-keep : {sc hands at sites ports : _} (me : Side) {i s a x : _} (j : ℕ)
     → AfterTick sc hands at sites ports me i s a x → is_node me i Biu j ≡ false
     → port_at sc (with_delivery sc i (option_and_then (λ (c : Closed). c.delivered) x.closed) ports) j ≡ port_at sc ports j
-others-keep sc hands at sites ports Biu i s a x j after other = port-kept sc i j (option_and_then (λ (c : Closed). c.delivered) x.closed) ports (λ e. differ e other)
+others-keep {sc} {ports} Biu {i} {a} {x} j after other = port-kept sc i j (option_and_then (λ (c : Closed). c.delivered) x.closed) ports (λ e. differ e other)
   where
     itself : (a b : ℕ) → a ≡ b → (a == b) ≡ false → ⊥
     itself a b e h = grind (arith, nat_tests)
 
     differ : j ≡ i → (j == i) ≡ false → ⊥
     differ e h = itself j i e h
-others-keep sc hands at sites ports Rmu i s a x j after other =
+others-keep {sc} {hands} {at} {ports} Rmu {i} {x} j after other =
     elim after.node [
       | inl stays ↦ ap (λ o. port_at sc (with_delivery sc i (option_and_then (λ (c : Closed). c.delivered) o) ports) j) stays.1.act.closed
       | inr closes ↦
@@ -151,12 +151,12 @@ others-keep sc hands at sites ports Rmu i s a x j after other =
           ∙ ap (λ d. port_at sc (with_delivery sc i d ports) j) none
     ]
 
-own-port : (sc : Scenario) (hands : List HandIn) (at : Side → ℕ → ℕ) (sites : Each Site) (ports : List PortState) (i : ℕ) (s : Site) (a : Timed) (x : Act) → HasTicks sc.plan
+own-port : {sc : Scenario} {hands : List HandIn} {at : Side → ℕ → ℕ} {sites : Each Site} {ports : List PortState} {i : ℕ} {s : Site} {a : Timed} {x : Act} → HasTicks sc.plan
     → length ports ≡ sc.sizes.bius → AllHanded sc sites hands → AllTold sc hands at sites → slice_get (of_kind Biu sites) i ≡ Some s
     → (after : AfterTick sc hands at sites ports Biu i s a x) → (after_act sc ports Biu i x s).runs ≡ true
     → port_at sc ports i ≡ port_at sc (moment sc hands (at Biu i)).ports i
     → port_at sc (with_delivery sc i (option_and_then (λ (c : Closed). c.delivered) x.closed) ports) i ≡ port_at sc (moment sc hands after.r).ports i
-own-port sc hands at sites ports i s a x ticks many all told there after runs same =
+own-port {sc} {hands} {at} {sites} {ports} {i} {s} {a} {x} ticks many all told there after runs same =
     let p : ℕ = at Biu i in
     let m : Moment = moment sc hands p in
     elim after.node [
@@ -171,35 +171,35 @@ own-port sc hands at sites ports i s a x ticks many all told there after runs sa
             | inl on ↦ on.stands.good
             | inr off ↦ absurd (true-false (sym runs ∙ off.runs))
           ] in
-          port-then sc hands ports p q i after.st x.core.state _ x.closed c.told.0 ticks (good_counts sc Biu i m.frame (slot_numbered sc.sizes m.window) after.good) many after.stands.window c.place
-          (none-entered sc hands sites Biu i p q s all there (told Biu i s there) later good) after.there c.told.1.0 c.told.1.1 same
+          port-then sc hands ports p q i x.core.state _ ticks (good_counts sc Biu i m.frame (slot_numbered sc.sizes m.window) after.good) many after.stands.window c.place
+          (none-entered sites q all there (told Biu i s there) later good) after.there c.told.1.0 c.told.1.1 same
           ∙ ap (λ n. port_at sc (moment sc hands n).ports i) closes.1.1.0
     ]
 
-own-if-biu : (sc : Scenario) (hands : List HandIn) (at : Side → ℕ → ℕ) (sites : Each Site) (ports : List PortState) (me : Side) (i : ℕ) (s : Site) (a : Timed) (x : Act) → HasTicks sc.plan
+own-if-biu : {sc : Scenario} {hands : List HandIn} {at : Side → ℕ → ℕ} {sites : Each Site} {ports : List PortState} (me : Side) {i : ℕ} {s : Site} {a : Timed} {x : Act} → HasTicks sc.plan
     → length ports ≡ sc.sizes.bius → AllHanded sc sites hands → AllTold sc hands at sites → slice_get (of_kind me sites) i ≡ Some s → s.runs ≡ true → PortsStand sc hands at sites ports
     → (after : AfterTick sc hands at sites ports me i s a x) → me ≡ Biu → (after_act sc ports me i x s).runs ≡ true
     → port_at sc (with_delivery sc i (option_and_then (λ (c : Closed). c.delivered) x.closed) ports) i ≡ port_at sc (moment sc hands after.r).ports i
-own-if-biu sc hands at sites ports Biu i s a x ticks many all told there up stand after is on =
-    own-port sc hands at sites ports i s a x ticks many all told there after on (stand i s there up)
-own-if-biu sc hands at sites ports Rmu i s a x ticks many all told there up stand after is on = cc
+own-if-biu Biu {i} {s} ticks many all told there up stand after is on =
+    own-port ticks many all told there after on (stand i s there up)
+own-if-biu Rmu ticks many all told there up stand after is on = cc
 
 -- after a tick the ports of all nodes that run are those of the rounds
-pub ports-after : (sc : Scenario) (hands : List HandIn) (at : Side → ℕ → ℕ) (sites : Each Site) (ports : List PortState) (me : Side) (i frame k : ℕ) (m : Option Message) (s : Site) (a : Timed) (x : Act)
+pub ports-after : {sc : Scenario} {hands : List HandIn} {at : Side → ℕ → ℕ} {sites : Each Site} {ports : List PortState} {me : Side} {i : ℕ} (frame k : ℕ) (m : Option Message) {s : Site} {a : Timed} {x : Act}
     → HasTicks sc.plan → length ports ≡ sc.sizes.bius → AllHanded sc sites hands → AllTold sc hands at sites → slice_get (of_kind me sites) i ≡ Some s → s.runs ≡ true
     → (after : AfterTick sc hands at sites ports me i s a x) → PortsStand sc hands at sites ports
     → PortsStand sc hands (moved me i after.r at) (with_message sc me i frame k m (at_node me i (after_act sc ports me i x) sites))
     (with_delivery sc i (option_and_then (λ (c : Closed). c.delivered) x.closed) ports)
-ports-after sc hands at sites ports me i frame k m s a x ticks many all told there up after stand j z e runs =
+ports-after {sc} {hands} {at} {sites} {ports} {me} {i} frame k m {x} ticks many all told there up after stand j z e runs =
     let new : List PortState = with_delivery sc i (option_and_then (λ (c : Closed). c.delivered) x.closed) ports in
     let P : Side → ℕ → ℕ → Site → Type 0 = λ side j p z. side ≡ Biu → z.runs ≡ true → port_at sc new j ≡ port_at sc (moment sc hands p).ports j in
-    one-changes P sc at sites me i frame k after.r m (after_act sc ports me i x) s
+    one-changes P sc at sites me i frame k after.r m (after_act sc ports me i x)
     (λ side j p z h is on. h is (sym (reached-same sc me i frame k m side j z).runs ∙ on)) there
-    (λ is on. own-if-biu sc hands at sites ports me i s a x ticks many all told there up stand after is on)
+    (λ is on. own-if-biu me ticks many all told there up stand after is on)
     (λ side j z other e is on.
     let its : slice_get (of_kind Biu sites) j ≡ Some z = sym (ap (λ side. slice_get (of_kind side sites) j) is) ∙ e in
     let not_it : is_node me i Biu j ≡ false = sym (ap (λ side. is_node me i side j) is) ∙ other in
-    others-keep sc hands at sites ports me i s a x j after not_it ∙ stand j z its on ∙ ap (λ side. port_at sc (moment sc hands (at side j)).ports j) (sym is))
+    others-keep me j after not_it ∙ stand j z its on ∙ ap (λ side. port_at sc (moment sc hands (at side j)).ports j) (sym is))
     Biu j z e refl runs
 
 -- What is handed in.
@@ -208,32 +208,32 @@ some-after : (sc : Scenario) (ports : List PortState) (me : Side) (i : ℕ) (e :
 some-after sc ports me i None b = (b, refl)
 some-after sc ports me i (Some e) b = (begun_of sc ports me i e, refl)
 
-pub begun-is : (sc : Scenario) (hands : List HandIn) (at : Side → ℕ → ℕ) (sites : Each Site) (ports : List PortState) (me : Side) (i : ℕ) (s : Site) (a : Timed) (x : Act)
+pub begun-is : {sc hands at sites ports me i s a x : _}
     → (after : AfterTick sc hands at sites ports me i s a x)
     → ((after_act sc ports me i x s).begun ≡ begun_after sc ports me i x.epoch s.begun)
     × ((b : Begun) → (after_act sc ports me i x s).begun ≡ Some b → ((b.frame ≡ (moment sc hands (at me i)).frame) × (after.st.epoch ≡ a.tick)) ⊎ (s.begun ≡ Some b))
-begun-is sc hands at sites ports me i s a x after =
+begun-is {sc} {hands} {at} {sites} {ports} {me} {i} {s} {a} {x} after =
     let p : ℕ = at me i in
     let word : ℕ = word_at sc (moment sc hands p) me i after.st in
     elim after.node [
       | inl stays ↦
           let is : (after_act sc ports me i x s).begun ≡ begun_after sc ports me i x.epoch s.begun = ap (λ (z : Site). z.begun) stays.1.site in
-          (is, λ b e. begun-at sc hands ports me i p a.tick word after.st x.epoch s.begun b stays.1.act.epoch after.frame (sym is ∙ e))
+          (is, λ b e. begun-at sc hands ports me i p a.tick word after.st s.begun stays.1.act.epoch after.frame (sym is ∙ e))
       | inr closes ↦
           let c : ClosesWindow sc hands (sent_by sc hands at sites) ports me i p s after.st a x = closes.1.0 in
-          (c.begun, λ b e. begun-at sc hands ports me i p a.tick word after.st x.epoch s.begun b c.act.epoch after.frame (sym c.begun ∙ e))
+          (c.begun, λ b e. begun-at sc hands ports me i p a.tick word after.st s.begun c.act.epoch after.frame (sym c.begun ∙ e))
     ]
 
-still-begun : (sc : Scenario) (hands : List HandIn) (at : Side → ℕ → ℕ) (sites : Each Site) (ports : List PortState) (me : Side) (i frame k : ℕ) (m : Option Message) (s : Site) (a : Timed) (x : Act)
-    → AllTold sc hands at sites → slice_get (of_kind me sites) i ≡ Some s → AfterTick sc hands at sites ports me i s a x → (f : ℕ) → HasBegun sc sites f
+still-begun : {sc hands at sites ports me i : _} (frame k : ℕ) (m : Option Message) {s a x : _}
+    → AllTold sc hands at sites → slice_get (of_kind me sites) i ≡ Some s → AfterTick sc hands at sites ports me i s a x → {f : ℕ} → HasBegun sc sites f
     → HasBegun sc (with_message sc me i frame k m (at_node me i (after_act sc ports me i x) sites)) f
-still-begun sc hands at sites ports me i frame k m s a x told there after f begun side j z e =
+still-begun {sc} {hands} {at} {sites} {ports} {me} {i} frame k m {s} {a} {x} told there after {f} begun side j z e =
     let P : Side → ℕ → ℕ → Site → Type 0 = λ side j p z. is_good sc side j f 0 ≡ true → (b : Begun) × ((z.begun ≡ Some b) × (f ≤ b.frame)) in
-    one-changes P sc at sites me i frame k (at me i) m (after_act sc ports me i x) s
+    one-changes P sc at sites me i frame k (at me i) m (after_act sc ports me i x)
     (λ side j p z h good. let b = h good in (b.0, ((reached-tells sc me i frame k m side j z).1 ∙ b.1.0, b.1.1))) there
     (λ good.
     let b = begun me i s there good in
-    let is = begun-is sc hands at sites ports me i s a x after in
+    let is = begun-is after in
     let new = some-after sc ports me i x.epoch b.0 in
     let new_is : (after_act sc ports me i x s).begun ≡ Some new.0 = is.0 ∙ ap (begun_after sc ports me i x.epoch) b.1.0 ∙ new.1 in (
       new.0,
@@ -268,9 +268,9 @@ still-begun sc hands at sites ports me i frame k m s a x told there after f begu
               absurd (omega (arith, number.0, number.1, up, more, le))
         ]
 
-pub handed-after : (sc : Scenario) (hands : List HandIn) (at : Side → ℕ → ℕ) (sites : Each Site) (ports : List PortState) (me : Side) (i frame k : ℕ) (m : Option Message) (s : Site) (a : Timed) (x : Act)
+pub handed-after : {sc hands at sites ports me i : _} (frame k : ℕ) (m : Option Message) {s a x : _}
     → AllTold sc hands at sites → slice_get (of_kind me sites) i ≡ Some s → AfterTick sc hands at sites ports me i s a x → (all : List HandIn) → AllHanded sc sites all
     → AllHanded sc (with_message sc me i frame k m (at_node me i (after_act sc ports me i x) sites)) all
-handed-after sc hands at sites ports me i frame k m s a x told there after all h =
+handed-after {sc} {sites} {ports} {me} {i} frame k m {x} told there after all h =
     every-weaker (λ h. HasBegun sc sites h.frame) (λ h. HasBegun sc (with_message sc me i frame k m (at_node me i (after_act sc ports me i x) sites)) h.frame)
-    (λ h begun. still-begun sc hands at sites ports me i frame k m s a x told there after h.frame begun) all h
+    (λ h begun. still-begun frame k m told there after begun) all h

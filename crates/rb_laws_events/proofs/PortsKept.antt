@@ -1,6 +1,6 @@
 -- For the law that events are rounds: the port of a BIU that closes a window is that of the rounds
 -- in the moment where the node stands then.
-use Rattle.std.proofs.{Common.{◌≡◌, ℕ, suc, ◌+◌, ◌-◌, ◌*◌, ◌<◌, ◌≤◌, ◌==◌, ◌&&◌, ◌⊎◌, nat_le, nat_lt, Bool, true, false, List, [], ◌∷◌, length, refl, ap, sym, ◌∙◌, subst, arith, inl, inr, Option, Some, None, slice_get, option_and_then, option_map, if◌then◌else◌}, lemmas.Bool.{cases_lt, lt-ltb, le-ltb}}
+use Rattle.std.proofs.{Common.{◌≡◌, ℕ, suc, ◌+◌, ◌-◌, ◌*◌, ◌<◌, ◌≤◌, ◌==◌, ◌&&◌, ◌⊎◌, nat_le, nat_lt, Bool, true, false, List, [], ◌∷◌, length, refl, ap, sym, ◌∙◌, subst, arith, inl, inr, Some, None, slice_get, option_and_then, option_map, if◌then◌else◌}, lemmas.Bool.{cases_lt, lt-ltb, le-ltb}}
 use Rattle.rb_base.specs.{Nodes.Side, Nodes.Side.{Biu, Rmu}, Sizes.{Sizes, sync_slot_of}, declared.values.Delivery.Delivery, declared.values.Heard.Heard}
 use Rattle.rb_rules.specs.{declared.closing.Closed.Closed, declared.plan.Window.Window, declared.record.SlotLine.SlotLine, declared.role.Role.Role, declared.role.Role.TheVariants.{Schedule, Data, DiagBiu, DiagRmu, Sync}, declared.sense.Sense.Sense, Book.{line_in, of_kind}, ExactStage.{Outcome, close_exact, delivery_of, keep_sent, outcome_of, says}, Goodness.{Scenario, is_good}, Hearing.{Coming, port_at, row_of, word_for}, NodeState.NodeState, Ports.{HandIn, PortState, hand_over, with_state}, Rounds.{Moment, Result, begin_frame, close_on, go_through, heard_at, moment, port_after, sent_in, step, window_in, windows_in, word_for_window}, Slots.{Sender, count_of, role_of}, SyncStage.{close_sync, sync_outcome_of}, WorldStep.with_delivery}
 use Rattle.rb_rules.proofs.{Books.stepped, RoundStates.HasTicks, Slots.{schedule_role, sync_role}}
@@ -44,14 +44,14 @@ no-line sc m me i st w no_data = by (is_good sc me i m.frame w.slot && nat_le w.
         (gives-none sc.sizes me i (keep_sent sc.sizes me i st w.slot w.stage (word_for_window sc m i w)) w.slot w.stage _ _ (w.slot == sync_slot_of sc.sizes) no_data)
     by false = refl
 
-role-not : (r s : Role) → r ≡ s → ((n : ℕ) → s ≡ Data n → ⊥) → (n : ℕ) → r ≡ Data n → ⊥
-role-not r s e no_data n f = no_data n (sym e ∙ f)
+role-not : {r s : _} → r ≡ s → ((n : ℕ) → s ≡ Data n → ⊥) → (n : ℕ) → r ≡ Data n → ⊥
+role-not e no_data n f = no_data n (sym e ∙ f)
 
 no-data-early : (sizes : Sizes) (slot : ℕ) → slot < sizes.bius → HasNoData sizes slot
-no-data-early sizes slot h n e = role-not (role_of sizes slot) (Schedule slot) (schedule_role sizes slot h) (λ n e. cc) n e
+no-data-early sizes slot h n e = role-not (schedule_role sizes slot h) (λ n e. cc) n e
 
 no-data-late : (sizes : Sizes) → HasNoData sizes (sync_slot_of sizes)
-no-data-late sizes n e = role-not (role_of sizes (sync_slot_of sizes)) Sync (sync_role sizes) (λ n e. cc) n e
+no-data-late sizes n e = role-not (sync_role sizes) (λ n e. cc) n e
 
 -- Steps of the rounds that leave a port alone.
 
@@ -64,7 +64,7 @@ still-by sc hands p i ticks counted inside no_data =
     let st = item-at (of_kind Biu m.nodes) i (omega arith) in
     let w : Window = window_in sc m Biu st.0 in
     let slot : w.slot ≡ slot_numbered sc.sizes m.window = slot-is sc.sizes sc.plan Biu st.0 m.window in
-    port-after-window sc hands p i st.0 inside counted st.1
+    port-after-window sc hands p i inside counted st.1
     ∙ ap (λ l. port_after l (port_at sc m.ports i)) (no-line sc m Biu i st.0 w (subst (HasNoData sc.sizes) (sym slot) no_data))
 
 -- in the sync slot and the tail nothing is delivered
@@ -144,7 +144,7 @@ port-there sc hands p q i ticks counted within (inl stage) none =
         ∙ ap (λ ports. port_at sc ports i) (ports-turned sc hands e full ∙ none-over ((moment sc hands e).frame + 1) hands (moment sc hands e).ports none_here)
 
 -- the port of a BIU that closed a window
-pub port-then : (sc : Scenario) (hands : List HandIn) (ports : List PortState) (p q i : ℕ) (st x : NodeState) (heard : ℕ → List Coming) (closed : Option Closed) (c : Closed)
+pub port-then : (sc : Scenario) (hands : List HandIn) (ports : List PortState) (p q i : ℕ) {st : _} (x : NodeState) (heard : ℕ → List Coming) {closed c : _}
     → HasTicks sc.plan → i < sc.sizes.bius → length ports ≡ sc.sizes.bius → (moment sc hands p).window ≤ stages_in sc.sizes
     → (q ≡ next_stage sc.sizes (moment sc hands p) p) ⊎ ((q ≡ suc p) × ((moment sc hands q).window ≡ stages_in sc.sizes))
     → ((moment sc hands q).window ≡ 0 → NoneHanded (moment sc hands q).frame hands)
@@ -152,12 +152,12 @@ pub port-then : (sc : Scenario) (hands : List HandIn) (ports : List PortState) (
     → (go_through sc (moment sc hands p) (sent_in sc (moment sc hands p)) Biu i st (window_in sc (moment sc hands p) Biu st)).row ≡ Some (row_of Biu i x heard c)
     → port_at sc ports i ≡ port_at sc (moment sc hands p).ports i
     → port_at sc (with_delivery sc i (option_and_then (λ (c : Closed). c.delivered) closed) ports) i ≡ port_at sc (moment sc hands q).ports i
-port-then sc hands ports p q i st x heard closed c ticks counted many within place none there is row same =
+port-then sc hands ports p q i {st} x heard {c} ticks counted many within place none there is row same =
     ap (λ o. port_at sc (with_delivery sc i (option_and_then (λ (c : Closed). c.delivered) o) ports) i) is
     ∙ port-after-close sc i ports x heard c (omega arith)
     ∙ ap (λ r. port_after (line_in r) (port_at sc ports i)) (sym row)
     ∙ ap (port_after (line_in (go_through sc (moment sc hands p) (sent_in sc (moment sc hands p)) Biu i st (window_in sc (moment sc hands p) Biu st)).row)) same
-    ∙ sym (port-after-window sc hands p i st (omega arith) counted there)
+    ∙ sym (port-after-window sc hands p i (omega arith) counted there)
     ∙ sym (port-there sc hands p q i ticks counted within place none)
 
 -- in the sync slot what a node says does not depend on its port

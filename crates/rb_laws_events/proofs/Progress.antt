@@ -15,16 +15,16 @@ pub record SomePends (w : World) : Type 0 where
   pub pends : s.ahead ≡ Some a
 
 -- if a tick is pending, what is pending has a least time
-pub some-time : (w : World) (me : Side) (i : ℕ) (s : Site) (a : Timed) → slice_get (of_kind me w.sites) i ≡ Some s → s.ahead ≡ Some a
+pub some-time : (w : World) (me : Side) (i : ℕ) {s a : _} → slice_get (of_kind me w.sites) i ≡ Some s → s.ahead ≡ Some a
     → (t : ℕ) × (least (flat_map times_of (in_order w.sites)) ≡ Some t)
-some-time w me i s a there pend = by (least (flat_map times_of (in_order w.sites))) refl
+some-time w me i {s} {a} there pend = by (least (flat_map times_of (in_order w.sites))) refl
   where
     own : Every (λ u. ⊥) (times_of s) → ⊥
     own all = (subst (λ o. Every (λ (u : ℕ). ⊥) (option_to_list (option_map (λ (a : Timed). a.time) o) ++ map (λ (c : Coming). c.time) s.coming)) pend all).0
 
     at : (me : Side) → slice_get (of_kind me w.sites) i ≡ Some s → Every (λ s. Every (λ u. ⊥) (times_of s)) (w.sites.bius ++ w.sites.rmus) → Every (λ u. ⊥) (times_of s)
-    at Biu e all = every-at (λ s. Every (λ u. ⊥) (times_of s)) w.sites.bius i s e (every-front (λ s. Every (λ u. ⊥) (times_of s)) w.sites.bius w.sites.rmus all)
-    at Rmu e all = every-at (λ s. Every (λ u. ⊥) (times_of s)) w.sites.rmus i s e (every-back (λ s. Every (λ u. ⊥) (times_of s)) w.sites.bius w.sites.rmus all)
+    at Biu e all = every-at (λ s. Every (λ u. ⊥) (times_of s)) w.sites.bius i e (every-front (λ s. Every (λ u. ⊥) (times_of s)) w.sites.bius w.sites.rmus all)
+    at Rmu e all = every-at (λ s. Every (λ u. ⊥) (times_of s)) w.sites.rmus i e (every-back (λ s. Every (λ u. ⊥) (times_of s)) w.sites.bius w.sites.rmus all)
 
     by : (o : Option ℕ) → least (flat_map times_of (in_order w.sites)) ≡ o → (t : ℕ) × (least (flat_map times_of (in_order w.sites)) ≡ Some t)
     by (Some t) e = (t, e)
@@ -37,9 +37,9 @@ due-where-pends : (sc : Scenario) (choices : List Choice) → SomePends (world_a
     → (world_after sc choices).book.ended ≡ false → needs_no_event sc (world_after sc choices).book.upcoming ≡ false → 1 ≤ length (due_of sc (world_after sc choices))
 due-where-pends sc choices node going needs =
     let w : World = world_after sc choices in
-    let pending = some-time w node.me node.i node.s node.a node.there node.pends in
+    let pending = some-time w node.me node.i node.there node.pends in
     let goes : (w.book.ended || needs_no_event sc w.book.upcoming) ≡ false = ap (λ b. b || needs_no_event sc w.book.upcoming) going ∙ needs in
-    some-item (due_of sc w) (some-due sc w pending.0 (record { known = (worlds-known sc choices).known }) goes pending.1)
+    some-item (due_of sc w) (some-due (record { known = (worlds-known sc choices).known }) goes pending.1)
   where
     some-item : (ds : List Due) → (ds ≡ [] → ⊥) → 1 ≤ length ds
     some-item [] never = absurd (never refl)

@@ -19,17 +19,17 @@ delay-least sc delay (r ∷ rs) from to place low all =
     by false = low
 
 -- a message is some time on its way
-on-its-way : (sc : Scenario) → IsLawful sc → (from to : NodeName) (place : Place) → 1 ≤ delay_of sc.delays from to place
+on-its-way : {sc : _} → IsLawful sc → (from to : NodeName) (place : Place) → 1 ≤ delay_of sc.delays from to place
 unfolding delay_of
-on-its-way sc lawful from to place =
+on-its-way {sc} lawful from to place =
     let some : 1 ≤ sc.plan.dmin = lawful.plan.dmin.0 in
     let low : sc.plan.dmin ≤ delay_after sc.delays.base sc.delays.rules from to place =
     delay-least sc sc.delays.base sc.delays.rules from to place lawful.base_delay.least lawful.rules in
     omega arith
 
-pub way-least : (sc : Scenario) → IsLawful sc → (from to : NodeName) (place : Place) → sc.plan.dmin ≤ delay_of sc.delays from to place
+pub way-least : {sc : _} → IsLawful sc → (from to : NodeName) (place : Place) → sc.plan.dmin ≤ delay_of sc.delays from to place
 unfolding delay_of
-way-least sc lawful from to place = delay-least sc sc.delays.base sc.delays.rules from to place lawful.base_delay.least lawful.rules
+way-least {sc} lawful from to place = delay-least sc sc.delays.base sc.delays.rules from to place lawful.base_delay.least lawful.rules
 
 delay-most : (sc : Scenario) (delay : ℕ) (rules : List Rule) (from to : NodeName) (place : Place) → delay ≤ sc.plan.dmax → All (IsRuleOf sc) rules
     → delay_after delay rules from to place ≤ sc.plan.dmax
@@ -41,22 +41,22 @@ delay-most sc delay (r ∷ rs) from to place high all =
     by true = let its : IsRuleOf sc r = All-head (IsRuleOf sc) r rs all in its.delay.greatest
     by false = high
 
-pub way-most : (sc : Scenario) → IsLawful sc → (from to : NodeName) (place : Place) → delay_of sc.delays from to place ≤ sc.plan.dmax
+pub way-most : {sc : _} → IsLawful sc → (from to : NodeName) (place : Place) → delay_of sc.delays from to place ≤ sc.plan.dmax
 unfolding delay_of
-way-most sc lawful from to place = delay-most sc sc.delays.base sc.delays.rules from to place lawful.base_delay.greatest lawful.rules
+way-most {sc} lawful from to place = delay-most sc sc.delays.base sc.delays.rules from to place lawful.base_delay.greatest lawful.rules
 
-pub comes-after : (sc : Scenario) → IsLawful sc → (me : Side) (i j frame : ℕ) (x : Sending) → time_of (clock_of sc (other me) j) x.tick < (coming_of sc me i j frame x).time
-comes-after sc lawful me i j frame x =
+pub comes-after : {sc : _} → IsLawful sc → (me : Side) (i j frame : ℕ) (x : Sending) → time_of (clock_of sc (other me) j) x.tick < (coming_of sc me i j frame x).time
+comes-after {sc} lawful me i j frame x =
     let place : Place = record { frame = frame; slot = x.message.slot; stage = x.message.stage } in
-    let some : 1 ≤ delay_of sc.delays (name_of (other me) j) (name_of me i) place = on-its-way sc lawful (name_of (other me) j) (name_of me i) place in
+    let some : 1 ≤ delay_of sc.delays (name_of (other me) j) (name_of me i) place = on-its-way lawful (name_of (other me) j) (name_of me i) place in
     omega arith
 
 -- What is known of who has sent what.
 
 -- if what was sent stays the same for all sources, the node stands as before
-pub stands-same : (sc : Scenario) (hands : List HandIn) (sent sent2 : Side → ℕ → ℕ → Bool) (now : ℕ) (me : Side) (i p : ℕ) (s : Site) (st : NodeState) (a : Timed)
+pub stands-same : {sc : Scenario} {hands : List HandIn} {sent : Side → ℕ → ℕ → Bool} (sent2 : Side → ℕ → ℕ → Bool) {now : ℕ} {me : Side} {i p : ℕ} {s : Site} {st : NodeState} {a : Timed}
     → ((j p : ℕ) → sent2 (other me) j p ≡ sent (other me) j p) → NodeStands sc hands sent now me i p s st a → NodeStands sc hands sent2 now me i p s st a
-stands-same sc hands sent sent2 now me i p s st a same h =
+stands-same {sc} {hands} {sent} sent2 {now} {me} {i} {p} {s} {st} {a} same h =
     let m : Moment = moment sc hands p in
     let z : ℕ = next_stage sc.sizes m p in
     let here : (λ j. sent (other me) j p) ≡ (λ j. sent2 (other me) j p) = fun_ext (λ j. sym (same j p)) in
@@ -85,15 +85,15 @@ differs : (a b : ℕ) → a < b → (b == a) ≡ false
 differs a b h = grind (arith, nat_tests)
 
 -- the lists of the source for its moment
-heard-before : (sc : Scenario) (m : Moment) (me : Side) (i j : ℕ) (st : NodeState) (sent : ℕ → Bool) → is_good_at sc m (other me) j ≡ true → (b : Bool) → sent j ≡ b
+heard-before : (sc : Scenario) (m : Moment) (me : Side) (i j : ℕ) (st : NodeState) (sent : ℕ → Bool) → is_good_at sc m (other me) j ≡ true → {b : _} → sent j ≡ b
     → heard_so_far sc m me i (span_of st (window_in sc m me st)) sent j ≡ (elim b as (λ _. List Coming) [ true ↦ entry_of sc m me i j | false ↦ [] ])
-heard-before sc m me i j st sent good b e =
+heard-before sc m me i j st sent good e =
     ap (λ (g : Bool). elim g as (λ _. List Coming) [ true ↦ elim (sent j) as (λ _. List Coming) [ true ↦ entry_of sc m me i j | false ↦ [] ] | false ↦ said_by sc me i (span_of st (window_in sc m me st)) j ]) good
     ∙ ap (λ (c : Bool). elim c as (λ _. List Coming) [ true ↦ entry_of sc m me i j | false ↦ [] ]) e
 
-ahead-before : (sc : Scenario) (m : Moment) (me : Side) (i j : ℕ) (sent : ℕ → Bool) → is_good_at sc m (other me) j ≡ true → (b : Bool) → sent j ≡ b
+ahead-before : (sc : Scenario) (m : Moment) (me : Side) (i j : ℕ) (sent : ℕ → Bool) → is_good_at sc m (other me) j ≡ true → {b : _} → sent j ≡ b
     → ahead_so_far sc m me i sent j ≡ (elim b as (λ _. List Coming) [ true ↦ entry_of sc m me i j | false ↦ [] ])
-ahead-before sc m me i j sent good b e =
+ahead-before sc m me i j sent good e =
     ap (λ (g : Bool). elim g as (λ _. List Coming) [ true ↦ elim (sent j) as (λ _. List Coming) [ true ↦ entry_of sc m me i j | false ↦ [] ] | false ↦ [] ]) good
     ∙ ap (λ (c : Bool). elim c as (λ _. List Coming) [ true ↦ entry_of sc m me i j | false ↦ [] ]) e
 
@@ -121,13 +121,13 @@ abbrev pub ahead_for : Scenario → List HandIn → (Side → ℕ → ℕ → Bo
 ahead_for sc hands sent me i p j =
     ahead_so_far sc (moment sc hands (next_stage sc.sizes (moment sc hands p) p)) me i (λ j. sent (other me) j (next_stage sc.sizes (moment sc hands p) p)) j
 
-own-lands : (sc : Scenario) (hands : List HandIn) (sent sent2 : Side → ℕ → ℕ → Bool) (me : Side) (i p j0 q t : ℕ) (st : NodeState) (e : Coming) (got coming : List Coming)
+own-lands : (sc : Scenario) (hands : List HandIn) (sent sent2 : Side → ℕ → ℕ → Bool) (me : Side) (i : ℕ) {p j0 q t : ℕ} (st : NodeState) {e : Coming} {got coming : List Coming}
     → t ≡ time_of (clock_of sc me i) (last_tick sc (moment sc hands p) me st)
     → SendsFor (sent (other me)) (sent2 (other me)) j0 q → e.from ≡ j0 → entry_of sc (moment sc hands q) me i j0 ≡ e ∷ [] → is_good_at sc (moment sc hands q) (other me) j0 ≡ true
-    → p < next_stage sc.sizes (moment sc hands p) p → (j : ℕ) → j ≡ j0 → Lands sc hands me i p q st e
+    → p < next_stage sc.sizes (moment sc hands p) p → {j : ℕ} → j ≡ j0 → Lands sc hands me i p q st e
     → Hears j t got coming (heard_for sc hands sent me i p st j) (ahead_for sc hands sent me i p j)
     → Hears j t got (coming ++ e ∷ []) (heard_for sc hands sent2 me i p st j) (ahead_for sc hands sent2 me i p j)
-own-lands sc hands sent sent2 me i p j0 q t st e got coming at sends from entry good rise j same (inl now) h =
+own-lands sc hands sent sent2 me i {p} {j0} {q} {t} st {e} {got} {coming} at sends from entry good rise {j} same (inl now) h =
     let its : (e.from == j) ≡ true = ap (λ k. k == j) (from ∙ sym same) ∙ eq_self j in
     let entry_p : entry_of sc (moment sc hands p) me i j ≡ e ∷ [] =
     ap (entry_of sc (moment sc hands p) me i) same ∙ ap (λ q. entry_of sc (moment sc hands q) me i j0) (sym now.0) ∙ entry in
@@ -136,19 +136,19 @@ own-lands sc hands sent sent2 me i p j0 q t st e got coming at sends from entry 
     let was : sent (other me) j p ≡ false = ap (λ j. sent (other me) j p) same ∙ ap (sent (other me) j0) (sym now.0) ∙ sends.before in
     let is : sent2 (other me) j p ≡ true = ap (λ j. sent2 (other me) j p) same ∙ ap (sent2 (other me) j0) (sym now.0) ∙ sends.after in
     let none : heard_so_far sc (moment sc hands p) me i (span_of st (window_in sc (moment sc hands p) me st)) (λ j. sent (other me) j p) j ≡ [] =
-    heard-before sc (moment sc hands p) me i j st (λ j. sent (other me) j p) good_p false was in
+    heard-before sc (moment sc hands p) me i j st (λ j. sent (other me) j p) good_p was in
     let one : heard_so_far sc (moment sc hands p) me i (span_of st (window_in sc (moment sc hands p) me st)) (λ j. sent2 (other me) j p) j ≡ e ∷ [] =
-    heard-before sc (moment sc hands p) me i j st (λ j. sent2 (other me) j p) good_p true is ∙ entry_p in
+    heard-before sc (moment sc hands p) me i j st (λ j. sent2 (other me) j p) good_p is ∙ entry_p in
     let z : ℕ = next_stage sc.sizes (moment sc hands p) p in
     let far : sent (other me) j z ≡ sent2 (other me) j z =
     ap (λ j. sent (other me) j z) same ∙ sym (sends.elsewhere z (differs q z (omega arith))) ∙ sym (ap (λ j. sent2 (other me) j z) same) in
     let ahead : ahead_so_far sc (moment sc hands z) me i (λ j. sent (other me) j z) j ≡ ahead_so_far sc (moment sc hands z) me i (λ j. sent2 (other me) j z) j =
     ahead-same sc (moment sc hands z) me i j (λ j. sent (other me) j z) (λ j. sent2 (other me) j z) far in
     subst (λ l. Hears j t got (coming ++ e ∷ []) l (ahead_so_far sc (moment sc hands z) me i (λ j. sent2 (other me) j z) j)) (sym one)
-    (say-now j t got coming (ahead_so_far sc (moment sc hands z) me i (λ j. sent2 (other me) j z) j) e its (subst (λ t. e.time ≤ t) (sym at) now.1)
+    (say-now e its (subst (λ t. e.time ≤ t) (sym at) now.1)
     (subst (λ l. Hears j t got coming [] l) ahead
     (subst (λ l. Hears j t got coming l (ahead_so_far sc (moment sc hands z) me i (λ j. sent (other me) j z) j)) none h)))
-own-lands sc hands sent sent2 me i p j0 q t st e got coming at sends from entry good rise j same (inr next) h =
+own-lands sc hands sent sent2 me i {p} {j0} {q} {t} st {e} {got} {coming} at sends from entry good rise {j} same (inr next) h =
     let its : (e.from == j) ≡ true = ap (λ k. k == j) (from ∙ sym same) ∙ eq_self j in
     let z : ℕ = next_stage sc.sizes (moment sc hands p) p in
     let entry_z : entry_of sc (moment sc hands z) me i j ≡ e ∷ [] =
@@ -158,41 +158,41 @@ own-lands sc hands sent sent2 me i p j0 q t st e got coming at sends from entry 
     let was : sent (other me) j z ≡ false = ap (λ j. sent (other me) j z) same ∙ ap (sent (other me) j0) (sym next.0) ∙ sends.before in
     let is : sent2 (other me) j z ≡ true = ap (λ j. sent2 (other me) j z) same ∙ ap (sent2 (other me) j0) (sym next.0) ∙ sends.after in
     let none : ahead_so_far sc (moment sc hands z) me i (λ j. sent (other me) j z) j ≡ [] =
-    ahead-before sc (moment sc hands z) me i j (λ j. sent (other me) j z) good_z false was in
+    ahead-before sc (moment sc hands z) me i j (λ j. sent (other me) j z) good_z was in
     let one : ahead_so_far sc (moment sc hands z) me i (λ j. sent2 (other me) j z) j ≡ e ∷ [] =
-    ahead-before sc (moment sc hands z) me i j (λ j. sent2 (other me) j z) good_z true is ∙ entry_z in
+    ahead-before sc (moment sc hands z) me i j (λ j. sent2 (other me) j z) good_z is ∙ entry_z in
     let near : sent (other me) j p ≡ sent2 (other me) j p =
     ap (λ j. sent (other me) j p) same ∙ sym (sends.elsewhere p (differs-turned q p (differs p q (omega arith)))) ∙ sym (ap (λ j. sent2 (other me) j p) same) in
     let heard = heard-same sc (moment sc hands p) me i j st (λ j. sent (other me) j p) (λ j. sent2 (other me) j p) near in
     subst (λ l. Hears j t got (coming ++ e ∷ []) (heard_so_far sc (moment sc hands p) me i (span_of st (window_in sc (moment sc hands p) me st)) (λ j. sent2 (other me) j p) j) l) (sym one)
-    (say-next j t got coming (heard_so_far sc (moment sc hands p) me i (span_of st (window_in sc (moment sc hands p) me st)) (λ j. sent2 (other me) j p) j) e its (subst (λ t. t < e.time) (sym at) next.1)
+    (say-next e its (subst (λ t. t < e.time) (sym at) next.1)
     (subst (λ l. Hears j t got coming (heard_so_far sc (moment sc hands p) me i (span_of st (window_in sc (moment sc hands p) me st)) (λ j. sent2 (other me) j p) j) l) none
     (subst (λ l. Hears j t got coming l (ahead_so_far sc (moment sc hands z) me i (λ j. sent (other me) j z) j)) heard h)))
 
-other-lands : (sc : Scenario) (hands : List HandIn) (sent sent2 : Side → ℕ → ℕ → Bool) (me : Side) (i p j0 q t : ℕ) (st : NodeState) (e : Coming) (got coming : List Coming)
-    → SendsFor (sent (other me)) (sent2 (other me)) j0 q → e.from ≡ j0 → (j : ℕ) → (j == j0) ≡ false
+other-lands : (sc : Scenario) (hands : List HandIn) (sent sent2 : Side → ℕ → ℕ → Bool) (me : Side) (i p : ℕ) {j0 q t : ℕ} (st : NodeState) (e : Coming) {got coming : _}
+    → SendsFor (sent (other me)) (sent2 (other me)) j0 q → e.from ≡ j0 → {j : ℕ} → (j == j0) ≡ false
     → Hears j t got coming (heard_for sc hands sent me i p st j) (ahead_for sc hands sent me i p j)
     → Hears j t got (coming ++ e ∷ []) (heard_for sc hands sent2 me i p st j) (ahead_for sc hands sent2 me i p j)
-other-lands sc hands sent sent2 me i p j0 q t st e got coming sends from j f h =
+other-lands sc hands sent sent2 me i p {j0} {t} st e {got} {coming} sends from {j} f h =
     let z : ℕ = next_stage sc.sizes (moment sc hands p) p in
     let its : (e.from == j) ≡ false = ap (λ k. k == j) from ∙ differs-turned j j0 f in
     let heard = heard-same sc (moment sc hands p) me i j st (λ j. sent (other me) j p) (λ j. sent2 (other me) j p) (sym (sends.others j p f)) in
     let ahead = ahead-same sc (moment sc hands z) me i j (λ j. sent (other me) j z) (λ j. sent2 (other me) j z) (sym (sends.others j z f)) in
-    say-other j t got coming (heard_for sc hands sent2 me i p st j) (ahead_for sc hands sent2 me i p j) e its
+    say-other e its
     (subst (λ l. Hears j t got coming (heard_so_far sc (moment sc hands p) me i (span_of st (window_in sc (moment sc hands p) me st)) (λ j. sent2 (other me) j p) j) l) ahead
     (subst (λ l. Hears j t got coming l (ahead_so_far sc (moment sc hands z) me i (λ j. sent (other me) j z) j)) heard h))
 
-hears-more : (sc : Scenario) (hands : List HandIn) (sent sent2 : Side → ℕ → ℕ → Bool) (me : Side) (i p j0 q t : ℕ) (st : NodeState) (e : Coming) (got coming : List Coming)
+hears-more : (sc : Scenario) (hands : List HandIn) (sent sent2 : Side → ℕ → ℕ → Bool) (me : Side) (i : ℕ) {p j0 q t : ℕ} (st : NodeState) {e : Coming} {got coming : List Coming}
     → t ≡ time_of (clock_of sc me i) (last_tick sc (moment sc hands p) me st)
     → SendsFor (sent (other me)) (sent2 (other me)) j0 q → e.from ≡ j0 → entry_of sc (moment sc hands q) me i j0 ≡ e ∷ [] → is_good_at sc (moment sc hands q) (other me) j0 ≡ true
-    → p < next_stage sc.sizes (moment sc hands p) p → Lands sc hands me i p q st e → (j : ℕ)
+    → p < next_stage sc.sizes (moment sc hands p) p → Lands sc hands me i p q st e → {j : ℕ}
     → Hears j t got coming (heard_for sc hands sent me i p st j) (ahead_for sc hands sent me i p j)
     → Hears j t got (coming ++ e ∷ []) (heard_for sc hands sent2 me i p st j) (ahead_for sc hands sent2 me i p j)
-hears-more sc hands sent sent2 me i p j0 q t st e got coming at sends from entry good rise lands j h =
+hears-more sc hands sent sent2 me i {p} {j0} {t} st {e} {got} {coming} at sends from entry good rise lands {j} h =
     let go : (b : Bool) → (j == j0) ≡ b → Hears j t got (coming ++ e ∷ []) (heard_for sc hands sent2 me i p st j) (ahead_for sc hands sent2 me i p j) =
     λ b. elim b as (λ b. (j == j0) ≡ b → Hears j t got (coming ++ e ∷ []) (heard_for sc hands sent2 me i p st j) (ahead_for sc hands sent2 me i p j)) [
-      | true ↦ λ f. own-lands sc hands sent sent2 me i p j0 q t st e got coming at sends from entry good rise j (eqb-true j j0 f) lands h
-      | false ↦ λ f. other-lands sc hands sent sent2 me i p j0 q t st e got coming sends from j f h
+      | true ↦ λ f. own-lands sc hands sent sent2 me i st at sends from entry good rise (eqb-true j j0 f) lands h
+      | false ↦ λ f. other-lands sc hands sent sent2 me i p st e sends from f h
     ] in
     go (j == j0) refl
 
@@ -208,12 +208,12 @@ next-later sizes m p h = by (nat_lt (m.window + 1) (stages_in sizes))
     by false = omega arith
 
 -- the receiver of a message stands where it stood
-pub stands-more : (sc : Scenario) (hands : List HandIn) (sent sent2 : Side → ℕ → ℕ → Bool) (now : ℕ) (me : Side) (i p j0 q : ℕ) (s : Site) (st : NodeState) (a : Timed) (e : Coming)
+pub stands-more : {sc : Scenario} {hands : List HandIn} {sent : Side → ℕ → ℕ → Bool} (sent2 : Side → ℕ → ℕ → Bool) {now : ℕ} {me : Side} {i p j0 q : ℕ} {s : Site} {st : NodeState} {a : Timed} {e : Coming}
     → SendsFor (sent (other me)) (sent2 (other me)) j0 q → e.from ≡ j0 → j0 < count_of (other me) sc.sizes → now < e.time
     → entry_of sc (moment sc hands q) me i j0 ≡ e ∷ [] → is_good_at sc (moment sc hands q) (other me) j0 ≡ true
     → Lands sc hands me i p q st e → NodeStands sc hands sent now me i p s st a
     → NodeStands sc hands sent2 now me i p (record s { coming = s.coming ++ e ∷ [] }) st a
-stands-more sc hands sent sent2 now me i p j0 q s st a e sends from there after entry good lands h =
+stands-more {sc} {hands} {sent} sent2 {now} {me} {i} {p} {s} {st} {a} {e} sends from there after entry good lands h =
     let m : Moment = moment sc hands p in
     let t : ℕ = time_of (clock_of sc me i) (last_tick sc m me st) in
     let r : Receives sc me i (last_tick sc m me st) (heard_for sc hands sent me i p st) (ahead_for sc hands sent me i p) now s a = h.receives in
@@ -223,7 +223,7 @@ stands-more sc hands sent sent2 now me i p j0 q s st a e sends from there after 
       stands = h.stands;
       from = h.from;
       receives = record {
-        hears = λ j. hears-more sc hands sent sent2 me i p j0 q t st e s.got s.coming refl sends from entry good (next-later sc.sizes m p h.stands.window) lands j (r.hears j);
+        hears = λ j. hears-more sc hands sent sent2 me i st refl sends from entry good (next-later sc.sizes m p h.stands.window) lands (r.hears j);
         known = known-append sc.sizes me s.coming (e ∷ []) r.known (subst (λ k. k < count_of (other me) sc.sizes) (sym from) there, tt);
         inbox = r.inbox;
         pends = r.pends;

@@ -37,10 +37,10 @@ every-without P n [] e = none n
 every-without P zero (x ∷ xs) e = e.1
 every-without P (suc n) (x ∷ xs) e = (e.0, every-without P n xs e.1)
 
-pub every-stands : (P : Coming → Type 0) (n : ℕ) (c : Coming) (xs : List Coming) → StandsAt n c xs → Every P xs → P c
-every-stands P n c [] s e = absurd s
-every-stands P zero c (x ∷ xs) s e = subst P s e.0
-every-stands P (suc n) c (x ∷ xs) s e = every-stands P n c xs s e.1
+pub every-stands : (P : Coming → Type 0) (n : ℕ) {c : _} (xs : List Coming) → StandsAt n c xs → Every P xs → P c
+every-stands P n [] s e = absurd s
+every-stands P zero (x ∷ xs) s e = subst P s e.0
+every-stands P (suc n) (x ∷ xs) s e = every-stands P n xs s e.1
 
 pub passed-had : (k : ℕ) (c : Core) → c.had ≤ k → (pass_to k c).had ≡ k
 passed-had k c h = omega arith
@@ -62,18 +62,18 @@ stamp-between clock moves had tick t reached behind =
     ]
 
 -- an arrival keeps `Receives`
-pub arrival-received : (sc : Scenario) (me : Side) (i last : ℕ) (sent next : ℕ → List Coming) (now n : ℕ) (c : Coming) (s : Site) (a : Timed)
+pub arrival-received : {sc me i last sent next now n c s a : _}
     → Moves (clock_of sc me i) → ArrivesNow n c s a → Receives sc me i last sent next now s a
     → Receives sc me i last sent next c.time (after_arrival sc me i n c s) a
 unfolding after_arrival
-arrival-received sc me i last sent next now n c s a moves due r =
+arrival-received {sc} {me} {i} {last} {n} {c} {s} {a} moves due r =
     let clock : Timeline = clock_of sc me i in
     let k : ℕ = stamp_of clock c.time in
     let at_time : a.time ≡ time_of clock a.tick = r.at_time in
     let before : c.time ≤ a.time = due.before_tick in
     let between : (s.core.had ≤ k) × (k ≤ a.tick) =
     stamp-between clock moves s.core.had a.tick c.time (omega arith)
-    (every-stands (λ c. (m : ℕ) → s.core.had ≡ suc m → time_of clock m < c.time) n c s.coming due.at r.behind) in
+    (every-stands (λ c. (m : ℕ) → s.core.had ≡ suc m → time_of clock m < c.time) n s.coming due.at r.behind) in
     let passed : Core = pass_to k s.core in
     let had : passed.had ≡ k = passed-had k s.core between.0 in
     let core : Core = arrive sc.sizes me passed c.from c.bytes in
@@ -86,10 +86,10 @@ arrival-received sc me i last sent next now n c s a moves due r =
     let next_is : IsNext sc.sizes sc.plan me i s.core.state k a.tick =
     passed-next sc.sizes sc.plan me i s.core.state s.core.had a.tick k r.is_next between.0 high in
     record {
-      hears = λ j. arrival-keeps j (time_of clock last) n c s.got s.coming (sent j) (next j) due.at (omega arith) (r.hears j);
+      hears = λ j. arrival-keeps n c due.at (omega arith) (r.hears j);
       known = every-without (λ c. c.from < count_of (other me) sc.sizes) n s.coming r.known;
       inbox = inbox-keeps sc.sizes me clock passed s.got c r.inbox had (omega arith)
-          (every-stands (λ c. c.from < count_of (other me) sc.sizes) n c s.coming due.at r.known);
+          (every-stands (λ c. c.from < count_of (other me) sc.sizes) n s.coming due.at r.known);
       pends = r.pends;
       at_time = r.at_time;
       is_next = subst (λ st. IsNext sc.sizes sc.plan me i st core.had a.tick) (sym e.0)

@@ -69,9 +69,9 @@ first-stand sc hands = record {
       subst (λ st. Stands sc (first_moment sc hands) me st) same (record { frame = refl; knows = first-knows sc.sizes me });
 }
 
-window-stand : (sc : Scenario) (m : Moment) → HasTicks sc.plan → m.window < windows_in sc.sizes → AllStand sc m → AllStand sc (after_window sc m (results_of sc m))
+window-stand : {sc : Scenario} {m : Moment} → HasTicks sc.plan → m.window < windows_in sc.sizes → AllStand sc m → AllStand sc (after_window sc m (results_of sc m))
 unfolding after_window results_of
-window-stand sc m ticks below h = record {
+window-stand {sc} {m} ticks below h = record {
   window = omega arith;
   counts = λ me.
       length-each (λ me i (r : Result). r.state) (results_of sc m) me
@@ -109,15 +109,15 @@ turn-stands sc m me e st w f = record {
 }
 
 -- a node that stood at the end of a frame stands at the start of the next
-turned-stand : (sc : Scenario) (hands : List HandIn) (m : Moment) (me : Side) (i : ℕ) (old st : NodeState) → m.window ≡ windows_in sc.sizes
+turned-stand : {sc : Scenario} (hands : List HandIn) {m : Moment} {me : Side} (i : ℕ) {old st : NodeState} → m.window ≡ windows_in sc.sizes
     → slice_get (of_kind me m.nodes) i ≡ Some old → slice_get (of_kind me (next_frame sc hands m).nodes) i ≡ Some st → Stands sc m me old
     → Stands sc (next_frame sc hands m) me st
 unfolding begin_frame
-turned-stand sc hands m me i old st full was is stood =
+turned-stand {sc} hands {m} {me} i {old} {st} full was is stood =
     let now : NodeState = turn_if_known sc.sizes sc.plan me old in
     let same : now ≡ st = same_Some now st (sym (state-turned sc hands m me i old was) ∙ is) in
     let known : is_some (new_epoch_of sc.plan me old) ≡ true =
-    epoch-known sc.sizes sc.plan me old (subst (λ n. Knows sc.sizes me n old) full stood.knows) in
+    epoch-known sc.plan me (subst (λ n. Knows sc.sizes me n old) full stood.knows) in
     let by = turned-by sc.sizes sc.plan.probation me old (new_epoch_of sc.plan me old) known in
     let turn_is : turn sc.sizes sc.plan.probation me by.0 old ≡ now = sym by.1 in
     let is_st : turn sc.sizes sc.plan.probation me by.0 old ≡ st = turn_is ∙ same in
@@ -125,9 +125,9 @@ turned-stand sc hands m me i old st full was is stood =
     subst (λ st. Stands sc (next_frame sc hands m) me st) is_st
     (turn-stands sc (next_frame sc hands m) me by.0 old refl (ap (λ f. f + 1) same_frame))
 
-frame-stand : (sc : Scenario) (hands : List HandIn) (m : Moment) → windows_in sc.sizes ≤ m.window → AllStand sc m → AllStand sc (next_frame sc hands m)
+frame-stand : {sc : Scenario} (hands : List HandIn) {m : Moment} → windows_in sc.sizes ≤ m.window → AllStand sc m → AllStand sc (next_frame sc hands m)
 unfolding begin_frame
-frame-stand sc hands m over h =
+frame-stand {sc} hands {m} over h =
     let bound : m.window ≤ windows_in sc.sizes = h.window in
     let full : m.window ≡ windows_in sc.sizes = omega arith in
     record {
@@ -140,12 +140,12 @@ frame-stand sc hands m over h =
           let old = item-at (of_kind me m.nodes) i within in
           let before : is_good sc me i m.frame (slot_numbered sc.sizes m.window) ≡ true =
           good_before sc me i m.frame (m.frame + 1) (slot_numbered sc.sizes m.window) (slot_numbered sc.sizes 0) (omega arith) good in
-          turned-stand sc hands m me i old.0 st full old.1 there (h.stands me i old.0 old.1 before);
+          turned-stand hands i full old.1 there (h.stands me i old.0 old.1 before);
     }
 
 -- with another book all nodes stand as before
-other-book : (sc : Scenario) (m : Moment) (b : Book) → AllStand sc m → AllStand sc (record m { book = b })
-other-book sc m b h = record {
+other-book : {sc m : _} (b : Book) → AllStand sc m → AllStand sc (record m { book = b })
+other-book {sc} {m} b h = record {
   window = h.window;
   counts = h.counts;
   stands = λ me i st there good. let s : Stands sc m me st = h.stands me i st there good in record { frame = s.frame; knows = s.knows };
@@ -154,15 +154,15 @@ other-book sc m b h = record {
 stepped-stand : (sc : Scenario) (hands : List HandIn) (m : Moment) (over in_frame : Bool) → HasTicks sc.plan → nat_lt m.window (windows_in sc.sizes) ≡ in_frame
     → AllStand sc m → AllStand sc (stepped sc hands m over in_frame)
 stepped-stand sc hands m over true ticks e h =
-    other-book sc (after_window sc m (results_of sc m)) _ (window-stand sc m ticks (grind (arith, nat_tests)) h)
-stepped-stand sc hands m over false ticks e h = other-book sc (next_frame sc hands m) _ (frame-stand sc hands m (grind (arith, nat_tests)) h)
+    other-book _ (window-stand ticks (grind (arith, nat_tests)) h)
+stepped-stand sc hands m over false ticks e h = other-book _ (frame-stand hands (grind (arith, nat_tests)) h)
 
-step-stand : (sc : Scenario) (hands : List HandIn) (m : Moment) → HasTicks sc.plan → AllStand sc m → AllStand sc (step sc hands m)
+step-stand : {sc : Scenario} (hands : List HandIn) {m : Moment} → HasTicks sc.plan → AllStand sc m → AllStand sc (step sc hands m)
 unfolding step
-step-stand sc hands m ticks h = stepped-stand sc hands m (m.frame == sc.frames) (nat_lt m.window (windows_in sc.sizes)) ticks refl h
+step-stand {sc} hands {m} ticks h = stepped-stand sc hands m (m.frame == sc.frames) (nat_lt m.window (windows_in sc.sizes)) ticks refl h
 
 -- in every moment each good node is in its frame, and knows the middles of the windows that it has
 -- passed
 pub moments-stand : (sc : Scenario) (hands : List HandIn) (n : ℕ) → HasTicks sc.plan → AllStand sc (moment sc hands n)
 moments-stand sc hands zero ticks = first-stand sc hands
-moments-stand sc hands (suc n) ticks = step-stand sc hands (moment sc hands n) ticks (moments-stand sc hands n ticks)
+moments-stand sc hands (suc n) ticks = step-stand hands ticks (moments-stand sc hands n ticks)

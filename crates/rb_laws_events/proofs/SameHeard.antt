@@ -68,10 +68,9 @@ pub same-close : (sizes : Sizes) (plan : Plan) (me : Side) (i : ℕ) (st : NodeS
 same-close sizes plan me i st w f g same = ap (close sizes me i st w.slot w.stage w.first) (fun_ext same)
 
 -- a close on the inbox is a close on what is heard
-pub close-is : (sizes : Sizes) (plan : Plan) (me : Side) (i : ℕ) (st : NodeState) (w : Window) (clock : Timeline) (inbox : List (ℕ × Arrival)) (got : List Coming)
-    (heard : ℕ → List Coming) → inbox ≡ map (kept_as clock) got → ((j : ℕ) → AllOf (coming_from got j) (heard j))
+pub close-is : (sizes : Sizes) (plan : Plan) (me : Side) (i : ℕ) (st : NodeState) (w : Window) (clock : Timeline) {inbox : _} (got : List Coming) (heard : ℕ → List Coming) → inbox ≡ map (kept_as clock) got → ((j : ℕ) → AllOf (coming_from got j) (heard j))
     → close_window sizes plan me i st w (of_source inbox) ≡ close_window sizes plan me i st w (λ j. map (arrival_of clock) (heard j))
-close-is sizes plan me i st w clock inbox got heard is all =
+close-is sizes plan me i st w clock got heard is all =
     let e : Expect = expect_of sizes plan.version st w.slot w.stage in
     ap (λ x. close_window sizes plan me i st w (of_source x)) is
     ∙ same-close sizes plan me i st w (of_source (map (kept_as clock) got)) (λ j. map (arrival_of clock) (heard j))

@@ -51,17 +51,17 @@ pub every-both : (P Q : Coming → Type 0) (xs : List Coming) → Every P xs →
 every-both P Q [] a b = tt
 every-both P Q (x ∷ xs) a b = ((a.0, b.0), every-both P Q xs a.1 b.1)
 
-not-same : (a j k : ℕ) → a ≡ k → (k < j) ⊎ (j < k) → (a == j) ≡ false
-not-same a j k e (inl lt) = grind (arith, nat_tests)
-not-same a j k e (inr gt) = grind (arith, nat_tests)
+not-same : {a : ℕ} (j : ℕ) {k : ℕ} → a ≡ k → (k < j) ⊎ (j < k) → (a == j) ≡ false
+not-same j e (inl lt) = grind (arith, nat_tests)
+not-same j e (inr gt) = grind (arith, nat_tests)
 
 -- entries of source `k` do not pass for another source `j`
 others-now : (j k u : ℕ) (xs : List Coming) → (k < j) ⊎ (j < k) → Every (λ c. c.from ≡ k) xs → filter (is_now j u) xs ≡ []
 others-now j k u xs h e =
-    filter-no (is_now j u) xs (every-to (λ c. c.from ≡ k) (λ c. is_now j u c ≡ false) (λ c f. ap (λ b. b && nat_le c.time u) (not-same c.from j k f h)) xs e)
+    filter-no (is_now j u) xs (every-to (λ c. c.from ≡ k) (λ c. is_now j u c ≡ false) (λ c f. ap (λ b. b && nat_le c.time u) (not-same j f h)) xs e)
 
-own-now : (j u : ℕ) (xs : List Coming) → Every (λ c. c.from ≡ j) xs → Every (λ c. c.time ≤ u) xs → filter (is_now j u) xs ≡ xs
-own-now j u xs e times =
+own-now : (j u : ℕ) {xs : List Coming} → Every (λ c. c.from ≡ j) xs → Every (λ c. c.time ≤ u) xs → filter (is_now j u) xs ≡ xs
+own-now j u {xs} e times =
     filter-all (is_now j u) xs
     (every-to (λ c. (c.from ≡ j) × (c.time ≤ u)) (λ c. is_now j u c ≡ true)
     (λ c h. ap (λ b. b && nat_le c.time u) (eq-eqb c.from j h.0) ∙ le-leb c.time u h.1) xs (every-both (λ c. c.from ≡ j) (λ c. c.time ≤ u) xs e times))
@@ -92,7 +92,7 @@ flat-hit j u f a (suc n) its times lo hi =
           ∙ flat-hit j u f (a + 1) n its times (omega arith) (omega arith)
       | inr ge ↦
           let same : j ≡ a = omega arith in
-          let own : filter (is_now j u) (f j) ≡ f j = own-now j u (f j) (its j) times in
+          let own : filter (is_now j u) (f j) ≡ f j = own-now j u (its j) times in
           let own_a : filter (is_now j u) (f a) ≡ f j = ap (λ k. filter (is_now j u) (f k)) (sym same) ∙ own in
           ap (λ l. l ++ filter (is_now j u) (flat_map f (range_with_len (a + 1) n))) own_a
           ∙ ap (λ l. f j ++ l) (flat-miss j u f (a + 1) n its (inl (omega arith)))
@@ -155,9 +155,9 @@ each-itself [] ys f = tt
 each-itself (x ∷ xs) ys f = (f x (inl refl), each-itself xs ys (λ z h. f z (inr h)))
 
 -- entries that are said in the window are added to what is pending and to what was sent
-pub say-more : (j u : ℕ) (coming says said sent next : List Coming) → filter (is_now j u) says ≡ said → Every (λ c. c.time ≤ u) says
+pub say-more : {j u coming : _} (says : List Coming) {said sent next : _} → filter (is_now j u) says ≡ said → Every (λ c. c.time ≤ u) says
     → (said ≡ []) ⊎ (sent ≡ []) → Hears j u [] coming sent next → Hears j u [] (coming ++ says) (sent ++ said) next
-say-more j u coming says said sent next now times (inl none) h =
+say-more {j} {u} {coming} says {said} {sent} {next} now times (inl none) h =
     let more : filter (is_now j u) (coming ++ says) ≡ filter (is_now j u) coming =
     filter-append (is_now j u) coming says ∙ ap (λ l. filter (is_now j u) coming ++ l) (now ∙ none) ∙ append-nil (filter (is_now j u) coming) in
     let all : sent ++ said ≡ sent = ap (λ l. sent ++ l) none ∙ append-nil sent in
@@ -168,7 +168,7 @@ say-more j u coming says said sent next now times (inl none) h =
       later = filter-append (is_later j u) coming says ∙ ap (λ l. filter (is_later j u) coming ++ l) (none-later j u says times)
           ∙ append-nil (filter (is_later j u) coming) ∙ h.later;
     })
-say-more j u coming says said sent next now times (inr none) h =
+say-more {j} {u} {coming} says {said} {sent} {next} now times (inr none) h =
     let count : 0 + length (filter (is_now j u) coming) ≡ length sent = h.as_many in
     let zero_sent : length sent ≡ 0 = ap length none in
     let empty : filter (is_now j u) coming ≡ [] = no-length (filter (is_now j u) coming) (omega arith) in

@@ -9,8 +9,8 @@ each-none P [] e = tt
 each-none P (x ∷ xs) e = absurd e.0
 
 -- source j sends for the open window, for which it had sent nothing
-pub say-now : (j t : ℕ) (got coming next : List Coming) (e : Coming) → (e.from == j) ≡ true → e.time ≤ t → Hears j t got coming [] next → Hears j t got (coming ++ e ∷ []) (e ∷ []) next
-say-now j t got coming next e its le h =
+pub say-now : {j t got coming next : _} (e : Coming) → (e.from == j) ≡ true → e.time ≤ t → Hears j t got coming [] next → Hears j t got (coming ++ e ∷ []) (e ∷ []) next
+say-now {j} {t} {got} {coming} e its le h =
     let in_time : nat_le e.time t ≡ true = grind (arith, nat_tests) in
     let not_later : nat_lt t e.time ≡ false = grind (arith, nat_tests) in
     let now : is_now j t e ≡ true = rw (its, in_time) refl in
@@ -27,8 +27,8 @@ say-now j t got coming next e its le h =
     }
 
 -- source `j` sends for the window after the open one
-pub say-next : (j t : ℕ) (got coming sent : List Coming) (e : Coming) → (e.from == j) ≡ true → t < e.time → Hears j t got coming sent [] → Hears j t got (coming ++ e ∷ []) sent (e ∷ [])
-say-next j t got coming sent e its lt h =
+pub say-next : {j t got coming sent : _} (e : Coming) → (e.from == j) ≡ true → t < e.time → Hears j t got coming sent [] → Hears j t got (coming ++ e ∷ []) sent (e ∷ [])
+say-next {j} {t} {got} {coming} {sent} e its lt h =
     let not_now : nat_le e.time t ≡ false = grind (arith, nat_tests) in
     let is_after : nat_lt t e.time ≡ true = grind (arith, nat_tests) in
     let now : is_now j t e ≡ false = rw (its, not_now) refl in
@@ -43,8 +43,8 @@ say-next j t got coming sent e its lt h =
     }
 
 -- a message from another source changes nothing for source `j`
-pub say-other : (j t : ℕ) (got coming sent next : List Coming) (e : Coming) → (e.from == j) ≡ false → Hears j t got coming sent next → Hears j t got (coming ++ e ∷ []) sent next
-say-other j t got coming sent next e its h =
+pub say-other : {j t got coming sent next : _} (e : Coming) → (e.from == j) ≡ false → Hears j t got coming sent next → Hears j t got (coming ++ e ∷ []) sent next
+say-other {j} {t} {got} {coming} {sent} e its h =
     let now : is_now j t e ≡ false = rw its refl in
     let later : is_later j t e ≡ false = rw its refl in
     let P : Coming → Type 0 = λ c. IsOneOf c sent in
@@ -83,8 +83,8 @@ none-later j t u (c ∷ cs) e =
     ap (λ b. cond b (c ∷ filter (is_later j u) cs) (filter (is_later j u) cs)) (go (c.from == j) refl) ∙ none-later j t u cs e.1
 
 -- a window opens: what was sent for the window to come is now for the open one
-pub opens : (j t u : ℕ) (got coming sent next : List Coming) → Every (OpensFor j t u) coming → Hears j t got coming sent next → Hears j u [] coming next []
-opens j t u got coming sent next e h =
+pub opens : {j t : ℕ} (u : ℕ) {got coming sent next : _} → Every (OpensFor j t u) coming → Hears j t got coming sent next → Hears j u [] coming next []
+opens {j} {t} u {coming} {next} e h =
     let now : filter (is_now j u) coming ≡ next = now-was-later j t u coming e ∙ h.later in
     record {
       came = tt;

@@ -15,10 +15,10 @@ past-end [] j d e = refl
 past-end (x ∷ xs) zero d e = cc
 past-end (x ∷ xs) (suc j) d e = past-end xs j d e
 
-pub sending-of-is : (sc : Scenario) (m : Moment) (me : Side) (i : ℕ) (st : NodeState) → slice_get (of_kind me m.nodes) i ≡ Some st
+pub sending-of-is : (sc : Scenario) (m : Moment) (me : Side) (i : ℕ) {st : _} → slice_get (of_kind me m.nodes) i ≡ Some st
     → sending_of sc m me i ≡ sending_at sc.sizes sc.plan me i st m.window (word_at sc m me i st)
 unfolding sent_in
-sending-of-is sc m me i st e =
+sending-of-is sc m me i {st} e =
     let make : Side → ℕ → NodeState → Option Sending = λ me i st. sending_in sc m me i st (window_in sc m me st) in
     get_or_from_slice_get (of_kind me (map_each make m.nodes)) i (make me i st) None (get-each make m.nodes me i ∙ ap (option_map (make me i)) e)
 
@@ -46,7 +46,7 @@ none-of-tail sc m me i low high = by (slice_get (of_kind me m.nodes) i) refl
 
     by : (o : Option NodeState) → slice_get (of_kind me m.nodes) i ≡ o → sending_of sc m me i ≡ None
     by None e = none-there sc m me i e
-    by (Some st) e = sending-of-is sc m me i st e ∙ at st (word_at sc m me i st) m.window (tail-numbered sc.sizes me m.window low high)
+    by (Some st) e = sending-of-is sc m me i e ∙ at st (word_at sc m me i st) m.window (tail-numbered sc.sizes me m.window low high)
 
 -- What changes.
 
@@ -83,9 +83,9 @@ other-than : (a b : ℕ) → (a == b) ≡ false → (a < b) ⊎ (b < a)
 other-than a b h = elim (cases_lt a b) [ inl lt ↦ inl lt | inr ge ↦ inr (grind (arith, nat_tests)) ]
 
 -- whether a node has sent what it sends in an earlier moment, in this one, in a later one
-pub sent-earlier : (o : Option Sending) (s : Sending) (q p : ℕ) (a : Option Timed) → o ≡ Some s → p < q → has_sent o q a p ≡ true
-sent-earlier None s q p a e h = cc
-sent-earlier (Some x) s q p a e h = ap (λ b. b || ((p == q) && is_past x.tick a)) (lt-ltb p q h)
+pub sent-earlier : (o : Option Sending) {s : _} (q p : ℕ) (a : Option Timed) → o ≡ Some s → p < q → has_sent o q a p ≡ true
+sent-earlier None q p a e h = cc
+sent-earlier (Some x) q p a e h = ap (λ b. b || ((p == q) && is_past x.tick a)) (lt-ltb p q h)
 
 pub sent-here : (o : Option Sending) (q : ℕ) (a : Option Timed) → has_sent o q a q ≡ past o a
 sent-here None q a = refl
@@ -99,11 +99,11 @@ sent-later (Some s) q p a h =
 
 sent-before : (o : Option Sending) (q r p : ℕ) (a b : Option Timed) → p < q → p < r → has_sent o r b p ≡ has_sent o q a p
 sent-before None q r p a b h k = refl
-sent-before (Some s) q r p a b h k = sent-earlier (Some s) s r p b refl k ∙ sym (sent-earlier (Some s) s q p a refl h)
+sent-before (Some s) q r p a b h k = sent-earlier (Some s) r p b refl k ∙ sym (sent-earlier (Some s) q p a refl h)
 
-sent-elsewhere : (so : ℕ → Option Sending) (q k r : ℕ) (a : Timed) (b : Option Timed) → Steps so q k r b → (p : ℕ) → (p == q) ≡ false
+sent-elsewhere : {so q k r : _} (a : Timed) {b : _} → Steps so q k r b → (p : ℕ) → (p == q) ≡ false
     → has_sent (so p) r b p ≡ has_sent (so p) q (Some a) p
-sent-elsewhere so q k r a b steps p differ =
+sent-elsewhere {so} {q} {r} a {b} steps p differ =
     elim (other-than p q differ) [
       | inl before ↦ sent-before (so p) q r p (Some a) b before (elim steps.how [ inl stay ↦ omega (arith, stay.0) | inr go ↦ omega (arith, go.0) ])
       | inr after ↦ elim steps.how [
@@ -135,9 +135,9 @@ lt-same s k e = elim (other-than s.tick k e) [
 ]
 
 -- at a tick a node says nothing, or what it says in its own moment
-sent-own : (so : ℕ → Option Sending) (q k r : ℕ) (a : Timed) (b : Option Timed) → a.tick ≡ k → Steps so q k r b → (o : Option Sending) → so q ≡ o
+sent-own : {so q k r : _} (a : Timed) {b : _} → a.tick ≡ k → Steps so q k r b → (o : Option Sending) → so q ≡ o
     → (SaysNothing so q k r a b) ⊎ (SaysNow so q k r a b)
-sent-own so q k r a b at steps None e =
+sent-own {so} {q} {k} {r} a {b} at steps None e =
     inl (record {
       silent = ap (if_at k) e;
       same = λ p.
@@ -146,16 +146,16 @@ sent-own so q k r a b at steps None e =
             | true ↦ λ f.
                 let none : so p ≡ None = ap so (eqb-true p q f) ∙ e in
                 ap (λ o. has_sent o r b p) none ∙ sym (ap (λ o. has_sent o q (Some a) p) none)
-            | false ↦ λ f. sent-elsewhere so q k r a b steps p f
+            | false ↦ λ f. sent-elsewhere a steps p f
           ] in
           go (p == q) refl;
     })
-sent-own so q k r a b at steps (Some s) e =
+sent-own {so} {q} {k} {r} a {b} at steps (Some s) e =
     let before : has_sent (so q) q (Some a) q ≡ nat_lt s.tick k =
     sent-here (so q) q (Some a) ∙ ap (λ o. past o (Some a)) e ∙ ap (nat_lt s.tick) at in
     let after : has_sent (so q) r b q ≡ nat_lt s.tick (k + 1) = elim steps.how [
       | inl stay ↦ ap (λ r. has_sent (so q) r b q) stay.0 ∙ sent-here (so q) q b ∙ sym stay.1 ∙ ap (λ o. gone o (k + 1)) e
-      | inr go ↦ let le : s.tick ≤ k = steps.all go.0 s e in sent-earlier (so q) s r q b e go.0 ∙ sym (lt-ltb s.tick (k + 1) (omega arith))
+      | inr go ↦ let le : s.tick ≤ k = steps.all go.0 s e in sent-earlier (so q) r q b e go.0 ∙ sym (lt-ltb s.tick (k + 1) (omega arith))
     ] in
     let by : (d : Bool) → (s.tick == k) ≡ d → (SaysNothing so q k r a b) ⊎ (SaysNow so q k r a b) =
     λ d. elim d as (λ d. (s.tick == k) ≡ d → (SaysNothing so q k r a b) ⊎ (SaysNow so q k r a b)) [
@@ -168,7 +168,7 @@ sent-own so q k r a b at steps (Some s) e =
             said = ap (if_at k) e ∙ if-some s k f;
             before = before ∙ le-ltb s.tick k (omega arith);
             after = after ∙ lt-ltb s.tick (k + 1) (omega arith);
-            elsewhere = λ p f. sent-elsewhere so q k r a b steps p f;
+            elsewhere = λ p f. sent-elsewhere a steps p f;
           })
       | false ↦ λ f.
           inl (record {
@@ -179,13 +179,13 @@ sent-own so q k r a b at steps (Some s) e =
                   | true ↦ λ g.
                       let same : p ≡ q = eqb-true p q g in
                       subst (λ p. has_sent (so p) r b p ≡ has_sent (so p) q (Some a) p) (sym same) (after ∙ lt-same s k f ∙ sym before)
-                  | false ↦ λ g. sent-elsewhere so q k r a b steps p g
+                  | false ↦ λ g. sent-elsewhere a steps p g
                 ] in
                 go (p == q) refl;
           })
     ] in
     by (s.tick == k) refl
 
-pub sent-changes : (so : ℕ → Option Sending) (q k r : ℕ) (a : Timed) (b : Option Timed) → a.tick ≡ k → Steps so q k r b
+pub sent-changes : {so q k r : _} (a : Timed) {b : _} → a.tick ≡ k → Steps so q k r b
     → (SaysNothing so q k r a b) ⊎ (SaysNow so q k r a b)
-sent-changes so q k r a b at steps = sent-own so q k r a b at steps (so q) refl
+sent-changes {so} {q} a at steps = sent-own a at steps (so q) refl

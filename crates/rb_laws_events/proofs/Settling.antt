@@ -34,16 +34,16 @@ all-back : (xs ys : List Bool) → list_all (λ b. b) (xs ++ ys) ≡ true → li
 all-back [] ys h = h
 all-back (x ∷ xs) ys h = all-back xs ys (and_parts x (list_all (λ b. b) (xs ++ ys)) h).1
 
-all-at : (xs : List Bool) (i : ℕ) (b : Bool) → list_all (λ b. b) xs ≡ true → slice_get xs i ≡ Some b → b ≡ true
-all-at [] i b h e = cc
-all-at (x ∷ xs) zero b h e =
+all-at : (xs : List Bool) (i : ℕ) {b : _} → list_all (λ b. b) xs ≡ true → slice_get xs i ≡ Some b → b ≡ true
+all-at [] i h e = cc
+all-at (x ∷ xs) zero {b} h e =
     let same : x ≡ b = cc in
     sym same ∙ (and_parts x (list_all (λ b. b) xs) h).0
-all-at (x ∷ xs) (suc i) b h e = all-at xs i b (and_parts x (list_all (λ b. b) xs) h).1 e
+all-at (x ∷ xs) (suc i) {b} h e = all-at xs i (and_parts x (list_all (λ b. b) xs) h).1 e
 
-pub each-at : (a : Each Bool) (me : Side) (i : ℕ) (b : Bool) → list_all (λ b. b) (in_order a) ≡ true → slice_get (of_kind me a) i ≡ Some b → b ≡ true
-each-at a Biu i b h e = all-at a.bius i b (all-front a.bius a.rmus h) e
-each-at a Rmu i b h e = all-at a.rmus i b (all-back a.bius a.rmus h) e
+pub each-at : (a : Each Bool) (me : Side) (i : ℕ) {b : _} → list_all (λ b. b) (in_order a) ≡ true → slice_get (of_kind me a) i ≡ Some b → b ≡ true
+each-at a Biu i h e = all-at a.bius i (all-front a.bius a.rmus h) e
+each-at a Rmu i h e = all-at a.rmus i (all-back a.bius a.rmus h) e
 
 -- Rows.
 
@@ -72,12 +72,12 @@ not-good-row sc m me i st bad =
     ]).row) test
 
 -- what a good node has told of the stage is its row in the rounds
-told-row : (sc : Scenario) (hands : List HandIn) (g : ℕ) (me : Side) (i : ℕ) (st : NodeState) (o : Option Row) → (moment sc hands g).window < stages_in sc.sizes
+told-row : (sc : Scenario) (hands : List HandIn) (g : ℕ) (me : Side) (i : ℕ) {st : _} (o : Option Row) → (moment sc hands g).window < stages_in sc.sizes
     → slice_get (of_kind me (moment sc hands g).nodes) i ≡ Some st → ((row : Row) → o ≡ Some row → RowOfRounds sc hands me i row)
     → is_some (row_for (place_at sc.sizes (moment sc hands g)) o) ≡ true
     → row_for (place_at sc.sizes (moment sc hands g)) o ≡ (go_through sc (moment sc hands g) (sent_in sc (moment sc hands g)) me i st (window_in sc (moment sc hands g) me st)).row
-told-row sc hands g me i st None stage there rounds h = cc
-told-row sc hands g me i st (Some row) stage there rounds h = by (same_place row.place (place_at sc.sizes (moment sc hands g))) refl h
+told-row sc hands g me i None stage there rounds h = cc
+told-row sc hands g me i {st} (Some row) stage there rounds h = by (same_place row.place (place_at sc.sizes (moment sc hands g))) refl h
   where
     by : (b : Bool) → same_place row.place (place_at sc.sizes (moment sc hands g)) ≡ b → is_some (elim b as (λ _. Option Row) [ true ↦ Some row | false ↦ None ]) ≡ true
         → (elim b as (λ _. Option Row) [ true ↦ Some row | false ↦ None ])
@@ -128,12 +128,12 @@ rows-are sc hands g sites ticks stage counts rounds complete =
     let nodes : length (of_kind me m.nodes) ≡ count_of me sc.sizes = stand.counts me in
     let state = item-at (of_kind me m.nodes) i (omega arith) in
     let told : has me i s ≡ true =
-    each-at (map_each has sites) me i (has me i s) complete (get-each has sites me i ∙ ap (option_map (has me i)) there) in
+    each-at (map_each has sites) me i complete (get-each has sites me i ∙ ap (option_map (has me i)) there) in
     let by : (b : Bool) → is_good sc me i m.frame slot ≡ b → tells me i s ≡ (go me i state.0).row =
     λ b. elim b as (λ b. is_good sc me i m.frame slot ≡ b → tells me i s ≡ (go me i state.0).row) [
       | true ↦ λ e.
           ap (λ b. elim b as (λ _. Option Row) [ true ↦ row_for place s.row | false ↦ None ]) e
-          ∙ told-row sc hands g me i state.0 s.row stage state.1 (λ row f. rounds me i s row there f) (or-told (is_good sc me i m.frame slot) (is_some (row_for place s.row)) told e)
+          ∙ told-row sc hands g me i s.row stage state.1 (λ row f. rounds me i s row there f) (or-told (is_good sc me i m.frame slot) (is_some (row_for place s.row)) told e)
       | false ↦ λ e.
           ap (λ b. elim b as (λ _. Option Row) [ true ↦ row_for place s.row | false ↦ None ]) e
           ∙ sym (not-good-row sc m me i state.0 e)

@@ -28,12 +28,12 @@ unfoldable pub BegunOfRounds : Scenario → List HandIn → Each Site → Type 0
 BegunOfRounds sc hands sites =
     (me : Side) (i : ℕ) (s : Site) (b : Begun) → slice_get (of_kind me sites) i ≡ Some s → s.begun ≡ Some b → BegunInRounds sc hands me i b
 
-told-begun : (sc : Scenario) (hands : List HandIn) (g : ℕ) (me : Side) (i : ℕ) (st : NodeState) (o : Option Begun) → (moment sc hands g).window ≡ 0
+told-begun : (sc : Scenario) (hands : List HandIn) (g : ℕ) (me : Side) (i : ℕ) {st : _} (o : Option Begun) → (moment sc hands g).window ≡ 0
     → slice_get (of_kind me (moment sc hands g).nodes) i ≡ Some st → ((b : Begun) → o ≡ Some b → BegunInRounds sc hands me i b)
     → is_some (begun_for (moment sc hands g).frame o) ≡ true
     → begun_for (moment sc hands g).frame o ≡ Some (begun_of sc (ports_before sc hands g) me i (epoch_of sc.sizes me st))
-told-begun sc hands g me i st None first there rounds h = cc
-told-begun sc hands g me i st (Some b) first there rounds h = by (b.frame == (moment sc hands g).frame) refl h
+told-begun sc hands g me i None first there rounds h = cc
+told-begun sc hands g me i {st} (Some b) first there rounds h = by (b.frame == (moment sc hands g).frame) refl h
   where
     by : (t : Bool) → (b.frame == (moment sc hands g).frame) ≡ t → is_some (elim t as (λ _. Option Begun) [ true ↦ Some b | false ↦ None ]) ≡ true
         → (elim t as (λ _. Option Begun) [ true ↦ Some b | false ↦ None ]) ≡ Some (begun_of sc (ports_before sc hands g) me i (epoch_of sc.sizes me st))
@@ -76,13 +76,13 @@ begun-are sc hands g sites ticks first counts rounds complete =
     let long : length (of_kind me sites) ≡ count_of me sc.sizes = counts me in
     let nodes : length (of_kind me m.nodes) ≡ count_of me sc.sizes = stand.counts me in
     let state = item-at (of_kind me m.nodes) i (omega arith) in
-    let told : has me i s ≡ true = each-at (map_each has sites) me i (has me i s) complete (get-each has sites me i ∙ ap (option_map (has me i)) there) in
+    let told : has me i s ≡ true = each-at (map_each has sites) me i complete (get-each has sites me i ∙ ap (option_map (has me i)) there) in
     let some : Begun = begun_of sc ports me i (epoch_of sc.sizes me state.0) in
     let by : (b : Bool) → is_good sc me i f 0 ≡ b → tells me i s ≡ make me i state.0 =
     λ b. elim b as (λ b. is_good sc me i f 0 ≡ b → tells me i s ≡ make me i state.0) [
       | true ↦ λ e.
           ap (λ b. elim b as (λ _. Option Begun) [ true ↦ begun_for f s.begun | false ↦ None ]) e
-          ∙ told-begun sc hands g me i state.0 s.begun first state.1 (λ b h. rounds me i s b there h) (or-told (is_good sc me i f 0) (is_some (begun_for f s.begun)) told e)
+          ∙ told-begun sc hands g me i s.begun first state.1 (λ b h. rounds me i s b there h) (or-told (is_good sc me i f 0) (is_some (begun_for f s.begun)) told e)
           ∙ sym (ap (λ b. elim b as (λ _. Option Begun) [ true ↦ Some some | false ↦ None ]) e)
       | false ↦ λ e.
           ap (λ b. elim b as (λ _. Option Begun) [ true ↦ begun_for f s.begun | false ↦ None ]) e
@@ -198,10 +198,10 @@ tail-book sc hands g w not_last =
     ∙ ap (λ o. book_after sc m.frame o (map_each (λ me i (r : Result). r.row) (results_of sc m)) m.book) (no-window sc.sizes sc.plan m.window (omega arith))
 
 -- the next milestone of a moment's book, once it is complete, is settled as in the rounds
-milestone-settled : (sc : Scenario) (hands : List HandIn) (g : ℕ) (sites : Each Site) → HasTicks sc.plan → (moment sc hands g).book.ended ≡ false → TellRounds sc hands sites
+milestone-settled : {sc : Scenario} {hands : List HandIn} (g : ℕ) {sites : Each Site} → HasTicks sc.plan → (moment sc hands g).book.ended ≡ false → TellRounds sc hands sites
     → is_complete sc sites (next_of sc (moment sc hands g).frame (moment sc hands g).window) ≡ true
     → (z : ℕ) × (book_with sc sites (moment sc hands g).book (next_of sc (moment sc hands g).frame (moment sc hands g).window) ≡ (moment sc hands z).book)
-milestone-settled sc hands g sites ticks going tell complete =
+milestone-settled {sc} {hands} g {sites} ticks going tell complete =
     let m : Moment = moment sc hands g in
     let runs : RunsIn sc m = runs-in sc hands g going in
     let number = number-of sc hands g in
@@ -254,10 +254,10 @@ milestone-settled sc hands g sites ticks going tell complete =
         by false e = e
 
 -- whatever is settled next, the book is one of the rounds'
-pub next-settled : (sc : Scenario) (way : Way) (w : World) → HasTicks sc.plan → w.book.ended ≡ false → TellRounds sc w.hands w.sites → IsOfMoment sc w.hands w.book
+pub next-settled : {sc : Scenario} (way : Way) (w : World) → HasTicks sc.plan → w.book.ended ≡ false → TellRounds sc w.hands w.sites → IsOfMoment sc w.hands w.book
     → IsOfMoment sc w.hands (settle_next sc way w).book
 unfolding SettlesNext
-next-settled sc way w ticks going tell is = by (comes_so sc way w.book.upcoming && is_complete sc w.sites w.book.upcoming) refl
+next-settled {sc} way w ticks going tell is = by (comes_so sc way w.book.upcoming && is_complete sc w.sites w.book.upcoming) refl
   where
     settled : is_complete sc w.sites w.book.upcoming ≡ true → IsOfMoment sc w.hands w.book → IsOfMoment sc w.hands (book_with sc w.sites w.book w.book.upcoming)
     settled complete (inl fresh) =
@@ -272,7 +272,7 @@ next-settled sc way w ticks going tell is = by (comes_so sc way w.book.upcoming 
         let runs : (moment sc w.hands g).book.ended ≡ false = sym (ap (λ (b : Book). b.ended) at.1) ∙ going in
         let up : w.book.upcoming ≡ next_of sc (moment sc w.hands g).frame (moment sc w.hands g).window =
         ap (λ (b : Book). b.upcoming) at.1 ∙ settles-next sc w.hands g runs in
-        let z = milestone-settled sc w.hands g w.sites ticks runs tell (sym (ap (is_complete sc w.sites) up) ∙ complete) in
+        let z = milestone-settled g ticks runs tell (sym (ap (is_complete sc w.sites) up) ∙ complete) in
         inr (z.0, ap (book_with sc w.sites w.book) up ∙ ap (λ b. book_with sc w.sites b (next_of sc (moment sc w.hands g).frame (moment sc w.hands g).window)) at.1 ∙ z.1)
 
     by : (b : Bool) → (comes_so sc way w.book.upcoming && is_complete sc w.sites w.book.upcoming) ≡ b
@@ -288,10 +288,10 @@ next-hands sc way w = by (comes_so sc way w.book.upcoming && is_complete sc w.si
     by false = refl
 
 -- whatever is settled, the book is one of a moment
-pub all-settled : (sc : Scenario) (way : Way) (n : ℕ) (w : World) (hands : List HandIn) (sites : Each Site) → HasTicks sc.plan → w.hands ≡ hands → w.sites ≡ sites
+pub all-settled : {sc : Scenario} (way : Way) (n : ℕ) (w : World) {hands : List HandIn} {sites : Each Site} → HasTicks sc.plan → w.hands ≡ hands → w.sites ≡ sites
     → TellRounds sc hands sites → IsOfMoment sc hands w.book → IsOfMoment sc hands (settle sc way n w).book
-all-settled sc way zero w hands sites ticks hands_are sites_are tell is = is
-all-settled sc way (suc n) w hands sites ticks hands_are sites_are tell is =
+all-settled way zero w ticks hands_are sites_are tell is = is
+all-settled {sc} way (suc n) w {hands} ticks hands_are sites_are tell is =
     let next : World = settle_next sc way w in
     let by : (b : Bool) → w.book.ended ≡ b → IsOfMoment sc hands (settle sc way (suc n) w).book =
     λ b. elim b as (λ b. w.book.ended ≡ b → IsOfMoment sc hands (settle sc way (suc n) w).book) [
@@ -302,9 +302,9 @@ all-settled sc way (suc n) w hands sites ticks hands_are sites_are tell is =
           let tell_w : TellRounds sc w.hands w.sites =
           subst (λ h. TellRounds sc h w.sites) (sym hands_are) (subst (TellRounds sc hands) (sym sites_are) tell) in
           let one : IsOfMoment sc hands next.book =
-          subst (λ h. IsOfMoment sc h next.book) hands_are (next-settled sc way w ticks e tell_w (subst (λ h. IsOfMoment sc h w.book) (sym hands_are) is)) in
+          subst (λ h. IsOfMoment sc h next.book) hands_are (next-settled way w ticks e tell_w (subst (λ h. IsOfMoment sc h w.book) (sym hands_are) is)) in
           let rest : IsOfMoment sc hands (settle sc way n next).book =
-          all-settled sc way n next hands sites ticks (next-hands sc way w ∙ hands_are) (next-sites sc way w ∙ sites_are) tell one in
+          all-settled way n next ticks (next-hands sc way w ∙ hands_are) (next-sites sc way w ∙ sites_are) tell one in
           pick_one (record_since w next) one rest
     ] in
     by w.book.ended refl

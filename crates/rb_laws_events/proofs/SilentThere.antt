@@ -10,9 +10,9 @@ use Rattle.rb_laws_synchrony.proofs.TakenCalls.{call_sent}
 use Rattle.rb_laws_events.proofs.{DeafCloses.deaf-state, NodeActs.HasRoom, NodeSends.{KeepsTime, said-is, sending_at}, TickWindows.IsTickIn}
 
 -- a node that does not listen in a stage keeps time over its close
-pub deaf-keeps : (sizes : Sizes) (plan : Plan) (me : Side) (st : NodeState) (stage first : ℕ) (sense : ℕ → Sense) → listens me Sync stage ≡ false → KeepsTime sizes plan me st
+pub deaf-keeps : {sizes plan me st : _} (stage first : ℕ) (sense : ℕ → Sense) → listens me Sync stage ≡ false → KeepsTime sizes plan me st
     → KeepsTime sizes plan me (close_sync sizes me st stage first sense).state
-deaf-keeps sizes plan me st stage first sense deaf keeps =
+deaf-keeps {sizes} {plan} {me} {st} stage first sense deaf keeps =
     subst (KeepsTime sizes plan me) (sym (deaf-state sizes me st stage first sense deaf)) (by me keeps)
   where
     now : Side → NodeState
@@ -37,12 +37,12 @@ none-called sizes plan me i c stage word unheard = by (sending sizes plan me i c
   where
     by : (o : Option Sending) → sending sizes plan me i c (sync_slot_of sizes) stage word ≡ o → o ≡ None
     by None e = refl
-    by (Some s) e = absurd (true-false (sym (call_sent sizes plan me i c stage word s e).1 ∙ unheard))
+    by (Some s) e = absurd (true-false (sym (call_sent sizes plan me i c stage word e).1 ∙ unheard))
 
-pub silent-there : (sizes : Sizes) (plan : Plan) (me : Side) (i : ℕ) (c : NodeState) (q word k : ℕ) → HasRoom plan → q < 4 → KeepsTime sizes plan me c
+pub silent-there : {sizes plan me : _} (i : ℕ) {c : _} (q word : ℕ) {k : ℕ} → HasRoom plan → q < 4 → KeepsTime sizes plan me c
     → IsTickIn sizes plan me c (3 * sync_slot_of sizes + q) k → listens (other me) Sync (q + 1) ≡ false → said_at sizes plan me i c word k ≡ None
-silent-there sizes plan me i c q word k room small keeps at unheard =
-    said-is sizes plan me i c (3 * sync_slot_of sizes + q) word k room.ticks room.inside keeps (omega arith) at ∙ ap (if_at k) (none q small unheard)
+silent-there {sizes} {plan} {me} i {c} q word {k} room small keeps at unheard =
+    said-is i word room.ticks room.inside keeps (omega arith) at ∙ ap (if_at k) (none q small unheard)
   where
     none : (q : ℕ) → q < 4 → listens (other me) Sync (q + 1) ≡ false → sending_at sizes plan me i c (3 * sync_slot_of sizes + q) word ≡ None
     none zero small unheard =

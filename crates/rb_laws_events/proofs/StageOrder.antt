@@ -53,9 +53,9 @@ drift-up r o m h = mul-le (2 * r) o (2 * r) m (omega arith) h
 drift-sum : (r a b : ℕ) → 2 * r * (a + b) ≡ 2 * r * a + 2 * r * b
 drift-sum r a b = mul-add (2 * r) a b
 
-apart-same : (sizes : Sizes) (plan : Plan) (me you : Side) (mine yours : NodeState) (n : ℕ) → Fits sizes plan → 1 ≤ plan.l → 1 ≤ shortest_of plan
+apart-same : {sizes plan : _} (me you : Side) (mine yours : NodeState) (n : ℕ) → Fits sizes plan → 1 ≤ plan.l → 1 ≤ shortest_of plan
     → n < 3 * sync_slot_of sizes → Apart plan (last_of sizes plan me mine n) (last_of sizes plan you yours (n + 1))
-apart-same sizes plan me you mine yours n fit some u h =
+apart-same {sizes} {plan} me you mine yours n fit some u h =
     let o : last_of sizes plan me mine n ≡ n * plan.l + plan.l - 1 = last-same sizes plan me mine n (omega arith) in
     let m : last_of sizes plan you yours (n + 1) ≡ (n + 1) * plan.l + plan.l - 1 = last-same sizes plan you yours (n + 1) (omega arith) in
     let e : (n + 1) * plan.l ≡ n * plan.l + 1 * plan.l = add-mul n 1 plan.l in
@@ -65,9 +65,9 @@ apart-same sizes plan me you mine yours n fit some u h =
     let fits_l : skew_of sizes plan + plan.dmax + shortest_of plan + plan.h * shortest_of plan ≤ plan.l * shortest_of plan = fit.in_l in
     record { ticks = plan.l; enough = omega (arith, up, fits_l, u); later = omega (arith, o, m, e, some) }
 
-apart-second : (sizes : Sizes) (plan : Plan) (me you : Side) (mine yours : NodeState) → Fits sizes plan → 1 ≤ plan.l → 1 ≤ shortest_of plan
+apart-second : {sizes plan : _} (me you : Side) (mine yours : NodeState) → Fits sizes plan → 1 ≤ plan.l → 1 ≤ shortest_of plan
     → Apart plan (last_of sizes plan me mine (3 * sync_slot_of sizes + 0)) (last_of sizes plan you yours (3 * sync_slot_of sizes + 1))
-apart-second sizes plan me you mine yours fit some u =
+apart-second {sizes} {plan} me you mine yours fit some u =
     let a : ℕ = last_of sizes plan me mine (3 * sync_slot_of sizes + 0) in
     let o : a ≡ f0_of sizes plan + plan.l - 1 = last-first-call sizes plan me mine in
     let m : last_of sizes plan you yours (3 * sync_slot_of sizes + 1) ≡ f0_of sizes plan + plan.l + plan.v - 1 = last-second-call sizes plan you yours in
@@ -77,9 +77,9 @@ apart-second sizes plan me you mine yours fit some u =
     let fits_v : skew_of sizes plan + drift_in plan plan.l + shortest_of plan + plan.h * shortest_of plan ≤ plan.v * shortest_of plan = fit.in_v in
     record { ticks = plan.v; enough = omega (arith, up, sum, fits_v, u); later = omega (arith, o, m, some) }
 
-apart-third : (sizes : Sizes) (plan : Plan) (me you : Side) (mine yours : NodeState) → Fits sizes plan → 1 ≤ plan.l → 1 ≤ shortest_of plan
+apart-third : {sizes plan : _} (me you : Side) (mine yours : NodeState) → Fits sizes plan → 1 ≤ plan.l → 1 ≤ shortest_of plan
     → Apart plan (last_of sizes plan me mine (3 * sync_slot_of sizes + 1)) (last_of sizes plan you yours (3 * sync_slot_of sizes + 2))
-apart-third sizes plan me you mine yours fit some u =
+apart-third {sizes} {plan} me you mine yours fit some u =
     let a : ℕ = last_of sizes plan me mine (3 * sync_slot_of sizes + 1) in
     let o : a ≡ f0_of sizes plan + plan.l + plan.v - 1 = last-second-call sizes plan me mine in
     let m : last_of sizes plan you yours (3 * sync_slot_of sizes + 2) ≡ f0_of sizes plan + plan.l + plan.v + plan.z - 1 = last-third-call sizes plan you yours in
@@ -91,9 +91,9 @@ apart-third sizes plan me you mine yours fit some u =
 
 -- a frame's last stage is apart from the first one of the next frame, which begins no earlier than
 -- the windows of this frame end
-pub apart-turn : (sizes : Sizes) (plan : Plan) (me you : Side) (mine yours : NodeState) → Fits sizes plan → 1 ≤ plan.l → 1 ≤ shortest_of plan
+pub apart-turn : {sizes plan : _} (me you : Side) (mine yours : NodeState) → Fits sizes plan → 1 ≤ plan.l → 1 ≤ shortest_of plan
     → Apart plan (last_of sizes plan me mine (3 * sync_slot_of sizes + 2)) (tail_start_of sizes plan + last_of sizes plan you yours 0)
-apart-turn sizes plan me you mine yours fit some u =
+apart-turn {sizes} {plan} me you mine yours fit some u =
     let a : ℕ = last_of sizes plan me mine (3 * sync_slot_of sizes + 2) in
     let o : a ≡ f0_of sizes plan + plan.l + plan.v + plan.z - 1 = last-third-call sizes plan me mine in
     let m : last_of sizes plan you yours 0 ≡ 0 * plan.l + plan.l - 1 = last-same sizes plan you yours 0 (omega arith) in
@@ -107,11 +107,11 @@ apart-turn sizes plan me you mine yours fit some u =
     let delays : plan.dmin ≤ plan.dmax = fit.delays in
     record { ticks = plan.l; enough = omega (arith, up, sum, fits_l, before, skew, delays, u); later = omega (arith, o, m, some) }
 
-pub apart-next : (sizes : Sizes) (plan : Plan) (me you : Side) (mine yours : NodeState) (n : ℕ) → Fits sizes plan → 1 ≤ plan.l → 1 ≤ shortest_of plan
+pub apart-next : {sizes plan : _} (me you : Side) (mine yours : NodeState) (n : ℕ) → Fits sizes plan → 1 ≤ plan.l → 1 ≤ shortest_of plan
     → n + 1 < stages_in sizes → Apart plan (last_of sizes plan me mine n) (last_of sizes plan you yours (n + 1))
-apart-next sizes plan me you mine yours n fit some u h =
+apart-next {sizes} {plan} me you mine yours n fit some u h =
     elim (cases_lt n (3 * sync_slot_of sizes)) [
-      | inl lt ↦ apart-same sizes plan me you mine yours n fit some u lt
+      | inl lt ↦ apart-same me you mine yours n fit some u lt
       | inr ge ↦
           let s : ℕ = 3 * sync_slot_of sizes in
           elim (cases_lt n (s + 1)) [
@@ -119,11 +119,11 @@ apart-next sizes plan me you mine yours n fit some u h =
                 let e : s + 0 ≡ n = omega arith in
                 let f : s + 1 ≡ n + 1 = omega arith in
                 subst (λ a. Apart plan (last_of sizes plan me mine a) (last_of sizes plan you yours (n + 1))) e
-                (subst (λ b. Apart plan (last_of sizes plan me mine (s + 0)) (last_of sizes plan you yours b)) f (apart-second sizes plan me you mine yours fit some u))
+                (subst (λ b. Apart plan (last_of sizes plan me mine (s + 0)) (last_of sizes plan you yours b)) f (apart-second me you mine yours fit some u))
             | inr second ↦
                 let e : s + 1 ≡ n = omega arith in
                 let f : s + 2 ≡ n + 1 = omega arith in
                 subst (λ a. Apart plan (last_of sizes plan me mine a) (last_of sizes plan you yours (n + 1))) e
-                (subst (λ b. Apart plan (last_of sizes plan me mine (s + 1)) (last_of sizes plan you yours b)) f (apart-third sizes plan me you mine yours fit some u))
+                (subst (λ b. Apart plan (last_of sizes plan me mine (s + 1)) (last_of sizes plan you yours b)) f (apart-third me you mine yours fit some u))
           ]
     ]

@@ -21,30 +21,30 @@ pub record KeepsMiddles (c y : NodeState) : Type 0 where
 itself : (c : NodeState) → KeepsMiddles c c
 itself c = record { frame = refl; epoch = refl; k1 = refl; k2 = refl; k3 = refl }
 
-and-so : (a b c : NodeState) → KeepsMiddles a b → KeepsMiddles b c → KeepsMiddles a c
-and-so a b c h k = record { frame = k.frame ∙ h.frame; epoch = k.epoch ∙ h.epoch; k1 = k.k1 ∙ h.k1; k2 = k.k2 ∙ h.k2; k3 = k.k3 ∙ h.k3 }
+and-so : {a b c : _} → KeepsMiddles a b → KeepsMiddles b c → KeepsMiddles a c
+and-so h k = record { frame = k.frame ∙ h.frame; epoch = k.epoch ∙ h.epoch; k1 = k.k1 ∙ h.k1; k2 = k.k2 ∙ h.k2; k3 = k.k3 ∙ h.k3 }
 
-pub same-epoch : (plan : Plan) (me : Side) (c y : NodeState) → KeepsMiddles c y → new_epoch_of plan me y ≡ new_epoch_of plan me c
-same-epoch plan Biu c y h = ap (option_map (λ k2. k2 + plan.v + plan.z + plan.c)) h.k2
-same-epoch plan Rmu c y h = ap (option_map (λ k3. k3 + plan.z)) h.k3
+pub same-epoch : (plan : Plan) (me : Side) {c y : _} → KeepsMiddles c y → new_epoch_of plan me y ≡ new_epoch_of plan me c
+same-epoch plan Biu h = ap (option_map (λ k2. k2 + plan.v + plan.z + plan.c)) h.k2
+same-epoch plan Rmu h = ap (option_map (λ k3. k3 + plan.z)) h.k3
 
-same-windows : (sizes : Sizes) (plan : Plan) (me : Side) (c y : NodeState) (n : ℕ) → KeepsMiddles c y → window_numbered sizes plan me y n ≡ window_numbered sizes plan me c n
-same-windows sizes plan me c y n h =
-    ap (λ o. unwrap_or (slice_get (windows_of_frame sizes plan) n) (tail_of sizes plan (unwrap_or o 0 - y.epoch))) (same-epoch plan me c y h)
+same-windows : (sizes : Sizes) (plan : Plan) (me : Side) {c y : _} (n : ℕ) → KeepsMiddles c y → window_numbered sizes plan me y n ≡ window_numbered sizes plan me c n
+same-windows sizes plan me {c} {y} n h =
+    ap (λ o. unwrap_or (slice_get (windows_of_frame sizes plan) n) (tail_of sizes plan (unwrap_or o 0 - y.epoch))) (same-epoch plan me h)
     ∙ ap (λ e. unwrap_or (slice_get (windows_of_frame sizes plan) n) (tail_of sizes plan (unwrap_or (new_epoch_of plan me c) 0 - e))) h.epoch
 
-same-tick : (sizes : Sizes) (plan : Plan) (me : Side) (c y : NodeState) (n k : ℕ) → KeepsMiddles c y → IsTickIn sizes plan me c n k → IsTickIn sizes plan me y n k
-same-tick sizes plan me c y n k h at =
-    let first : first_of sizes plan me y n ≡ first_of sizes plan me c n = ap (λ (w : Window). w.first) (same-windows sizes plan me c y n h) in
-    let last : last_of sizes plan me y n ≡ last_of sizes plan me c n = ap (λ (w : Window). w.last) (same-windows sizes plan me c y n h) in
+same-tick : {sizes plan me c y n k : _} → KeepsMiddles c y → IsTickIn sizes plan me c n k → IsTickIn sizes plan me y n k
+same-tick {sizes} {plan} {me} {c} {y} {n} h at =
+    let first : first_of sizes plan me y n ≡ first_of sizes plan me c n = ap (λ (w : Window). w.first) (same-windows sizes plan me n h) in
+    let last : last_of sizes plan me y n ≡ last_of sizes plan me c n = ap (λ (w : Window). w.last) (same-windows sizes plan me n h) in
     let epoch : y.epoch ≡ c.epoch = h.epoch in
     record { from = omega (arith, first, epoch, at.from); to = omega (arith, last, epoch, at.to) }
 
-keeps-same : (sizes : Sizes) (plan : Plan) (me : Side) (c y : NodeState) → KeepsMiddles c y → KeepsTime sizes plan me c → KeepsTime sizes plan me y
-keeps-same sizes plan me c y h keeps = record {
-  second = λ x e. same-tick sizes plan me c y (3 * sync_slot_of sizes + 1) (x + plan.l) h (keeps.second x (sym h.k1 ∙ e));
-  third = λ x e. same-tick sizes plan me c y (3 * sync_slot_of sizes + 2) (x + plan.v) h (keeps.third x (sym h.k2 ∙ e));
-  next = λ x e. let epoch : y.epoch ≡ c.epoch = h.epoch in let low : c.epoch + tail_start_of sizes plan ≤ x = keeps.next x (sym (same-epoch plan me c y h) ∙ e) in omega (arith, epoch, low);
+keeps-same : {sizes plan me c y : _} → KeepsMiddles c y → KeepsTime sizes plan me c → KeepsTime sizes plan me y
+keeps-same {sizes} {plan} {me} {c} {y} h keeps = record {
+  second = λ x e. same-tick h (keeps.second x (sym h.k1 ∙ e));
+  third = λ x e. same-tick h (keeps.third x (sym h.k2 ∙ e));
+  next = λ x e. let epoch : y.epoch ≡ c.epoch = h.epoch in let low : c.epoch + tail_start_of sizes plan ≤ x = keeps.next x (sym (same-epoch plan me h) ∙ e) in omega (arith, epoch, low);
 }
 
 -- a message that is said leaves the middles
@@ -117,43 +117,43 @@ pub record GoesOn (sizes : Sizes) (plan : Plan) (me : Side) (frame e x k : ℕ) 
   pub message : listens me Sync 3 ≡ false → (m : Message) → a.message ≡ Some m → x + plan.h ≤ k
   pub begun : x ≤ k → (m : Message) → a.message ≡ Some m → x + plan.h ≡ k
 
-pub none-some : {X P : Type 0} (o : Option X) (x : X) → o ≡ None → o ≡ Some x → P
-none-some None x e f = cc
-none-some (Some y) x e f = cc
+pub none-some : {X P : Type 0} (o : Option X) {x : X} → o ≡ None → o ≡ Some x → P
+none-some None e f = cc
+none-some (Some y) e f = cc
 
 -- The first window of the next frame.
 
-pub turned-epoch : (plan : Plan) (me : Side) (frame x : ℕ) (c : NodeState) (had : ℕ) → HasTurned frame x c had → new_epoch_of plan me c ≡ None
-turned-epoch plan Biu frame x c had h = ap (option_map (λ k2. k2 + plan.v + plan.z + plan.c)) h.k2
-turned-epoch plan Rmu frame x c had h = ap (option_map (λ k3. k3 + plan.z)) h.k3
+pub turned-epoch : (plan : Plan) (me : Side) {frame x c had : _} → HasTurned frame x c had → new_epoch_of plan me c ≡ None
+turned-epoch plan Biu h = ap (option_map (λ k2. k2 + plan.v + plan.z + plan.c)) h.k2
+turned-epoch plan Rmu h = ap (option_map (λ k3. k3 + plan.z)) h.k3
 
-turned-keeps : (sizes : Sizes) (plan : Plan) (me : Side) (frame x : ℕ) (c : NodeState) (had : ℕ) → HasTurned frame x c had → KeepsTime sizes plan me c
-turned-keeps sizes plan me frame x c had h = record {
-  second = λ t e. none-some c.k1 t h.k1 e;
-  third = λ t e. none-some c.k2 t h.k2 e;
-  next = λ t e. none-some (new_epoch_of plan me c) t (turned-epoch plan me frame x c had h) e;
+turned-keeps : (sizes : Sizes) (plan : Plan) (me : Side) {frame x c had : _} → HasTurned frame x c had → KeepsTime sizes plan me c
+turned-keeps sizes plan me {c} h = record {
+  second = λ t e. none-some c.k1 h.k1 e;
+  third = λ t e. none-some c.k2 h.k2 e;
+  next = λ t e. none-some (new_epoch_of plan me c) (turned-epoch plan me h) e;
 }
 
-first-window : (sizes : Sizes) (plan : Plan) (me : Side) (y : NodeState) (x k : ℕ) → y.epoch ≡ x → x ≤ k → k + 1 < x + plan.l → IsTickIn sizes plan me y 0 k
-first-window sizes plan me y x k epoch from before =
+first-window : (sizes : Sizes) (plan : Plan) (me : Side) (y : NodeState) {x : ℕ} (k : ℕ) → y.epoch ≡ x → x ≤ k → k + 1 < x + plan.l → IsTickIn sizes plan me y 0 k
+first-window sizes plan me y k epoch from before =
     let first : first_of sizes plan me y 0 ≡ 0 * plan.l = first-same sizes plan me y 0 (omega arith) in
     let last : last_of sizes plan me y 0 ≡ 0 * plan.l + plan.l - 1 = last-same sizes plan me y 0 (omega arith) in
     record { from = omega (arith, first, epoch, from); to = omega (arith, last, epoch, before) }
 
-turned-last : (sizes : Sizes) (plan : Plan) (me : Side) (y : NodeState) (x k : ℕ) → HasRoom plan → y.epoch ≡ x → x ≤ k → k + 1 < x + plan.l → is_last sizes plan me y k ≡ false
-turned-last sizes plan me y x k room epoch from before =
+turned-last : (sizes : Sizes) {plan : _} (me : Side) (y : NodeState) {x : ℕ} (k : ℕ) → HasRoom plan → y.epoch ≡ x → x ≤ k → k + 1 < x + plan.l → is_last sizes plan me y k ≡ false
+turned-last sizes {plan} me y k room epoch from before =
     let last : last_of sizes plan me y 0 ≡ 0 * plan.l + plan.l - 1 = last-same sizes plan me y 0 (omega arith) in
-    last-is sizes plan me y 0 k room.ticks (omega arith) (first-window sizes plan me y x k epoch from before) ∙ less-differs k (y.epoch + last_of sizes plan me y 0) (omega (arith, last, epoch, before))
+    last-is me y room.ticks (omega arith) (first-window sizes plan me y k epoch from before) ∙ less-differs k (y.epoch + last_of sizes plan me y 0) (omega (arith, last, epoch, before))
 
-turned-says : (sizes : Sizes) (plan : Plan) (me : Side) (i : ℕ) (y : NodeState) (frame x word k : ℕ) → HasRoom plan → HasTurned frame x y (k + 1) → x ≤ k → k + 1 < x + plan.l
-    → (m : Message) → said_at sizes plan me i y word k ≡ Some m → x + plan.h ≡ k
-turned-says sizes plan me i y frame x word k room h from before m e =
+turned-says : (sizes : Sizes) {plan : _} (me : Side) (i : ℕ) {y frame x : _} (word k : ℕ) → HasRoom plan → HasTurned frame x y (k + 1) → x ≤ k → k + 1 < x + plan.l
+    → {m : _} → said_at sizes plan me i y word k ≡ Some m → x + plan.h ≡ k
+turned-says sizes {plan} me i {y} {x} word k room h from before {m} e =
     by (sending_at sizes plan me i y 0 word) refl
-    (sym (said-is sizes plan me i y 0 word k room.ticks room.inside (turned-keeps sizes plan me frame x y (k + 1) h) (omega arith) (first-window sizes plan me y x k h.epoch from before)) ∙ e)
+    (sym (said-is i word room.ticks room.inside (turned-keeps sizes plan me h) (omega arith) (first-window sizes plan me y k h.epoch from before)) ∙ e)
   where
     at : (s : Sending) → sending_at sizes plan me i y 0 word ≡ Some s → (b : Bool) → (s.tick == k) ≡ b → (elim b as (λ _. Option Message) [ true ↦ Some s.message | false ↦ None ]) ≡ Some m → x + plan.h ≡ k
     at s is true f g =
-        let tick : s.tick ≡ y.epoch + 0 * plan.l + plan.h = sent-exactly sizes plan me i y 0 word s (omega arith) is in
+        let tick : s.tick ≡ y.epoch + 0 * plan.l + plan.h = sent-exactly sizes plan me i y 0 word (omega arith) is in
         let same : s.tick ≡ k = eqb-true s.tick k f in
         let epoch : y.epoch ≡ x = h.epoch in
         omega (arith, tick, same, epoch)
@@ -163,10 +163,10 @@ turned-says sizes plan me i y frame x word k room h from before m e =
     by None is g = cc
     by (Some s) is g = at s is (s.tick == k) refl g
 
-pub turned-act : (sizes : Sizes) (plan : Plan) (me : Side) (i frame e x : ℕ) (c : Core) (y : NodeState) (word : ℕ) → HasRoom plan → HasTurned frame x y (c.had + 1) → c.had + 1 < x + plan.l
+pub turned-act : (sizes : Sizes) {plan : _} (me : Side) (i : ℕ) {frame : ℕ} (e : ℕ) {x : ℕ} (c : Core) {y : _} (word : ℕ) → HasRoom plan → HasTurned frame x y (c.had + 1) → c.had + 1 < x + plan.l
     → GoesOn sizes plan me frame e x c.had (act_on sizes plan me i c y (said_at sizes plan me i y word c.had) (state_kept sizes me i y word (said_at sizes plan me i y word c.had)))
-turned-act sizes plan me i frame e x c y word room h before =
-    act-by (GoesOn sizes plan me frame e x c.had) sizes plan me i c y m kept (λ last. true-false (sym last ∙ turned-last sizes plan me y x c.had room h.epoch from before)) (λ _. record {
+turned-act sizes {plan} me i {frame} e {x} c {y} word room h before =
+    act-by (GoesOn sizes plan me frame e x c.had) sizes plan me i c y m kept (λ last. true-false (sym last ∙ turned-last sizes me y c.had room h.epoch from before)) (λ _. record {
       closed = λ s f. none_not_some s f;
       after = inr (record {
         in_frame = same.frame ∙ h.in_frame;
@@ -176,8 +176,8 @@ turned-act sizes plan me i frame e x c y word room h before =
         k3 = same.k3 ∙ h.k3;
         begun = h.begun;
       });
-      message = λ deaf msg f. let at = turned-says sizes plan me i y frame x word c.had room h from before msg f in omega (arith, at);
-      begun = λ le msg f. turned-says sizes plan me i y frame x word c.had room h from before msg f;
+      message = λ deaf msg f. let at = turned-says sizes me i word c.had room h from before f in omega (arith, at);
+      begun = λ le msg f. turned-says sizes me i word c.had room h from before f;
     })
   where
     from : x ≤ c.had
@@ -194,19 +194,19 @@ turned-act sizes plan me i frame e x c y word room h before =
 
 -- The tail.
 
-pub in-tail : (sizes : Sizes) (plan : Plan) (me : Side) (frame e x : ℕ) (c : NodeState) (k : ℕ) → e + tail_start_of sizes plan ≤ x → IsInTail sizes plan me frame e x c k → k < x
+pub in-tail : {sizes plan me frame e x c k : _} → e + tail_start_of sizes plan ≤ x → IsInTail sizes plan me frame e x c k → k < x
     → IsTickIn sizes plan me c (stages_in sizes) k
-in-tail sizes plan me frame e x c k low h lt =
+in-tail {sizes} {plan} {me} {e} {x} {c} low h lt =
     let first : first_of sizes plan me c (stages_in sizes) ≡ tail_start_of sizes plan = tail-first sizes plan me c in
     let last : last_of sizes plan me c (stages_in sizes) ≡ x - c.epoch - 1 =
     tail-last sizes plan me c ∙ ap (λ o. unwrap_or o 0 - c.epoch - 1) h.known in
     let epoch : c.epoch ≡ e = h.epoch in
     record { from = omega (arith, first, epoch, h.from); to = omega (arith, last, epoch, low, lt) }
 
-pub tail-act : (sizes : Sizes) (plan : Plan) (me : Side) (i frame e x : ℕ) (c : Core) (word : ℕ) → HasRoom plan → e + tail_start_of sizes plan ≤ x → IsInTail sizes plan me frame e x c.state c.had → c.had < x
+pub tail-act : {sizes plan me : _} (i : ℕ) {frame e x : ℕ} (c : Core) (word : ℕ) → HasRoom plan → e + tail_start_of sizes plan ≤ x → IsInTail sizes plan me frame e x c.state c.had → c.had < x
     → GoesOn sizes plan me frame e x c.had (act_on sizes plan me i c c.state (said_at sizes plan me i c.state word c.had) (state_kept sizes me i c.state word (said_at sizes plan me i c.state word c.had)))
     × KeepsMiddles c.state (act_on sizes plan me i c c.state (said_at sizes plan me i c.state word c.had) (state_kept sizes me i c.state word (said_at sizes plan me i c.state word c.had))).core.state
-tail-act sizes plan me i frame e x c word room low h lt = act-by Goes sizes plan me i c st m kept (λ _. closes) (λ _. goes)
+tail-act {sizes} {plan} {me} i {frame} {e} {x} c word room low h lt = act-by Goes sizes plan me i c st m kept (λ _. closes) (λ _. goes)
   where
     st : NodeState
     st = c.state
@@ -221,7 +221,7 @@ tail-act sizes plan me i frame e x c word room low h lt = act-by Goes sizes plan
     w = window_here sizes plan me st c.had
 
     w_is : w ≡ window_numbered sizes plan me st (stages_in sizes)
-    w_is = here-is sizes plan me st (stages_in sizes) c.had room.ticks (omega arith) (in-tail sizes plan me frame e x st c.had low h lt)
+    w_is = here-is me st room.ticks (omega arith) (in-tail low h lt)
 
     slot : w.slot ≡ sync_slot_of sizes
     slot = ap (λ (w : Window). w.slot) w_is ∙ ap (λ (w : Window). w.slot) (sync-numbered sizes plan me st 3)
@@ -233,7 +233,7 @@ tail-act sizes plan me i frame e x c word room low h lt = act-by Goes sizes plan
     closing = close_window sizes plan me i kept w (of_source c.inbox)
 
     silent : listens me Sync 3 ≡ false → m ≡ None
-    silent deaf = silent-there sizes plan me i st 3 word c.had room (omega arith) (h.keeps deaf) (in-tail sizes plan me frame e x st c.had low h lt) (unheard me)
+    silent deaf = silent-there i 3 word room (omega arith) (h.keeps deaf) (in-tail low h lt) (unheard me)
       where
         unheard : (me : Side) → listens (other me) Sync 4 ≡ false
         unheard Biu = refl
@@ -243,9 +243,9 @@ tail-act sizes plan me i frame e x c word room low h lt = act-by Goes sizes plan
     still z same = record {
       in_frame = same.frame ∙ h.in_frame;
       epoch = same.epoch ∙ h.epoch;
-      known = same-epoch plan me st z same ∙ h.known;
+      known = same-epoch plan me same ∙ h.known;
       from = let low = h.from in omega (arith, low);
-      keeps = λ deaf. keeps-same sizes plan me st z same (h.keeps deaf);
+      keeps = λ deaf. keeps-same same (h.keeps deaf);
     }
 
     kept-same : KeepsMiddles st kept
@@ -261,7 +261,7 @@ tail-act sizes plan me i frame e x c word room low h lt = act-by Goes sizes plan
         some-same a b e = cc
 
     closes-same : KeepsMiddles st closing.state
-    closes-same = and-so st kept closing.state kept-same (closed-same sizes plan me i kept w (of_source c.inbox) slot (ap (listens me Sync) stage ∙ deaf-tail me))
+    closes-same = and-so kept-same (closed-same sizes plan me i kept w (of_source c.inbox) slot (ap (listens me Sync) stage ∙ deaf-tail me))
 
     Goes : Act → Type 0
     Goes a = GoesOn sizes plan me frame e x c.had a × KeepsMiddles st a.core.state
@@ -271,7 +271,7 @@ tail-act sizes plan me i frame e x c word room low h lt = act-by Goes sizes plan
       record {
         closed = stage-of;
         after = inl (still closing.state closes-same, omega (arith, lt));
-        message = λ deaf msg f. none-some m msg (silent deaf) f;
+        message = λ deaf msg f. none-some m (silent deaf) f;
         begun = λ le msg f. absurd (omega (arith, le, lt));
       },
       closes-same,
@@ -282,7 +282,7 @@ tail-act sizes plan me i frame e x c word room low h lt = act-by Goes sizes plan
       record {
         closed = λ s f. none_not_some s f;
         after = inl (still kept kept-same, omega (arith, lt));
-        message = λ deaf msg f. none-some m msg (silent deaf) f;
+        message = λ deaf msg f. none-some m (silent deaf) f;
         begun = λ le msg f. absurd (omega (arith, le, lt));
       },
       kept-same,

@@ -38,10 +38,10 @@ sum-past most change k j (x ∷ xs) h =
     differs a b h = grind (arith, nat_tests)
 
 -- if a change leaves one node `d` fewer, all nodes together have `d` fewer left
-sum-one : (most : ℕ) (change : Site → Site) (k i j d : ℕ) (xs : List Site) (s : Site) → j ≡ k + i → slice_get xs i ≡ Some s → left_of most (change s) + d ≤ left_of most s
+sum-one : (most : ℕ) (change : Site → Site) (k i j d : ℕ) (xs : List Site) {s : _} → j ≡ k + i → slice_get xs i ≡ Some s → left_of most (change s) + d ≤ left_of most s
     → sum_left most (map_from k (λ n s. elim (n == j) as (λ _. Site) [ true ↦ change s | false ↦ s ]) xs) + d ≤ sum_left most xs
-sum-one most change k i j d [] s is e h = cc
-sum-one most change k zero j d (x ∷ xs) s is e h =
+sum-one most change k i j d [] is e h = cc
+sum-one most change k zero j d (x ∷ xs) {s} is e h =
     let same : x ≡ s = cc in
     let here : (k == j) ≡ true = same-is k j (omega (arith, is)) in
     let head : left_of most (elim (k == j) as (λ _. Site) [ true ↦ change x | false ↦ x ]) ≡ left_of most (change x) =
@@ -52,8 +52,8 @@ sum-one most change k zero j d (x ∷ xs) s is e h =
   where
     same-is : (a b : ℕ) → a ≡ b → (a == b) ≡ true
     same-is a b h = grind (arith, nat_tests)
-sum-one most change k (suc i) j d (x ∷ xs) s is e h =
-    let rest = sum-one most change (k + 1) i j d xs s (omega (arith, is)) e h in
+sum-one most change k (suc i) j d (x ∷ xs) is e h =
+    let rest = sum-one most change (k + 1) i j d xs (omega (arith, is)) e h in
     let head : left_of most (elim (k == j) as (λ _. Site) [ true ↦ change x | false ↦ x ]) ≡ left_of most x =
     ap (λ b. left_of most (elim b as (λ _. Site) [ true ↦ change x | false ↦ x ])) (differs k j (omega (arith, is))) in
     omega (arith, head, rest)
@@ -74,14 +74,14 @@ sum-more most make k (x ∷ xs) each =
     omega (arith, head, rest)
 
 -- if a change leaves one node `d` fewer, all nodes together have `d` fewer left
-pub one-less : (most : ℕ) (change : Site → Site) (me : Side) (i d : ℕ) (sites : Each Site) (s : Site) → slice_get (of_kind me sites) i ≡ Some s → left_of most (change s) + d ≤ left_of most s
+pub one-less : (most : ℕ) (change : Site → Site) (me : Side) (i d : ℕ) (sites : Each Site) {s : _} → slice_get (of_kind me sites) i ≡ Some s → left_of most (change s) + d ≤ left_of most s
     → all_left most (at_node me i change sites) + d ≤ all_left most sites
-one-less most change Biu i d sites s there h =
-    let one = sum-one most change 0 i i d sites.bius s (omega arith) there h in
+one-less most change Biu i d sites {s} there h =
+    let one = sum-one most change 0 i i d sites.bius (omega arith) there h in
     let rest = sum-same most (λ n s. s) 0 sites.rmus (λ n s. refl) in
     omega (arith, one, rest)
-one-less most change Rmu i d sites s there h =
-    let one = sum-one most change 0 i i d sites.rmus s (omega arith) there h in
+one-less most change Rmu i d sites {s} there h =
+    let one = sum-one most change 0 i i d sites.rmus (omega arith) there h in
     let rest = sum-same most (λ n s. s) 0 sites.bius (λ n s. refl) in
     omega (arith, one, rest)
 
@@ -116,9 +116,9 @@ length-both (x ∷ xs) ys = let rest = length-both xs ys in omega (arith, rest)
 
 -- A tick.
 
-pub busy-later : (sizes : Sizes) (plan : Plan) (me : Side) (i : ℕ) (st : NodeState) (n k x : ℕ) → busy_among sizes plan me i st n k ≡ Some x → k ≤ x
-busy-later sizes plan me i st zero k x e = cc
-busy-later sizes plan me i st (suc n) k x e = by (is_busy sizes plan me i st k) (λ h. busy-later sizes plan me i st n (suc k) x h) e
+pub busy-later : (sizes : Sizes) (plan : Plan) (me : Side) (i : ℕ) (st : NodeState) (n k : ℕ) {x : ℕ} → busy_among sizes plan me i st n k ≡ Some x → k ≤ x
+busy-later sizes plan me i st zero k e = cc
+busy-later sizes plan me i st (suc n) k {x} e = by (is_busy sizes plan me i st k) (λ h. busy-later sizes plan me i st n (suc k) h) e
   where
     by : (b : Bool) → (busy_among sizes plan me i st n (suc k) ≡ Some x → suc k ≤ x)
         → (elim b as (λ _. Option ℕ) [ true ↦ Some k | false ↦ busy_among sizes plan me i st n (suc k) ]) ≡ Some x → k ≤ x
@@ -152,13 +152,13 @@ await-few sc n me i more s few =
     let both = length-both s.coming more in
     record {
       ticks = next-left s.core.had _ (λ k. refl) (next_tick sc.sizes sc.plan me i s.core)
-          (λ k e. busy-later sc.sizes sc.plan me i s.core.state (2 ^ 31 - s.core.had) s.core.had k e);
+          (λ k e. busy-later sc.sizes sc.plan me i s.core.state (2 ^ 31 - s.core.had) s.core.had e);
       coming = omega (arith, both, few);
     }
 
-pub enter-few : (sc : Scenario) (n : ℕ) → SayAtMost sc n → (me : Side) (i : ℕ) (o : Option Span) (s : Site) → LeavesFew n s.core.had s (enter sc me i o s)
-enter-few sc n say me i None s = await-few sc n me i [] s (omega arith)
-enter-few sc n say me i (Some span) s = by (is_good sc me i span.place.frame span.place.slot)
+pub enter-few : (sc : Scenario) {n : ℕ} → SayAtMost sc n → (me : Side) (i : ℕ) (o : Option Span) (s : Site) → LeavesFew n s.core.had s (enter sc me i o s)
+enter-few sc {n} say me i None s = await-few sc n me i [] s (omega arith)
+enter-few sc {n} say me i (Some span) s = by (is_good sc me i span.place.frame span.place.slot)
   where
     by : (b : Bool) → LeavesFew n s.core.had s (elim b as (λ _. Site) [ true ↦ await sc me i (says_in sc me i span) s | false ↦ stop s ])
     by true = await-few sc n me i (says_in sc me i span) s (say me i span)
@@ -172,9 +172,9 @@ pub epoch-same : (sc : Scenario) (ports : List PortState) (me : Side) (i : ℕ) 
 epoch-same sc ports me i None s = (refl, refl)
 epoch-same sc ports me i (Some e) s = (refl, refl)
 
-act-few : (sc : Scenario) (n : ℕ) → SayAtMost sc n → (ports : List PortState) (me : Side) (i : ℕ) (x : Act) (s : Site) → LeavesFew n x.core.had s (after_act sc ports me i x s)
+act-few : (sc : Scenario) {n : ℕ} → SayAtMost sc n → (ports : List PortState) (me : Side) (i : ℕ) (x : Act) (s : Site) → LeavesFew n x.core.had s (after_act sc ports me i x s)
 unfolding after_act proceed
-act-few sc n say ports me i x s =
+act-few sc {n} say ports me i x s =
     let one : Site = record s { core = x.core } in
     let two : Site = with_close me i x.core.state x.closed one in
     let three : Site = with_epoch sc ports me i x.epoch two in
@@ -183,20 +183,20 @@ act-few sc n say ports me i x s =
     let core : three.core ≡ x.core = b.0 ∙ a.0 in
     let coming : three.coming ≡ s.coming = b.1 ∙ a.1 in
     let few : LeavesFew n three.core.had three (enter sc me i (span_from sc.sizes sc.plan me three.core.state three.core.had) three) =
-    enter-few sc n say me i (span_from sc.sizes sc.plan me three.core.state three.core.had) three in
+    enter-few sc say me i (span_from sc.sizes sc.plan me three.core.state three.core.had) three in
     record {
       ticks = let had : three.core.had ≡ x.core.had = ap (λ (c : Core). c.had) core in let le = few.ticks in omega (arith, had, le);
       coming = let long : length three.coming ≡ length s.coming = ap length coming in let le = few.coming in omega (arith, long, le);
     }
 
 -- the node of a tick is left with less
-pub tick-left : (sc : Scenario) (n : ℕ) → SayAtMost sc n → (ports : List PortState) (me : Side) (i : ℕ) (a : Timed) (s : Site) → s.ahead ≡ Some a → s.core.had ≤ a.tick → a.tick < 2 ^ 31
+pub tick-left : (sc : Scenario) {n : ℕ} → SayAtMost sc n → (ports : List PortState) (me : Side) (i : ℕ) {a : _} (s : Site) → s.ahead ≡ Some a → s.core.had ≤ a.tick → a.tick < 2 ^ 31
     → left_of (most_with sc n) (after_act sc ports me i (pass_and_tick sc ports me i a.tick s.core) s) + (nodes_of sc.sizes + 1) ≤ left_of (most_with sc n) s
 unfolding left_of pass_and_tick
-tick-left sc n say ports me i a s pend had small =
+tick-left sc {n} say ports me i {a} s pend had small =
     let x : Act = pass_and_tick sc ports me i a.tick s.core in
     let z : Site = after_act sc ports me i x s in
-    let few : LeavesFew n x.core.had s z = act-few sc n say ports me i x s in
+    let few : LeavesFew n x.core.had s z = act-few sc say ports me i x s in
     let passed : (pass_to a.tick s.core).had ≡ a.tick = omega (arith, had) in
     let ticked : x.core.had ≡ (pass_to a.tick s.core).had + 1 = tick-had sc.sizes sc.plan me i (pass_to a.tick s.core) _ (omega (arith, passed, small)) in
     let before : ticks_left s.ahead ≡ 2 ^ 31 - a.tick = ap ticks_left pend in

@@ -25,9 +25,9 @@ pub record AreInTime (sc : Scenario) (hands : List HandIn) (at : Side → ℕ �
       → ComesLater sc (moment sc hands (at me i)) (moment sc hands (next_stage sc.sizes (moment sc hands (at me i)) (at me i))) me i j st
 
 -- the pending tick of a node that runs comes no later than the last of its window
-ends-later : (sc : Scenario) (hands : List HandIn) (sent : Side → ℕ → ℕ → Bool) (now : ℕ) (me : Side) (i p : ℕ) (s : Site) (st : NodeState) (a : Timed)
+ends-later : {sc hands sent now me i p s st a : _}
     → NodeStands sc hands sent now me i p s st a → now ≤ time_of (clock_of sc me i) (last_tick sc (moment sc hands p) me st)
-ends-later sc hands sent now me i p s st a h =
+ends-later {sc} {hands} {now} {me} {i} {p} {st} {a} h =
     let at_time : a.time ≡ time_of (clock_of sc me i) a.tick = h.receives.at_time in
     let le : a.tick ≤ last_tick sc (moment sc hands p) me st = h.receives.in_window in
     let up : time_of (clock_of sc me i) a.tick ≤ time_of (clock_of sc me i) (last_tick sc (moment sc hands p) me st) =
@@ -35,12 +35,12 @@ ends-later sc hands sent now me i p s st a h =
     let after : now ≤ a.time = h.receives.tick_after in
     omega (arith, at_time, up, after)
 
-some-none : (s : Sending) → None ≡ Some s → ⊥
-some-none s e = cc
+some-none : {s : Sending} → None ≡ Some s → ⊥
+some-none e = cc
 
-entry-is : (sc : Scenario) (m : Moment) (me : Side) (i frame k : ℕ) (j : ℕ) (x : Sending) → sending_of sc m me i ≡ Some x → x.tick ≡ k → frame ≡ m.frame
+entry-is : (sc : Scenario) (m : Moment) (me : Side) (i : ℕ) {frame k : ℕ} (j : ℕ) {x : _} → sending_of sc m me i ≡ Some x → x.tick ≡ k → frame ≡ m.frame
     → entry_of sc m (other me) j i ≡ on_way sc me i frame k x.message j ∷ []
-entry-is sc m me i frame k j x is tick in_frame =
+entry-is sc m me i {k} j {x} is tick in_frame =
     let x_is : x ≡ record { tick = k; message = x.message } = ap (λ t. let y : Sending = record { tick = t; message = x.message } in y) tick in
     ap (λ y. option_to_list (option_map (coming_of sc (other me) j i m.frame) (sending_of sc m y i))) (other_twice me)
     ∙ ap (λ o. option_to_list (option_map (coming_of sc (other me) j i m.frame) o)) is
@@ -49,24 +49,24 @@ entry-is sc m me i frame k j x is tick in_frame =
 
 -- Messages land.
 
-pub all-land : (sc : Scenario) (hands : List HandIn) (now : ℕ) (at : Side → ℕ → ℕ) (sites : Each Site) (me : Side) (i frame k t : ℕ)
+pub all-land : {sc : Scenario} {hands : List HandIn} {now : ℕ} {at : Side → ℕ → ℕ} (sites : Each Site) (me : Side) (i : ℕ) {frame : ℕ} (k : ℕ) {t : ℕ}
     → IsLawful sc → HasTicks sc.plan → now ≤ t → t ≡ time_of (clock_of sc me i) k → i < count_of me sc.sizes
     → is_good_at sc (moment sc hands (at me i)) me i ≡ true → frame ≡ (moment sc hands (at me i)).frame
     → ((moment sc hands (at me i)).window ≤ windows_in sc.sizes)
     → HavePassed sc hands now at → AreInTime sc hands at → ((side : Side) → length (of_kind side sites) ≡ count_of side sc.sizes)
     → AllLand sc hands at sites me i frame k t
 unfolding AllLand
-all-land sc hands now at sites me i frame k t lawful ticks later time counted good in_frame bound passed times counts j z there x is tick st c stands =
+all-land {sc} {hands} {now} {at} sites me i {frame} k {t} lawful ticks later time counted good in_frame bound passed times counts j z there x is tick st c stands =
     let p : ℕ = at (other me) j in
     let q : ℕ = at me i in
     let mp : Moment = moment sc hands p in
     let mq : Moment = moment sc hands q in
     let e : Coming = on_way sc me i frame k x.message j in
     let clock : Timeline = clock_of sc (other me) j in
-    let entry : entry_of sc mq (other me) j i ≡ e ∷ [] = entry-is sc mq me i frame k j x is tick in_frame in
+    let entry : entry_of sc mq (other me) j i ≡ e ∷ [] = entry-is sc mq me i j is tick in_frame in
     let after : t < e.time =
     subst (λ u. u < e.time) (ap (λ y. time_of (clock_of sc y i) k) (other_twice me) ∙ sym time)
-    (comes-after sc lawful (other me) j i frame (record { tick = k; message = x.message })) in
+    (comes-after lawful (other me) j i frame (record { tick = k; message = x.message })) in
     let within : j < length (of_kind (other me) sites) = slice_get_within (of_kind (other me) sites) j z there in
     let long : length (of_kind (other me) sites) ≡ count_of (other me) sc.sizes = counts (other me) in
     let here : InTime sc mp (moment sc hands (next_stage sc.sizes mp p)) = times.each (other me) j stands.good in
@@ -75,7 +75,7 @@ all-land sc hands now at sites me i frame k t lawful ticks later time counted go
     let next : NextIsStage sc hands p = next-is-stage sc hands p stands.stands.window in
     let stage : mq.window < stages_in sc.sizes = elim (cases_lt mq.window (stages_in sc.sizes)) [
       | inl lt ↦ lt
-      | inr ge ↦ absurd (some-none x (sym (none-of-tail sc mq me i ge bound) ∙ is))
+      | inr ge ↦ absurd (some-none (sym (none-of-tail sc mq me i ge bound) ∙ is))
     ] in
     elim (cases_lt q p) [
       | inl before ↦
@@ -112,7 +112,7 @@ all-land sc hands now at sites me i frame k t lawful ticks later time counted go
                 let gone : time_of (clock_of sc me i) (last_tick sc (moment sc hands y) me was.0) ≤ now = passed.passed me i y was.0 beyond next.window was.1 was_good in
                 let order : time_of clock (last_tick sc mp (other me) st) < time_of (clock_of sc me i) (last_tick sc (moment sc hands y) me was.0) =
                 here.order (other me) me j i st was.0 stands.state stands.good was.1 was_good in
-                let end : t ≤ time_of clock (last_tick sc mp (other me) st) = ends-later sc hands (sent_by sc hands at sites) t (other me) j p z st c stands in
+                let end : t ≤ time_of clock (last_tick sc mp (other me) st) = ends-later stands in
                 absurd (omega arith)
           ]
         ]
@@ -122,15 +122,15 @@ all-land sc hands now at sites me i frame k t lawful ticks later time counted go
 -- The others keep up.
 
 -- a source that is good in the closing node's window has sent what it sends in that window
-source-sent : (sc : Scenario) (hands : List HandIn) (t : ℕ) (at : Side → ℕ → ℕ) (sites : Each Site) (me : Side) (i j : ℕ) (st : NodeState) (z : Site)
+source-sent : {sc : Scenario} {hands : List HandIn} {t : ℕ} {at : Side → ℕ → ℕ} (sites : Each Site) (me : Side) (i j : ℕ) {st : NodeState} {z : Site}
     → IsLawful sc → HasTicks sc.plan → slice_get (of_kind me (moment sc hands (at me i)).nodes) i ≡ Some st → is_good_at sc (moment sc hands (at me i)) me i ≡ true
     → t ≡ time_of (clock_of sc me i) (last_tick sc (moment sc hands (at me i)) me st) → (moment sc hands (at me i)).window ≤ stages_in sc.sizes
     → HavePassed sc hands t at → AreInTime sc hands at → i < count_of me sc.sizes → j < count_of (other me) sc.sizes
     → is_good_at sc (moment sc hands (at me i)) (other me) j ≡ true → slice_get (of_kind (other me) sites) j ≡ Some z
     → ((z.runs ≡ true) × IsUp sc hands (sent_by sc hands at sites) t (other me) j (at (other me) j) z)
     ⊎ ((z.runs ≡ false) × IsDown sc hands (other me) j (at (other me) j) z)
-    → (x : Sending) → sending_of sc (moment sc hands (at me i)) (other me) j ≡ Some x → sent_by sc hands at sites (other me) j (at me i) ≡ true
-source-sent sc hands t at sites me i j st z lawful ticks there good time within passed times counted counted_j good_j site node x is =
+    → {x : Sending} → sending_of sc (moment sc hands (at me i)) (other me) j ≡ Some x → sent_by sc hands at sites (other me) j (at me i) ≡ true
+source-sent {sc} {hands} {t} {at} sites me i j {st} {z} lawful ticks there good time within passed times counted counted_j good_j site node {x} is =
     let p : ℕ = at me i in
     let q : ℕ = at (other me) j in
     let m : Moment = moment sc hands p in
@@ -140,10 +140,10 @@ source-sent sc hands t at sites me i j st z lawful ticks there good time within 
     let pend : ahead_in (of_kind (other me) sites) j ≡ z.ahead = ap (option_and_then (λ (s : Site). s.ahead)) site in
     let stage : m.window < stages_in sc.sizes = elim (cases_lt m.window (stages_in sc.sizes)) [
       | inl lt ↦ lt
-      | inr ge ↦ absurd (some-none x (sym (none-of-tail sc m (other me) j ge (omega arith)) ∙ is))
+      | inr ge ↦ absurd (some-none (sym (none-of-tail sc m (other me) j ge (omega arith)) ∙ is))
     ] in
     elim (cases_lt p q) [
-      | inl past ↦ sent-earlier (sending_of sc m (other me) j) x q p (ahead_in (of_kind (other me) sites) j) is past
+      | inl past ↦ sent-earlier (sending_of sc m (other me) j) q p (ahead_in (of_kind (other me) sites) j) is past
       | inr not_past ↦ elim node [
         | inr off ↦
             let good_q : is_good_at sc mq (other me) j ≡ true = good-back sc hands q p (other me) j not_past good_j in
@@ -161,7 +161,7 @@ source-sent sc hands t at sites me i j st z lawful ticks there good time within 
                   let entry : entry_of sc m me i j ≡ e ∷ [] = ap (λ o. option_to_list (option_map (coming_of sc me i j m.frame) o)) is in
                   let all : Every (ComesInWindow sc m me i st) (e ∷ []) = subst (Every (ComesInWindow sc m me i st)) entry (here.heard me i j st there good good_j) in
                   let in_time : e.time ≤ time_of (clock_of sc me i) (last_tick sc m me st) = all.0.1 in
-                  let sent : time_of clock x.tick < e.time = comes-after sc lawful me i j m.frame x in
+                  let sent : time_of clock x.tick < e.time = comes-after lawful me i j m.frame x in
                   let before : x.tick < a.tick = elim (cases_lt x.tick a.tick) [
                     | inl lt ↦ lt
                     | inr ge ↦
@@ -175,7 +175,7 @@ source-sent sc hands t at sites me i j st z lawful ticks there good time within 
               | inl behind ↦
                   let next : NextIsStage sc hands q = next-is-stage sc hands q up.stands.stands.window in
                   let y : ℕ = next_stage sc.sizes mq q in
-                  let end : t ≤ time_of clock (last_tick sc mq (other me) up.st) = ends-later sc hands (sent_by sc hands at sites) t (other me) j q z up.st a up.stands in
+                  let end : t ≤ time_of clock (last_tick sc mq (other me) up.st) = ends-later up.stands in
                   elim (cases_lt p y) [
                     | inl between ↦ let tail = next.between p behind between in absurd (omega (arith, tail.0, stage))
                     | inr from ↦
@@ -201,22 +201,22 @@ source-sent sc hands t at sites me i j st z lawful ticks there good time within 
       ]
     ]
 
-node-of : (sc : Scenario) (hands : List HandIn) (now : ℕ) (at : Side → ℕ → ℕ) (sites : Each Site) → SitesStand sc hands now at sites → (me : Side) (i : ℕ) (z : Site)
+node-of : {sc hands now at sites : _} → SitesStand sc hands now at sites → (me : Side) (i : ℕ) {z : _}
     → slice_get (of_kind me sites) i ≡ Some z
     → ((z.runs ≡ true) × IsUp sc hands (sent_by sc hands at sites) now me i (at me i) z) ⊎ ((z.runs ≡ false) × IsDown sc hands me i (at me i) z)
-node-of sc hands now at sites h me i z there = by z.runs refl
+node-of {sc} {hands} {now} {at} {sites} h me i {z} there = by z.runs refl
   where
     by : (b : Bool) → z.runs ≡ b → ((z.runs ≡ true) × IsUp sc hands (sent_by sc hands at sites) now me i (at me i) z) ⊎ ((z.runs ≡ false) × IsDown sc hands me i (at me i) z)
     by true e = inl (e, h.up me i z there e)
     by false e = inr (e, h.down me i z there e)
 
 -- when a node closes its window at time `t`, the other nodes keep up
-pub keep-up : (sc : Scenario) (hands : List HandIn) (t : ℕ) (at : Side → ℕ → ℕ) (sites : Each Site) (me : Side) (i : ℕ) (st : NodeState)
+pub keep-up : {sc : Scenario} {hands : List HandIn} {t : ℕ} {at : Side → ℕ → ℕ} {sites : Each Site} (me : Side) (i : ℕ) {st : NodeState}
     → IsLawful sc → HasTicks sc.plan → slice_get (of_kind me (moment sc hands (at me i)).nodes) i ≡ Some st → is_good_at sc (moment sc hands (at me i)) me i ≡ true
     → t ≡ time_of (clock_of sc me i) (last_tick sc (moment sc hands (at me i)) me st) → (moment sc hands (at me i)).window ≤ stages_in sc.sizes
     → HavePassed sc hands t at → AreInTime sc hands at → i < count_of me sc.sizes → SitesStand sc hands t at sites
     → OthersKeepUp sc hands (sent_by sc hands at sites) me i (at me i)
-keep-up sc hands t at sites me i st lawful ticks there good time within passed times counted h =
+keep-up {sc} {hands} {t} {at} {sites} me i {st} lawful ticks there good time within passed times counted h =
     let p : ℕ = at me i in
     let m : Moment = moment sc hands p in
     let here : InTime sc m (moment sc hands (next_stage sc.sizes m p)) = times.each me i good in
@@ -230,8 +230,8 @@ keep-up sc hands t at sites me i st lawful ticks there good time within passed t
           λ o. elim o as (λ o. sending_of sc m (other me) j ≡ o → (sent_by sc hands at sites (other me) j p ≡ true) ⊎ (entry_of sc m me i j ≡ [])) [
             | None ↦ λ e. inr (ap (λ o. option_to_list (option_map (coming_of sc me i j m.frame) o)) e)
             | Some x ↦ λ e.
-                inl (source-sent sc hands t at sites me i j st site.0 lawful ticks there good time within passed times counted counted_j good_j site.1
-                (node-of sc hands t at sites h (other me) j site.0 site.1) x e)
+                inl (source-sent sites me i j lawful ticks there good time within passed times counted counted_j good_j site.1
+                (node-of h (other me) j site.1) e)
           ] in
           go (sending_of sc m (other me) j) refl;
       none_ahead = λ q e j good_y.

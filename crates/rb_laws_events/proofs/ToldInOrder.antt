@@ -32,9 +32,9 @@ pub record NodeTold (sc : Scenario) (hands : List HandIn) (me : Side) (i p : ℕ
   pub was_good : (q : ℕ) → q < p → is_good_at sc (moment sc hands q) me i ≡ true
 
 -- what a node tells of a start is of its own frame and tick
-begun-then : (sc : Scenario) (ports : List PortState) (me : Side) (i k : ℕ) (y : NodeState) (o : Option Begun) (b : Begun)
+begun-then : (sc : Scenario) (ports : List PortState) (me : Side) (i k : ℕ) (y : NodeState) (o : Option Begun) {b : _}
     → begun_after sc ports me i (epoch_at sc.sizes me y k) o ≡ Some b → ((b.frame ≡ y.frame) × (y.epoch ≡ k)) ⊎ (o ≡ Some b)
-begun-then sc ports me i k y o b = by (y.epoch == k) refl
+begun-then sc ports me i k y o {b} = by (y.epoch == k) refl
   where
     same-number : (a b : ℕ) → (a == b) ≡ true → a ≡ b
     same-number a b h = grind (arith, nat_tests)
@@ -46,20 +46,20 @@ begun-then sc ports me i k y o b = by (y.epoch == k) refl
     by false f e = inr e
 
 -- the state of a tick has the frame and the first tick of the window's
-pub begun-at : (sc : Scenario) (hands : List HandIn) (ports : List PortState) (me : Side) (i p k word : ℕ) (st : NodeState) (e : Option Epoch) (o : Option Begun) (b : Begun)
+pub begun-at : (sc : Scenario) (hands : List HandIn) (ports : List PortState) (me : Side) (i p k word : ℕ) (st : NodeState) {e : _} (o : Option Begun) {b : _}
     → e ≡ epoch_at sc.sizes me (state_in sc.sizes sc.plan me i st (moment sc hands p).window word k) k → st.frame ≡ (moment sc hands p).frame
     → begun_after sc ports me i e o ≡ Some b → ((b.frame ≡ (moment sc hands p).frame) × (st.epoch ≡ k)) ⊎ (o ≡ Some b)
-begun-at sc hands ports me i p k word st e o b epoch frame is =
+begun-at sc hands ports me i p k word st {e} o epoch frame is =
     let n : ℕ = (moment sc hands p).window in
     let y : NodeState = state_in sc.sizes sc.plan me i st n word k in
     let like : Like sc.sizes sc.plan me i st y = like-in sc.sizes sc.plan me i st n word k in
-    elim (begun-then sc ports me i k y o b (sym (ap (λ e. begun_after sc ports me i e o) epoch) ∙ is)) [
+    elim (begun-then sc ports me i k y o (sym (ap (λ e. begun_after sc ports me i e o) epoch) ∙ is)) [
       | inl new ↦ inl (new.0 ∙ state-frame sc me i st n word k ∙ frame, sym like.epoch ∙ new.1)
       | inr old ↦ inr old
     ]
 
-frame-within : (sc : Scenario) (hands : List HandIn) (p frame : ℕ) → frame ≡ (moment sc hands p).frame → frame * (windows_in sc.sizes + 1) ≤ p
-frame-within sc hands p frame e =
+frame-within : (sc : Scenario) (hands : List HandIn) (p : ℕ) {frame : ℕ} → frame ≡ (moment sc hands p).frame → frame * (windows_in sc.sizes + 1) ≤ p
+frame-within sc hands p {frame} e =
     let number = number-of sc hands p in
     let f : frame * (windows_in sc.sizes + 1) ≡ (moment sc hands p).frame * (windows_in sc.sizes + 1) = ap (λ f. f * (windows_in sc.sizes + 1)) e in
     omega (arith, number.0, f)
@@ -104,13 +104,13 @@ good-between sc hands p r me i within (inl stage) good q after before =
 -- A tick.
 
 -- the row of a window is of its moment
-pub row-of-window : (sc : Scenario) (hands : List HandIn) (me : Side) (i p : ℕ) (st : NodeState) (s : Site) (row : Row) → (moment sc hands p).window ≤ stages_in sc.sizes
+pub row-of-window : (sc : Scenario) (hands : List HandIn) (me : Side) (i p : ℕ) (st : NodeState) (s : Site) {row : _} → (moment sc hands p).window ≤ stages_in sc.sizes
     → st.frame ≡ (moment sc hands p).frame
     → (elim ((window_in sc (moment sc hands p) me st).stage == 4) as (λ _. Option Row) [
       | true ↦ s.row
       | false ↦ (go_through sc (moment sc hands p) (sent_in sc (moment sc hands p)) me i st (window_in sc (moment sc hands p) me st)).row
     ]) ≡ Some row → (s.row ≡ Some row) ⊎ (number_at sc.sizes row.place ≡ p)
-row-of-window sc hands me i p st s row within frame = by ((window_in sc (moment sc hands p) me st).stage == 4) refl
+row-of-window sc hands me i p st s {row} within frame = by ((window_in sc (moment sc hands p) me st).stage == 4) refl
   where
     four-not : (n : ℕ) → n ≡ 4 → (n == 4) ≡ false → ⊥
     four-not n e f = grind (arith, nat_tests)
@@ -125,15 +125,15 @@ row-of-window sc hands me i p st s row within frame = by ((window_in sc (moment 
         let m : Moment = moment sc hands p in
         let stage : m.window < stages_in sc.sizes = elim (cases_lt m.window (stages_in sc.sizes)) [
           | inl lt ↦ lt
-          | inr ge ↦ absurd (four-not (window_in sc m me st).stage (tail-stage sc.sizes sc.plan me st m.window (omega arith)) f)
+          | inr ge ↦ absurd (four-not (window_in sc m me st).stage (tail-stage sc.sizes sc.plan me st (omega arith)) f)
         ] in
-        let place : row.place ≡ place_at sc.sizes m = row-place sc m me i st (window_in sc m me st) row e ∙ place-is sc m me st stage frame in
+        let place : row.place ≡ place_at sc.sizes m = row-place sc m me i st (window_in sc m me st) e ∙ place-is sc m me st stage frame in
         inr (ap (number_at sc.sizes) place ∙ number-is sc hands p stage)
 
-told-open : (sc : Scenario) (hands : List HandIn) (sent : Side → ℕ → ℕ → Bool) (ports : List PortState) (me : Side) (i p : ℕ) (s : Site) (st : NodeState) (a : Timed) (x : Act)
+told-open : {sc : Scenario} {hands : List HandIn} {sent : Side → ℕ → ℕ → Bool} {ports : List PortState} {me : Side} {i p : ℕ} {s : Site} {st : NodeState} {a : Timed} {x : Act}
     → slice_get (of_kind me (moment sc hands p).nodes) i ≡ Some st → st.frame ≡ (moment sc hands p).frame → s.ahead ≡ Some a
     → StaysOpen sc hands sent a.time ports me i p s st a.tick x → NodeTold sc hands me i p s → NodeTold sc hands me i p (after_act sc ports me i x s)
-told-open sc hands sent ports me i p s st a x there frame pend stays h =
+told-open {sc} {hands} {ports} {me} {i} {p} {s} {st} {a} {x} there frame pend stays h =
     let word : ℕ = word_at sc (moment sc hands p) me i st in
     let later : a.tick < stays.a.tick =
     let had : x.core.had ≡ a.tick + 1 = stays.act.had in
@@ -145,8 +145,8 @@ told-open sc hands sent ports me i p s st a x there frame pend stays h =
     let ahead_is : (after_act sc ports me i x s).ahead ≡ Some stays.a = ap (λ (z : Site). z.ahead) stays.site in
     record {
       row = λ row e. h.row row (sym (ap (λ (z : Site). z.row) stays.site) ∙ e);
-      begun = λ b e. elim (begun-at sc hands ports me i p a.tick word st x.epoch s.begun b stays.act.epoch frame (sym begun_is ∙ e)) [
-        | inl new ↦ frame-within sc hands p b.frame new.0
+      begun = λ b e. elim (begun-at sc hands ports me i p a.tick word st s.begun stays.act.epoch frame (sym begun_is ∙ e)) [
+        | inl new ↦ frame-within sc hands p new.0
         | inr old ↦ h.begun b old
       ];
       fresh = λ b a2 st2 e same first pend2 there2.
@@ -154,26 +154,26 @@ told-open sc hands sent ports me i p s st a x there frame pend stays h =
           let a_is : stays.a ≡ a2 = same_Some stays.a a2 (sym ahead_is ∙ pend2) in
           let tick : stays.a.tick ≡ a2.tick = ap (λ (a : Timed). a.tick) a_is in
           let epoch : st.epoch ≡ st2.epoch = ap (λ (z : NodeState). z.epoch) st_is in
-          elim (begun-at sc hands ports me i p a.tick word st x.epoch s.begun b stays.act.epoch frame (sym begun_is ∙ e)) [
+          elim (begun-at sc hands ports me i p a.tick word st s.begun stays.act.epoch frame (sym begun_is ∙ e)) [
             | inl new ↦ omega (arith, new.1, later, tick, epoch)
             | inr old ↦ let was : st.epoch < a.tick = h.fresh b a st old same first pend there in omega (arith, was, later, tick, epoch)
           ];
       was_good = h.was_good;
     }
 
-told-closed : (sc : Scenario) (hands : List HandIn) (sent : Side → ℕ → ℕ → Bool) (ports : List PortState) (me : Side) (i p : ℕ) (s : Site) (st : NodeState) (a : Timed) (x : Act)
+told-closed : {sc : Scenario} {hands : List HandIn} {sent : Side → ℕ → ℕ → Bool} {ports : List PortState} {me : Side} {i p : ℕ} {s : Site} {st : NodeState} {a : Timed} {x : Act}
     → (moment sc hands p).window ≤ stages_in sc.sizes → is_good_at sc (moment sc hands p) me i ≡ true → st.frame ≡ (moment sc hands p).frame
     → (closes : ClosesWindow sc hands sent ports me i p s st a x) → p < closes.q → NodeTold sc hands me i p s → NodeTold sc hands me i closes.q (after_act sc ports me i x s)
-told-closed sc hands sent ports me i p s st a x within good frame closes later h =
+told-closed {sc} {hands} {ports} {me} {i} {p} {s} {st} {a} {x} within good frame closes later h =
     let word : ℕ = word_at sc (moment sc hands p) me i st in
     let q : ℕ = closes.q in
     let before : (b : Begun) → (after_act sc ports me i x s).begun ≡ Some b → b.frame * (windows_in sc.sizes + 1) ≤ p = λ b e.
-    elim (begun-at sc hands ports me i p a.tick word st x.epoch s.begun b closes.act.epoch frame (sym closes.begun ∙ e)) [
-      | inl new ↦ frame-within sc hands p b.frame new.0
+    elim (begun-at sc hands ports me i p a.tick word st s.begun closes.act.epoch frame (sym closes.begun ∙ e)) [
+      | inl new ↦ frame-within sc hands p new.0
       | inr old ↦ h.begun b old
     ] in
     record {
-      row = λ row e. elim (row-of-window sc hands me i p st s row within frame (sym closes.row ∙ e)) [
+      row = λ row e. elim (row-of-window sc hands me i p st s within frame (sym closes.row ∙ e)) [
         | inl old ↦ let lt : number_at sc.sizes row.place < p = h.row row old in omega (arith, lt, later)
         | inr is ↦ omega (arith, is, later)
       ];
@@ -192,28 +192,28 @@ told-closed sc hands sent ports me i p s st a x within good frame closes later h
       ];
     }
 
-pub told-after : (sc : Scenario) (hands : List HandIn) (at : Side → ℕ → ℕ) (sites : Each Site) (ports : List PortState) (me : Side) (i : ℕ) (s : Site) (a : Timed) (x : Act)
+pub told-after : {sc : Scenario} {hands : List HandIn} {at : Side → ℕ → ℕ} {sites : Each Site} {ports : List PortState} {me : Side} {i : ℕ} {s : Site} {a : Timed} {x : Act}
     → s.ahead ≡ Some a → (after : AfterTick sc hands at sites ports me i s a x) → NodeTold sc hands me i (at me i) s → NodeTold sc hands me i after.r (after_act sc ports me i x s)
-told-after sc hands at sites ports me i s a x pend after h =
+told-after {sc} {hands} {at} {ports} {me} {i} {s} {x} pend after h =
     elim after.node [
       | inl stays ↦
           subst (λ r. NodeTold sc hands me i r (after_act sc ports me i x s)) (sym stays.0)
-          (told-open sc hands (sent_by sc hands at sites) ports me i (at me i) s after.st a x after.there after.frame pend stays.1 h)
+          (told-open after.there after.frame pend stays.1 h)
       | inr closes ↦
           subst (λ r. NodeTold sc hands me i r (after_act sc ports me i x s)) closes.1.1.0
-          (told-closed sc hands (sent_by sc hands at sites) ports me i (at me i) s after.st a x after.stands.window after.good after.frame closes.1.0
+          (told-closed after.stands.window after.good after.frame closes.1.0
           (subst (λ r. at me i < r) (sym closes.1.1.0) closes.0) h)
     ]
 
 -- All nodes.
 
 -- what a tick keeps at its node, and a message at the others, is kept at all nodes
-pub one-changes : (P : Side → ℕ → ℕ → Site → Type 0) (sc : Scenario) (at : Side → ℕ → ℕ) (sites : Each Site) (me : Side) (i frame k r : ℕ) (m : Option Message) (change : Site → Site) (s : Site)
+pub one-changes : (P : Side → ℕ → ℕ → Site → Type 0) (sc : Scenario) (at : Side → ℕ → ℕ) (sites : Each Site) (me : Side) (i frame k r : ℕ) (m : Option Message) (change : Site → Site) {s : _}
     → ((side : Side) (j p : ℕ) (z : Site) → P side j p z → P side j p (reached sc me i frame k m side j z))
     → slice_get (of_kind me sites) i ≡ Some s → P me i r (change s)
     → ((side : Side) (j : ℕ) (z : Site) → is_node me i side j ≡ false → slice_get (of_kind side sites) j ≡ Some z → P side j (at side j) z)
     → (side : Side) (j : ℕ) (z : Site) → slice_get (of_kind side (with_message sc me i frame k m (at_node me i change sites))) j ≡ Some z → P side j (moved me i r at side j) z
-one-changes P sc at sites me i frame k r m change s on there new all side j z e =
+one-changes P sc at sites me i frame k r m change {s} on there new all side j z e =
     let was = option_map-back (after_tick sc me i frame k m change side j) (slice_get (of_kind side sites) j) z (sym (get-after sc me i frame k m change sites side j) ∙ e) in
     let go : (d : Bool) → is_node me i side j ≡ d → reached sc me i frame k m side j (elim d as (λ _. Site) [ true ↦ change was.0 | false ↦ was.0 ]) ≡ z
     → P side j (elim d as (λ _. ℕ) [ true ↦ r | false ↦ at side j ]) z =
@@ -230,9 +230,9 @@ one-changes P sc at sites me i frame k r m change s on there new all side j z e 
     ] in
     go (is_node me i side j) refl was.1.1
 
-told-reached : (sc : Scenario) (hands : List HandIn) (me : Side) (i frame k : ℕ) (m : Option Message) (side : Side) (j p : ℕ) (z : Site)
+told-reached : {sc hands : _} (me : Side) (i frame k : ℕ) (m : Option Message) (side : Side) (j p : ℕ) (z : Site)
     → NodeTold sc hands side j p z → NodeTold sc hands side j p (reached sc me i frame k m side j z)
-told-reached sc hands me i frame k m side j p z h =
+told-reached {sc} me i frame k m side j p z h =
     let tells = reached-tells sc me i frame k m side j z in
     let pend = (reached-same sc me i frame k m side j z).ahead in
     record {
@@ -245,11 +245,11 @@ told-reached sc hands me i frame k m side j p z h =
 abbrev pub AllTold : Scenario → List HandIn → (Side → ℕ → ℕ) → Each Site → Type 0
 AllTold sc hands at sites = (me : Side) (i : ℕ) (s : Site) → slice_get (of_kind me sites) i ≡ Some s → NodeTold sc hands me i (at me i) s
 
-pub all-told : (sc : Scenario) (hands : List HandIn) (at : Side → ℕ → ℕ) (sites : Each Site) (me : Side) (i frame k r : ℕ) (m : Option Message) (change : Site → Site) (s : Site)
+pub all-told : {sc hands at sites me i : _} (frame k : ℕ) {r : ℕ} (m : Option Message) (change : Site → Site) {s : _}
     → slice_get (of_kind me sites) i ≡ Some s → NodeTold sc hands me i r (change s) → AllTold sc hands at sites
     → AllTold sc hands (moved me i r at) (with_message sc me i frame k m (at_node me i change sites))
-all-told sc hands at sites me i frame k r m change s there new all =
-    one-changes (NodeTold sc hands) sc at sites me i frame k r m change s (told-reached sc hands me i frame k m) there new
+all-told {sc} {hands} {at} {sites} {me} {i} frame k {r} m change there new all =
+    one-changes (NodeTold sc hands) sc at sites me i frame k r m change (told-reached me i frame k m) there new
     (λ side j z other e. all side j z e)
 
 -- Nobody is far ahead.

@@ -35,32 +35,32 @@ begun-stays sc ports me i k y b frame = by (y.epoch == k)
     by false = (b, (refl, refl))
 
 -- the first tick of a frame tells of its start
-begun-now : (sc : Scenario) (ports : List PortState) (me : Side) (i k : ℕ) (y : NodeState) (o : Option Begun) → y.epoch ≡ k
+begun-now : (sc : Scenario) (ports : List PortState) (me : Side) (i : ℕ) {k : ℕ} (y : NodeState) (o : Option Begun) → y.epoch ≡ k
     → (c : Begun) × ((begun_after sc ports me i (epoch_at sc.sizes me y k) o ≡ Some c) × (c.frame ≡ y.frame))
-begun-now sc ports me i k y o at = (
+begun-now sc ports me i {k} y o at = (
   begun_of sc ports me i (epoch_of sc.sizes me y),
   (ap (λ t. begun_after sc ports me i (elim t as (λ _. Option Epoch) [ true ↦ Some (epoch_of sc.sizes me y) | false ↦ None ]) o) (eq-eqb y.epoch k at), refl),
 )
 
-told-begun : (sc : Scenario) (hands : List HandIn) (ports : List PortState) (me : Side) (i p k : ℕ) (st : NodeState) (s z : Site) (x : Act)
+told-begun : (sc : Scenario) (hands : List HandIn) (ports : List PortState) (me : Side) (i p k : ℕ) {st : _} (s z : Site) (x : Act)
     → slice_get (of_kind me (moment sc hands p).nodes) i ≡ Some st → st.frame ≡ (moment sc hands p).frame → ((a : Timed) → s.ahead ≡ Some a → a.tick ≡ k)
     → x.epoch ≡ epoch_at sc.sizes me (state_in sc.sizes sc.plan me i st (moment sc hands p).window (word_at sc (moment sc hands p) me i st) k) k
     → z.begun ≡ begun_after sc ports me i x.epoch s.begun
     → ((b : Begun) × ((s.begun ≡ Some b) × (b.frame ≡ (moment sc hands p).frame))) ⊎ PendsFirst sc hands me i p s
     → (b : Begun) × ((z.begun ≡ Some b) × (b.frame ≡ (moment sc hands p).frame))
-told-begun sc hands ports me i p k st s z x there frame pend epoch is (inl old) =
+told-begun sc hands ports me i p k {st} s z x there frame pend epoch is (inl old) =
     let y : NodeState = state_in sc.sizes sc.plan me i st (moment sc hands p).window (word_at sc (moment sc hands p) me i st) k in
     let f : y.frame ≡ (moment sc hands p).frame = state-frame sc me i st (moment sc hands p).window (word_at sc (moment sc hands p) me i st) k ∙ frame in
     let c = begun-stays sc ports me i k y old.0 (f ∙ sym old.1.1) in
     (c.0, (is ∙ ap (λ e. begun_after sc ports me i e s.begun) epoch ∙ ap (begun_after sc ports me i (epoch_at sc.sizes me y k)) old.1.0 ∙ c.1.0, c.1.1 ∙ old.1.1))
-told-begun sc hands ports me i p k st s z x there frame pend epoch is (inr first) =
+told-begun sc hands ports me i p k {st} s z x there frame pend epoch is (inr first) =
     let n : ℕ = (moment sc hands p).window in
     let word : ℕ = word_at sc (moment sc hands p) me i st in
     let y : NodeState = state_in sc.sizes sc.plan me i st n word k in
     let like : Like sc.sizes sc.plan me i st y = like-in sc.sizes sc.plan me i st n word k in
     let st_is : first.st ≡ st = same_Some first.st st (sym first.state ∙ there) in
     let at : y.epoch ≡ k = like.epoch ∙ sym (ap (λ (z : NodeState). z.epoch) st_is) ∙ sym first.first ∙ pend first.a first.ahead in
-    let c = begun-now sc ports me i k y s.begun at in
+    let c = begun-now sc ports me i y s.begun at in
     (c.0, (is ∙ ap (λ e. begun_after sc ports me i e s.begun) epoch ∙ c.1.0, c.1.1 ∙ state-frame sc me i st n word k ∙ frame))
 
 -- at a tick a node keeps its state, or its epoch is that tick
@@ -78,9 +78,9 @@ state-epoch sizes plan me st k = by (new_epoch_of plan me st)
     by None = inl refl
     by (Some e) = turned e (e == k) refl
 
-pub first-pends : (sc : Scenario) (hands : List HandIn) (sent : Side → ℕ → ℕ → Bool) (now : ℕ) (me : Side) (i p : ℕ) (s : Site) (st : NodeState) (a : Timed)
+pub first-pends : {sc hands sent now me i p s st a : _}
     → NodeStands sc hands sent now me i p s st a → s.core.had ≡ st.epoch → PendsFirst sc hands me i p s
-first-pends sc hands sent now me i p s st a h had =
+first-pends {sc} {hands} {me} {i} {p} {s} {st} {a} h had =
     let n : ℕ = (moment sc hands p).window in
     let word : ℕ = word_at sc (moment sc hands p) me i st in
     let next : IsNext sc.sizes sc.plan me i s.core.state s.core.had a.tick = h.receives.is_next in
@@ -102,32 +102,32 @@ first-pends sc hands sent now me i p s st a h had =
 
 -- A tick.
 
-told-open : (sc : Scenario) (hands : List HandIn) (sent : Side → ℕ → ℕ → Bool) (ports : List PortState) (me : Side) (i p : ℕ) (s : Site) (st : NodeState) (a : Timed) (x : Act)
+told-open : {sc : Scenario} {hands : List HandIn} {sent : Side → ℕ → ℕ → Bool} {ports : List PortState} {me : Side} {i p : ℕ} {s : Site} {st : NodeState} {a : Timed} {x : Act}
     → slice_get (of_kind me (moment sc hands p).nodes) i ≡ Some st → st.frame ≡ (moment sc hands p).frame → s.ahead ≡ Some a
     → StaysOpen sc hands sent a.time ports me i p s st a.tick x → HasTold sc hands me i p s → HasTold sc hands me i p (after_act sc ports me i x s)
-told-open sc hands sent ports me i p s st a x there frame pend stays h = record {
+told-open {sc} {hands} {ports} {me} {i} {p} {s} {a} {x} there frame pend stays h = record {
   row = λ q stage before near.
       let old = h.row q stage before near in
       (old.0, (ap (λ (z : Site). z.row) stays.site ∙ old.1.0, old.1.1));
   begun = λ first runs.
-      inl (told-begun sc hands ports me i p a.tick st s (after_act sc ports me i x s) x there frame
+      inl (told-begun sc hands ports me i p a.tick s (after_act sc ports me i x s) x there frame
       (λ b e. sym (ap (λ (a : Timed). a.tick) (same_Some a b (sym pend ∙ e)))) stays.act.epoch (ap (λ (z : Site). z.begun) stays.site)
       (h.begun first (sym (ap (λ (z : Site). z.runs) stays.site) ∙ runs)));
 }
 
-four-is : (n : ℕ) → n ≡ 4 → (n == 4) ≡ true
-four-is n e = grind (arith, nat_tests)
+four-is : {n : ℕ} → n ≡ 4 → (n == 4) ≡ true
+four-is e = grind (arith, nat_tests)
 
-four-not : (n k : ℕ) → n ≡ k % 3 + 1 → (n == 4) ≡ false
-four-not n k e = let lt : k % 3 < 3 = omega arith in less-not n (omega arith)
+four-not : {n : ℕ} (k : ℕ) → n ≡ k % 3 + 1 → (n == 4) ≡ false
+four-not {n} k e = let lt : k % 3 < 3 = omega arith in less-not n (omega arith)
   where
     less-not : (n : ℕ) → n < 4 → (n == 4) ≡ false
     less-not n h = grind (arith, nat_tests)
 
-told-closed : (sc : Scenario) (hands : List HandIn) (sent : Side → ℕ → ℕ → Bool) (ports : List PortState) (me : Side) (i p : ℕ) (s : Site) (st : NodeState) (a : Timed) (x : Act)
+told-closed : {sc : Scenario} {hands : List HandIn} {sent : Side → ℕ → ℕ → Bool} {ports : List PortState} {me : Side} {i p : ℕ} {s : Site} {st : NodeState} {a : Timed} {x : Act}
     → (moment sc hands p).window ≤ stages_in sc.sizes → st.frame ≡ (moment sc hands p).frame
     → (closes : ClosesWindow sc hands sent ports me i p s st a x) → p < closes.q → HasTold sc hands me i p s → HasTold sc hands me i closes.q (after_act sc ports me i x s)
-told-closed sc hands sent ports me i p s st a x within frame closes later h =
+told-closed {sc} {hands} {ports} {me} {i} {p} {s} {st} {x} within frame closes later h =
     let m : Moment = moment sc hands p in
     let r : ℕ = closes.q in
     let stage_of : ℕ = (window_in sc m me st).stage in
@@ -141,7 +141,7 @@ told-closed sc hands sent ports me i p s st a x within frame closes later h =
     record {
       row = λ q stage before near. elim (cases_lt m.window (stages_in sc.sizes)) [
         | inr tail ↦
-            let four : (stage_of == 4) ≡ true = four-is stage_of (tail-stage sc.sizes sc.plan me st m.window (omega arith)) in
+            let four : (stage_of == 4) ≡ true = four-is (tail-stage sc.sizes sc.plan me st (omega arith)) in
             let same : (after_act sc ports me i x s).row ≡ s.row = closes.row ∙ ap (λ b. elim b as (λ _. Option Row) [ true ↦ s.row | false ↦ its ]) four in
             elim (cases_lt q p) [
               | inl lt ↦
@@ -156,11 +156,11 @@ told-closed sc hands sent ports me i p s st a x within frame closes later h =
               ]
             ]
         | inl own ↦
-            let other : (stage_of == 4) ≡ false = four-not stage_of m.window (stage-is-of sc.sizes sc.plan me st m.window own) in
+            let other : (stage_of == 4) ≡ false = four-not m.window (stage-is-of sc.sizes sc.plan me st m.window own) in
             let row : Row = _ in
             let is_row : its ≡ Some row = closes.told.1.1 in
             let same : (after_act sc ports me i x s).row ≡ Some row = closes.row ∙ ap (λ b. elim b as (λ _. Option Row) [ true ↦ s.row | false ↦ its ]) other ∙ is_row in
-            let place : row.place ≡ place_at sc.sizes m = row-place sc m me i st (window_in sc m me st) row is_row ∙ place-is sc m me st own frame in
+            let place : row.place ≡ place_at sc.sizes m = row-place sc m me i st (window_in sc m me st) is_row ∙ place-is sc m me st own frame in
             elim (cases_lt q p) [
               | inl lt ↦
                   let passed : NextIsStage sc hands q = next-is-stage sc hands q (omega arith) in
@@ -177,7 +177,7 @@ told-closed sc hands sent ports me i p s st a x within frame closes later h =
       begun = λ first runs. elim closes.goes [
         | inl on ↦
             let none : first_of sc.sizes sc.plan me on.st (moment sc hands r).window ≡ 0 = first-zero sc.sizes sc.plan me on.st (moment sc hands r).window first in
-            inr (first-pends sc hands sent a.time me i r (after_act sc ports me i x s) on.st on.a on.stands (omega (arith, on.had, none)))
+            inr (first-pends on.stands (omega (arith, on.had, none)))
         | inr off ↦ absurd (true-false (sym runs ∙ off.runs))
       ];
     }
@@ -187,25 +187,25 @@ told-closed sc hands sent ports me i p s st a x within frame closes later h =
         let z : first_of sizes plan me st 0 ≡ 0 * plan.l = first-same sizes plan me st 0 (omega arith) in
         ap (first_of sizes plan me st) e ∙ omega (arith, z)
 
-pub so-far-after : (sc : Scenario) (hands : List HandIn) (at : Side → ℕ → ℕ) (sites : Each Site) (ports : List PortState) (me : Side) (i : ℕ) (s : Site) (a : Timed) (x : Act)
+pub so-far-after : {sc : Scenario} {hands : List HandIn} {at : Side → ℕ → ℕ} {sites : Each Site} {ports : List PortState} {me : Side} {i : ℕ} {s : Site} {a : Timed} {x : Act}
     → s.ahead ≡ Some a → (after : AfterTick sc hands at sites ports me i s a x) → HasTold sc hands me i (at me i) s → HasTold sc hands me i after.r (after_act sc ports me i x s)
-so-far-after sc hands at sites ports me i s a x pend after h =
+so-far-after {sc} {hands} {at} {ports} {me} {i} {s} {x} pend after h =
     elim after.node [
       | inl stays ↦
           subst (λ r. HasTold sc hands me i r (after_act sc ports me i x s)) (sym stays.0)
-          (told-open sc hands (sent_by sc hands at sites) ports me i (at me i) s after.st a x after.there after.frame pend stays.1 h)
+          (told-open after.there after.frame pend stays.1 h)
       | inr closes ↦
           subst (λ r. HasTold sc hands me i r (after_act sc ports me i x s)) closes.1.1.0
-          (told-closed sc hands (sent_by sc hands at sites) ports me i (at me i) s after.st a x after.stands.window after.frame closes.1.0
+          (told-closed after.stands.window after.frame closes.1.0
           (subst (λ r. at me i < r) (sym closes.1.1.0) closes.0) h)
     ]
 
 -- All nodes.
 
 -- what a node has told stays if nothing changes of it
-kept : (sc : Scenario) (hands : List HandIn) (side : Side) (j p : ℕ) (z y : Site) → y.row ≡ z.row → y.begun ≡ z.begun → y.ahead ≡ z.ahead → y.runs ≡ z.runs
+kept : {sc : Scenario} {hands : List HandIn} {side : Side} {j p : ℕ} {z : Site} (y : Site) → y.row ≡ z.row → y.begun ≡ z.begun → y.ahead ≡ z.ahead → y.runs ≡ z.runs
     → HasTold sc hands side j p z → HasTold sc hands side j p y
-kept sc hands side j p z y row begun ahead runs h = record {
+kept y row begun ahead runs h = record {
   row = λ q stage before near. let old = h.row q stage before near in (old.0, (row ∙ old.1.0, old.1.1));
   begun = λ first on. elim (h.begun first (sym runs ∙ on)) [
     | inl told ↦ inl (told.0, (begun ∙ told.1.0, told.1.1))
@@ -213,21 +213,21 @@ kept sc hands side j p z y row begun ahead runs h = record {
   ];
 }
 
-so-far-reached : (sc : Scenario) (hands : List HandIn) (me : Side) (i frame k : ℕ) (m : Option Message) (side : Side) (j p : ℕ) (z : Site)
+so-far-reached : {sc hands : _} (me : Side) (i frame k : ℕ) (m : Option Message) (side : Side) (j p : ℕ) (z : Site)
     → HasTold sc hands side j p z → HasTold sc hands side j p (reached sc me i frame k m side j z)
-so-far-reached sc hands me i frame k m side j p z h =
+so-far-reached {sc} me i frame k m side j p z h =
     let tells = reached-tells sc me i frame k m side j z in
     let same = reached-same sc me i frame k m side j z in
-    kept sc hands side j p z (reached sc me i frame k m side j z) tells.0 tells.1 same.ahead same.runs h
+    kept (reached sc me i frame k m side j z) tells.0 tells.1 same.ahead same.runs h
 
 abbrev pub AllHaveTold : Scenario → List HandIn → (Side → ℕ → ℕ) → Each Site → Type 0
 AllHaveTold sc hands at sites = (me : Side) (i : ℕ) (s : Site) → slice_get (of_kind me sites) i ≡ Some s → HasTold sc hands me i (at me i) s
 
-pub all-have-told : (sc : Scenario) (hands : List HandIn) (at : Side → ℕ → ℕ) (sites : Each Site) (me : Side) (i frame k r : ℕ) (m : Option Message) (change : Site → Site) (s : Site)
+pub all-have-told : {sc hands at sites me i : _} (frame k : ℕ) {r : ℕ} (m : Option Message) (change : Site → Site) {s : _}
     → slice_get (of_kind me sites) i ≡ Some s → HasTold sc hands me i r (change s) → AllHaveTold sc hands at sites
     → AllHaveTold sc hands (moved me i r at) (with_message sc me i frame k m (at_node me i change sites))
-all-have-told sc hands at sites me i frame k r m change s there new all =
-    one-changes (HasTold sc hands) sc at sites me i frame k r m change s (so-far-reached sc hands me i frame k m) there new
+all-have-told {sc} {hands} {at} {sites} {me} {i} frame k {r} m change there new all =
+    one-changes (HasTold sc hands) sc at sites me i frame k r m change (so-far-reached me i frame k m) there new
     (λ side j z other e. all side j z e)
 
 -- An arrival, a hand-in, and the first world.
@@ -255,18 +255,18 @@ proceed-had sc me i =
     let s : Site = fresh_site sc.sizes me in
     entered-core sc me i (span_from sc.sizes sc.plan me s.core.state s.core.had) s
 
-first-had : (sc : Scenario) (me : Side) (i : ℕ) (s : Site) → slice_get (of_kind me (first_world sc).sites) i ≡ Some s → s.core.had ≡ 0
+first-had : (sc : Scenario) (me : Side) (i : ℕ) {s : _} → slice_get (of_kind me (first_world sc).sites) i ≡ Some s → s.core.had ≡ 0
 unfolding first_world
-first-had sc me i s e =
+first-had sc me i {s} e =
     let make : Side → ℕ → Site = λ me i. proceed sc me i (fresh_site sc.sizes me) in
     let within : i < length (of_kind me (each_of sc.sizes make)) = slice_get_within (of_kind me (each_of sc.sizes make)) i s e in
     let long : length (of_kind me (each_of sc.sizes make)) ≡ count_of me sc.sizes = first-counts sc.sizes make me in
     let same : make me i ≡ s = same_Some (make me i) s (sym (get-made sc.sizes make me i (omega arith)) ∙ e) in
     ap (λ (z : Site). z.core.had) (sym same) ∙ ap (λ (c : Core). c.had) (proceed-had sc me i)
 
-pub so-far-arrival : (sc : Scenario) (hands : List HandIn) (at : Side → ℕ → ℕ) (sites : Each Site) (me : Side) (i n : ℕ) (c : Coming)
+pub so-far-arrival : {sc hands at sites : _} (me : Side) (i n : ℕ) (c : Coming)
     → AllHaveTold sc hands at sites → AllHaveTold sc hands at (at_node me i (after_arrival sc me i n c) sites)
-so-far-arrival sc hands at sites me i n c all side j z e =
+so-far-arrival {sc} {hands} {at} {sites} me i n c all side j z e =
     let change : Site → Site = after_arrival sc me i n c in
     let was = option_map-back (λ s. elim (is_node me i side j) as (λ _. Site) [ true ↦ change s | false ↦ s ]) (slice_get (of_kind side sites) j) z (sym (get-at me side i j change sites) ∙ e) in
     subst (HasTold sc hands side j (at side j)) was.1.1 (by (is_node me i side j) was.0 (all side j was.0 was.1.0))
@@ -276,12 +276,12 @@ so-far-arrival sc hands at sites me i n c all side j z e =
 
     by : (b : Bool) (s : Site) → HasTold sc hands side j (at side j) s
         → HasTold sc hands side j (at side j) (elim b as (λ _. Site) [ true ↦ after_arrival sc me i n c s | false ↦ s ])
-    by true s h = let k = same s in kept sc hands side j (at side j) s (after_arrival sc me i n c s) k.0 k.1.0 k.1.1.0 k.1.1.1 h
+    by true s h = let k = same s in kept (after_arrival sc me i n c s) k.0 k.1.0 k.1.1.0 k.1.1.1 h
     by false s h = h
 
-pub so-far-handed : (sc : Scenario) (hands : List HandIn) (h : HandIn) (at : Side → ℕ → ℕ) (sites : Each Site) → AreEarly sc at sites h.frame
+pub so-far-handed : {sc hands : _} (h : HandIn) {at sites : _} → AreEarly sc at sites h.frame
     → AllHaveTold sc hands at sites → AllHaveTold sc (hands ++ h ∷ []) at sites
-so-far-handed sc hands h at sites early told me i s there =
+so-far-handed {sc} {hands} h {at} early told me i s there =
     let more : List HandIn = hands ++ h ∷ [] in
     let le : at me i ≤ h.frame * (windows_in sc.sizes + 1) + 1 = early.early me i s there in
     let its : HasTold sc hands me i (at me i) s = told me i s there in
@@ -303,12 +303,12 @@ so-far-handed sc hands h at sites early told me i s there =
       ];
     }
 
-pub so-far-first : (sc : Scenario) (hands : List HandIn) (now : ℕ) → SitesStand sc hands now at_begin (first_world sc).sites → AllHaveTold sc hands at_begin (first_world sc).sites
-so-far-first sc hands now stand me i s there = record {
+pub so-far-first : {sc hands now : _} → SitesStand sc hands now at_begin (first_world sc).sites → AllHaveTold sc hands at_begin (first_world sc).sites
+so-far-first {sc} {hands} {now} stand me i s there = record {
   row = λ q stage before. absurd (omega (arith, before));
   begun = λ first runs.
       let up : IsUp sc hands (sent_by sc hands at_begin (first_world sc).sites) now me i 0 s = stand.up me i s there runs in
-      let had : s.core.had ≡ 0 = first-had sc me i s there in
+      let had : s.core.had ≡ 0 = first-had sc me i there in
       let from : up.st.epoch + first_of sc.sizes sc.plan me up.st (moment sc hands 0).window ≤ s.core.had = up.stands.from in
-      inr (first-pends sc hands (sent_by sc hands at_begin (first_world sc).sites) now me i 0 s up.st up.a up.stands (omega (arith, had, from)));
+      inr (first-pends up.stands (omega (arith, had, from)));
 }

@@ -27,8 +27,8 @@ search_below p (suc n) = elim (search_below p n) [
           | inr ge ↦ let same : n ≡ i = omega arith in subst (λ i. p i ≡ false) same e
         ])
 
-zero-is : (n : ℕ) → n ≡ 0 → (n == 0) ≡ true
-zero-is n e = grind (arith, nat_tests)
+zero-is : {n : ℕ} → n ≡ 0 → (n == 0) ≡ true
+zero-is e = grind (arith, nat_tests)
 
 kind-empty : (sc : Scenario) (me : Side) (frame slot : ℕ) → ((i : ℕ) → i < 16 → is_good sc me i frame slot ≡ false) → good_at sc me frame slot ≡ 0
 kind-empty sc me frame slot none = sym (is_set_of 0 (λ i. is_good sc me i frame slot) (omega arith) (λ i lt. has_none i ∙ sym (none i lt)))
@@ -41,8 +41,8 @@ somebody sc frame slot h =
       | inr no_biu ↦ elim (search_below (λ i. is_good sc Rmu i frame slot) 16) [
         | inl rmu ↦ (Rmu, rmu)
         | inr no_rmu ↦
-            let a : (good_at sc Biu frame slot == 0) ≡ true = zero-is (good_at sc Biu frame slot) (kind-empty sc Biu frame slot no_biu) in
-            let b : (good_at sc Rmu frame slot == 0) ≡ true = zero-is (good_at sc Rmu frame slot) (kind-empty sc Rmu frame slot no_rmu) in
+            let a : (good_at sc Biu frame slot == 0) ≡ true = zero-is (kind-empty sc Biu frame slot no_biu) in
+            let b : (good_at sc Rmu frame slot == 0) ≡ true = zero-is (kind-empty sc Rmu frame slot no_rmu) in
             absurd (true≢false (sym (both-true (good_at sc Biu frame slot == 0) (good_at sc Rmu frame slot == 0) a b) ∙ h))
       ]
     ]

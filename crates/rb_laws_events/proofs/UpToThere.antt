@@ -11,32 +11,32 @@ use Rattle.rb_laws_events.proofs.{BreachWindows.in-reached, BreakNodes.BreaksAt,
 
 -- the run goes on from the tail to the next frame
 
-turn-number : (s frame n w : ℕ) → n ≡ frame * (3 * s + 4 + 1) + w → w ≡ 3 * s + 3 → n ≡ frame * (3 * s + 4 + 1) + 3 * s + 4 - 1
-turn-number s frame n w e f = omega arith
+turn-number : (s frame : ℕ) {n w : ℕ} → n ≡ frame * (3 * s + 4 + 1) + w → w ≡ 3 * s + 3 → n ≡ frame * (3 * s + 4 + 1) + 3 * s + 4 - 1
+turn-number s frame e f = omega arith
 
-then-number : (s frame n w : ℕ) → n ≡ frame * (3 * s + 4 + 1) + w → w ≡ 3 * s + 3 → suc (suc n) ≡ suc frame * (3 * s + 4 + 1) + 3 * 0 + 1 - 1
-then-number s frame n w e f =
+then-number : (s frame : ℕ) {n w : ℕ} → n ≡ frame * (3 * s + 4 + 1) + w → w ≡ 3 * s + 3 → suc (suc n) ≡ suc frame * (3 * s + 4 + 1) + 3 * 0 + 1 - 1
+then-number s frame e f =
     let more : suc frame * (3 * s + 4 + 1) ≡ (3 * s + 4 + 1) + frame * (3 * s + 4 + 1) = omega arith in
     omega (arith, more)
 
-pub runs-on : (sc : Scenario) (hands : List HandIn) → IsLawful sc → (t : ℕ) → (moment sc hands t).window ≡ stages_in sc.sizes → IsRunning (moment sc hands t)
+pub runs-on : {sc : _} (hands : List HandIn) → IsLawful sc → (t : ℕ) → (moment sc hands t).window ≡ stages_in sc.sizes → IsRunning (moment sc hands t)
     → IsRunning (moment sc hands (suc (suc t)))
-runs-on sc hands lawful t at running =
+runs-on {sc} hands lawful t at running =
     let s : ℕ = sync_slot_of sc.sizes in
     let frame : ℕ = (moment sc hands t).frame in
     let number = number-of sc hands t in
-    let is : t ≡ frame * (windows_in sc.sizes + 1) + 3 * s + 4 - 1 = turn-number s frame t (moment sc hands t).window number.0 at in
-    let then_is : suc (suc t) ≡ suc frame * (windows_in sc.sizes + 1) + 3 * 0 + 1 - 1 = then-number s frame t (moment sc hands t).window number.0 at in
+    let is : t ≡ frame * (windows_in sc.sizes + 1) + 3 * s + 4 - 1 = turn-number s frame number.0 at in
+    let then_is : suc (suc t) ≡ suc frame * (windows_in sc.sizes + 1) + 3 * 0 + 1 - 1 = then-number s frame number.0 at in
     let then_runs : IsRunning (moment sc hands (suc frame * (windows_in sc.sizes + 1) + 3 * 0 + 1 - 1)) =
-    reached sc hands lawful (suc frame) (ap (λ n. (moment sc hands n).book.ended) (sym is) ∙ running) in
+    reached hands lawful (suc frame) (ap (λ n. (moment sc hands n).book.ended) (sym is) ∙ running) in
     ap (λ n. (moment sc hands n).book.ended) then_is ∙ then_runs
 
-last-on : (sc : Scenario) (hands : List HandIn) → IsLawful sc → (g : ℕ) → (moment sc hands g).window + 1 ≡ stages_in sc.sizes → IsRunning (moment sc hands (suc g))
+last-on : {sc : _} (hands : List HandIn) → IsLawful sc → (g : ℕ) → (moment sc hands g).window + 1 ≡ stages_in sc.sizes → IsRunning (moment sc hands (suc g))
     → IsRunning (moment sc hands (suc (suc (suc g))))
-last-on sc hands lawful g last running =
+last-on {sc} hands lawful g last running =
     let w : IsWindowLater sc (moment sc hands g) (moment sc hands (suc g)) = window-later sc hands (moment sc hands g) (omega arith) in
     let e : (moment sc hands (suc g)).window ≡ (moment sc hands g).window + 1 = w.window in
-    runs-on sc hands lawful (suc g) (omega arith) running
+    runs-on hands lawful (suc g) (omega arith) running
 
 turned-open : (sc : Scenario) (hands : List HandIn) (m : Moment) (over in_frame : Bool) → over ≡ false → in_frame ≡ false → IsRunning m → IsRunning (stepped sc hands m over in_frame)
 unfolding begin_frame
@@ -57,15 +57,15 @@ end-on sc hands g running at_end =
     differs false h = refl
 
 -- in a moment of the run nodes are in time
-in-here : (sc : Scenario) (hands : List HandIn) → IsLawful sc → (p : ℕ) → IsRunning (moment sc hands p) → (moment sc hands p).window ≤ stages_in sc.sizes
+in-here : {sc : _} (hands : List HandIn) → IsLawful sc → (p : ℕ) → IsRunning (moment sc hands p) → (moment sc hands p).window ≤ stages_in sc.sizes
     → InTime sc (moment sc hands p) (moment sc hands (next_stage sc.sizes (moment sc hands p) p))
-in-here sc hands lawful p running within =
+in-here {sc} hands lawful p running within =
     elim (cases_lt (moment sc hands p).window (stages_in sc.sizes)) [
-      | inl stage ↦ in-reached sc hands lawful p running stage
+      | inl stage ↦ in-reached hands lawful p running stage
       | inr tail ↦
           let is : next_stage sc.sizes (moment sc hands p) p ≡ suc (suc p) = next-outer sc.sizes (moment sc hands p) p (omega arith) ∙ omega arith in
           let on : Running sc hands p =
-          in-running sc hands lawful p within (subst (λ q. IsRunning (moment sc hands q)) (sym is) (runs-on sc hands lawful p (omega arith) running)) in
+          in-running hands lawful p within (subst (λ q. IsRunning (moment sc hands q)) (sym is) (runs-on hands lawful p (omega arith) running)) in
           on.times
     ]
 
@@ -85,19 +85,19 @@ next-le sc hands p n within stage lt =
       | inl past ↦ let tail = (next-is-stage sc hands p within).between n lt past in absurd (omega (arith, tail.0, stage))
     ]
 
-pub from-running : (sc : Scenario) (hands : List HandIn) → IsLawful sc → (n : ℕ) → (moment sc hands n).window < stages_in sc.sizes → IsRunning (moment sc hands n) → UpTo sc hands n
-from-running sc hands lawful n stage running = record {
-  times = λ p le within. in-here sc hands lawful p (running_earlier sc hands p n le running) within;
+pub from-running : {sc : _} (hands : List HandIn) → IsLawful sc → (n : ℕ) → (moment sc hands n).window < stages_in sc.sizes → IsRunning (moment sc hands n) → UpTo sc hands n
+from-running {sc} hands lawful n stage running = record {
+  times = λ p le within. in-here hands lawful p (running_earlier sc hands p n le running) within;
   later = λ p lt within.
       let on : Running sc hands p =
-      in-running sc hands lawful p within (running_earlier sc hands (next_stage sc.sizes (moment sc hands p) p) n (next-le sc hands p n within stage lt) running) in
+      in-running hands lawful p within (running_earlier sc hands (next_stage sc.sizes (moment sc hands p) p) n (next-le sc hands p n within stage lt) running) in
       on.later;
-  well = begun-well sc hands lawful n running;
+  well = begun-well hands lawful n running;
 }
 
 -- a run breaks off in no moment before one that runs
-pub breaks-later : (sc : Scenario) (hands : List HandIn) (b q n : ℕ) → BreaksAt sc hands b q → IsRunning (moment sc hands n) → n ≤ b
-breaks-later sc hands b q n off running = elim (cases_lt b n) [
+pub breaks-later : {sc hands b q : _} (n : ℕ) → BreaksAt sc hands b q → IsRunning (moment sc hands n) → n ≤ b
+breaks-later {sc} {hands} {b} n off running = elim (cases_lt b n) [
   | inr ge ↦ ge
   | inl lt ↦
       let on : IsRunning (moment sc hands (suc b)) = running_earlier sc hands (suc b) n (omega arith) running in
@@ -110,17 +110,17 @@ pub record Reaches (sc : Scenario) (hands : List HandIn) (n : ℕ) : Type 0 wher
   pub up_to : UpTo sc hands n
   pub not_past : (b q : ℕ) → BreaksAt sc hands b q → n ≤ b
 
-reaches-running : (sc : Scenario) (hands : List HandIn) → IsLawful sc → (n : ℕ) → (moment sc hands n).window < stages_in sc.sizes → IsRunning (moment sc hands n) → Reaches sc hands n
-reaches-running sc hands lawful n stage running =
-    record { up_to = from-running sc hands lawful n stage running; not_past = λ b q off. breaks-later sc hands b q n off running }
+reaches-running : {sc : _} (hands : List HandIn) → IsLawful sc → (n : ℕ) → (moment sc hands n).window < stages_in sc.sizes → IsRunning (moment sc hands n) → Reaches sc hands n
+reaches-running hands lawful n stage running =
+    record { up_to = from-running hands lawful n stage running; not_past = λ b q off. breaks-later n off running }
 
 -- the first stage is reached
-pub reaches-first : (sc : Scenario) (hands : List HandIn) → IsLawful sc → (n : ℕ) → (moment sc hands n).window < stages_in sc.sizes → n ≡ 0 → Reaches sc hands n
-reaches-first sc hands lawful n stage first = reaches-running sc hands lawful n stage (subst (λ n. IsRunning (moment sc hands n)) (sym first) (first-running sc hands))
+pub reaches-first : {sc : _} (hands : List HandIn) → IsLawful sc → {n : ℕ} → (moment sc hands n).window < stages_in sc.sizes → n ≡ 0 → Reaches sc hands n
+reaches-first {sc} hands lawful {n} stage first = reaches-running hands lawful n stage (subst (λ n. IsRunning (moment sc hands n)) (sym first) (first-running sc hands))
 
-pub reach : (sc : Scenario) (hands : List HandIn) → IsLawful sc → (n : ℕ) → (moment sc hands n).window < stages_in sc.sizes → (g : ℕ) → IsRunning (moment sc hands g)
+pub reach : {sc : _} (hands : List HandIn) → IsLawful sc → {n : ℕ} → (moment sc hands n).window < stages_in sc.sizes → (g : ℕ) → IsRunning (moment sc hands g)
     → n ≡ next_stage sc.sizes (moment sc hands g) g → Reaches sc hands n ⊎ ((q : ℕ) × BreaksAt sc hands g q)
-reach sc hands lawful n stage g running next =
+reach {sc} hands lawful {n} stage g running next =
     let number = number-of sc hands g in
     elim (cases_lt m.window (3 * sync_slot_of sc.sizes)) [
       | inl exact ↦ inl (in-exact-slot exact)
@@ -128,12 +128,12 @@ reach sc hands lawful n stage g running next =
         | inr within ↦ elim (cases_lt m.window (stages_in sc.sizes)) [
           | inr tail ↦
               let is : n ≡ suc (suc g) = next ∙ next-outer sc.sizes m g (omega arith) ∙ omega arith in
-              inl (reaches-running sc hands lawful n stage (subst (λ n. IsRunning (moment sc hands n)) (sym is) (runs-on sc hands lawful g (omega arith) running)))
+              inl (reaches-running hands lawful n stage (subst (λ n. IsRunning (moment sc hands n)) (sym is) (runs-on hands lawful g (omega arith) running)))
           | inl below ↦ by (moment sc hands (suc g)).book.ended refl late below
         ]
         | inl at_end ↦
             let is : n ≡ suc g = next ∙ next-outer sc.sizes m g (omega arith) ∙ omega (arith, number.1) in
-            inl (reaches-running sc hands lawful n stage (subst (λ n. IsRunning (moment sc hands n)) (sym is) (end-on sc hands g running (omega arith))))
+            inl (reaches-running hands lawful n stage (subst (λ n. IsRunning (moment sc hands n)) (sym is) (end-on sc hands g running (omega arith))))
       ]
     ]
   where
@@ -145,30 +145,30 @@ reach sc hands lawful n stage g running next =
         let is : n ≡ suc g = next ∙ next-inner sc.sizes m g (omega arith) in
         let later : IsWindowLater sc m (moment sc hands (suc g)) = window-later sc hands m (omega arith) in
         let w : (moment sc hands (suc g)).window ≡ m.window + 1 = later.window in
-        let well : BegunWell sc m = begun-well sc hands lawful g running in
-        let well_then : BegunWell sc (moment sc hands (suc g)) = well-on sc hands lawful g (omega arith) well in
+        let well : BegunWell sc m = begun-well hands lawful g running in
+        let well_then : BegunWell sc (moment sc hands (suc g)) = well-on hands lawful g (omega arith) well in
         let up_to : UpTo sc hands n = record {
           times = λ p le within. elim (cases_lt g p) [
             | inl after ↦
                 let same : suc g ≡ p = omega (arith, is, le, after) in
-                subst (λ p. InTime sc (moment sc hands p) (moment sc hands (next_stage sc.sizes (moment sc hands p) p))) same (in-exact sc hands lawful (suc g) well_then (omega arith))
-            | inr not_after ↦ in-here sc hands lawful p (running_earlier sc hands p g not_after running) within
+                subst (λ p. InTime sc (moment sc hands p) (moment sc hands (next_stage sc.sizes (moment sc hands p) p))) same (in-exact hands lawful (suc g) well_then (omega arith))
+            | inr not_after ↦ in-here hands lawful p (running_earlier sc hands p g not_after running) within
           ];
           later = λ p lt within. elim (cases_lt p g) [
             | inl before ↦
                 let on : Running sc hands p =
-                in-running sc hands lawful p within (running_earlier sc hands (next_stage sc.sizes (moment sc hands p) p) g (next-le sc hands p g within (omega arith) before) running) in
+                in-running hands lawful p within (running_earlier sc hands (next_stage sc.sizes (moment sc hands p) p) g (next-le sc hands p g within (omega arith) before) running) in
                 on.later
             | inr not_before ↦
                 let same : g ≡ p = omega (arith, is, lt, not_before) in
-                subst (AllLater sc hands) same (exact-later sc hands lawful g well (omega arith))
+                subst (AllLater sc hands) same (exact-later hands lawful g well (omega arith))
           ];
           well = subst (λ n. BegunWell sc (moment sc hands n)) (sym is) well_then;
         } in
         record {
           up_to = up_to;
           not_past = λ b q off.
-              let le : g ≤ b = breaks-later sc hands b q g off running in
+              let le : g ≤ b = breaks-later g off running in
               elim (cases_lt g b) [
                 | inl lt ↦ omega (arith, is, lt)
                 | inr ge ↦
@@ -186,15 +186,15 @@ reach sc hands lawful n stage g running next =
     by false e late below =
         elim (cases_lt (m.window + 1) (stages_in sc.sizes)) [
           | inl inner ↦
-              inl (reaches-running sc hands lawful n stage (subst (λ n. IsRunning (moment sc hands n)) (sym (next ∙ next-inner sc.sizes m g inner)) e))
+              inl (reaches-running hands lawful n stage (subst (λ n. IsRunning (moment sc hands n)) (sym (next ∙ next-inner sc.sizes m g inner)) e))
           | inr outer ↦
               let is : n ≡ suc (suc (suc g)) = next ∙ next-outer sc.sizes m g outer ∙ omega arith in
-              inl (reaches-running sc hands lawful n stage (subst (λ n. IsRunning (moment sc hands n)) (sym is) (last-on sc hands lawful g (omega arith) e)))
+              inl (reaches-running hands lawful n stage (subst (λ n. IsRunning (moment sc hands n)) (sym is) (last-on hands lawful g (omega arith) e)))
         ]
 
-pub next-up-to : (sc : Scenario) (hands : List HandIn) (n p : ℕ) → UpTo sc hands n → (moment sc hands n).window < stages_in sc.sizes → p < n → (moment sc hands p).window ≤ stages_in sc.sizes
+pub next-up-to : {sc hands n : _} (p : ℕ) → UpTo sc hands n → (moment sc hands n).window < stages_in sc.sizes → p < n → (moment sc hands p).window ≤ stages_in sc.sizes
     → NextInTime sc hands p
-next-up-to sc hands n p up stage lt within =
+next-up-to {sc} {hands} {n} p up stage lt within =
     let m : Moment = moment sc hands p in
     let next : NextIsStage sc hands p = next-is-stage sc hands p within in
     record {

@@ -59,27 +59,27 @@ told-all sc frame slot tells sites all =
     list-both each.bius each.rmus (list-all each.bius (one Biu)) (list-all each.rmus (one Rmu))
 
 told-each : {X : Type 0} (sc : Scenario) (frame slot : ℕ) (tells : Site → Option X) (sites : Each Site) → all_have_told sc frame slot tells sites ≡ true
-    → (me : Side) (i : ℕ) (s : Site) → slice_get (of_kind me sites) i ≡ Some s → has_told sc frame slot tells me i s ≡ true
-told-each sc frame slot tells sites complete me i s there =
+    → (me : Side) (i : ℕ) {s : _} → slice_get (of_kind me sites) i ≡ Some s → has_told sc frame slot tells me i s ≡ true
+told-each sc frame slot tells sites complete me i there =
     let has : Side → ℕ → Site → Bool = has_told sc frame slot tells in
-    each-at (map_each has sites) me i (has me i s) complete (get-each has sites me i ∙ ap (option_map (has me i)) there)
+    each-at (map_each has sites) me i complete (get-each has sites me i ∙ ap (option_map (has me i)) there)
 
 pub good-told : {X : Type 0} (sc : Scenario) (frame slot : ℕ) (tells : Site → Option X) (sites : Each Site) → all_have_told sc frame slot tells sites ≡ true
-    → (me : Side) (i : ℕ) (s : Site) → slice_get (of_kind me sites) i ≡ Some s → is_good sc me i frame slot ≡ true → is_some (tells s) ≡ true
-good-told sc frame slot tells sites complete me i s there good =
-    or-told (is_good sc me i frame slot) (is_some (tells s)) good (told-each sc frame slot tells sites complete me i s there)
+    → (me : Side) (i : ℕ) {s : _} → slice_get (of_kind me sites) i ≡ Some s → is_good sc me i frame slot ≡ true → is_some (tells s) ≡ true
+good-told sc frame slot tells sites complete me i {s} there good =
+    or-told (is_good sc me i frame slot) (is_some (tells s)) good (told-each sc frame slot tells sites complete me i there)
   where
     or-told : (good told : Bool) → good ≡ true → (not good || told) ≡ true → told ≡ true
     or-told true told g h = h
     or-told false told g h = cc
 
 -- if a good node has not told, what is asked for is not complete
-pub untold : {X : Type 0} (sc : Scenario) (frame slot : ℕ) (tells : Site → Option X) (sites : Each Site) (me : Side) (i : ℕ) (s : Site) → slice_get (of_kind me sites) i ≡ Some s
+pub untold : {X : Type 0} (sc : Scenario) (frame slot : ℕ) (tells : Site → Option X) (sites : Each Site) (me : Side) (i : ℕ) {s : _} → slice_get (of_kind me sites) i ≡ Some s
     → is_good sc me i frame slot ≡ true → is_some (tells s) ≡ false → all_have_told sc frame slot tells sites ≡ false
-untold sc frame slot tells sites me i s there good none = by (all_have_told sc frame slot tells sites) refl
+untold sc frame slot tells sites me i {s} there good none = by (all_have_told sc frame slot tells sites) refl
   where
     by : (b : Bool) → all_have_told sc frame slot tells sites ≡ b → all_have_told sc frame slot tells sites ≡ false
-    by true e = let some : is_some (tells s) ≡ true = good-told sc frame slot tells sites e me i s there good in absurd (true-false (sym some ∙ none))
+    by true e = let some : is_some (tells s) ≡ true = good-told sc frame slot tells sites e me i there good in absurd (true-false (sym some ∙ none))
       where
         true-false : true ≡ false → ⊥
         true-false e = cc
@@ -113,7 +113,7 @@ none-told sc frame slot tells sites counts none = by (all_have_told sc frame slo
               let counted : i < count_of me sc.sizes = good_counts sc me i frame slot f in
               let long : length (of_kind me sites) ≡ count_of me sc.sizes = counts me in
               let site = item-at (of_kind me sites) i (omega arith) in
-              true-false (sym (good-told sc frame slot tells sites e me i site.0 site.1 f) ∙ none me i site.0 site.1 f)
+              true-false (sym (good-told sc frame slot tells sites e me i site.1 f) ∙ none me i site.0 site.1 f)
         ] in
         go (is_good sc me i frame slot) refl in
         ap (λ n. not ((n == 0) && (good_at sc Rmu frame slot == 0)) && true) (no-good sc Biu frame slot (not_good Biu))
@@ -127,12 +127,12 @@ pub record Completes {X : Type 0} (sc : Scenario) (frame slot : ℕ) (tells : Si
   pub before : is_some (tells s) ≡ false
   pub after : is_some (tells z) ≡ true
 
-pub completes : {X : Type 0} (sc : Scenario) (frame slot : ℕ) (tells : Site → Option X) (sites : Each Site) (me : Side) (i frame_sent k : ℕ) (m : Option Message) (change : Site → Site) (s : Site)
+pub completes : {X : Type 0} (sc : Scenario) (frame slot : ℕ) (tells : Site → Option X) (sites : Each Site) (me : Side) (i frame_sent k : ℕ) (m : Option Message) (change : Site → Site) {s : _}
     → ((side : Side) (j : ℕ) (z : Site) → tells (reached sc me i frame_sent k m side j z) ≡ tells z)
     → slice_get (of_kind me sites) i ≡ Some s
     → all_have_told sc frame slot tells sites ≡ false → all_have_told sc frame slot tells (with_message sc me i frame_sent k m (at_node me i change sites)) ≡ true
     → Completes sc frame slot tells me i s (change s)
-completes {X = X} sc frame slot tells sites me i frame_sent k m change s same there old new = by (has_told sc frame slot tells me i s) refl
+completes {X = X} sc frame slot tells sites me i frame_sent k m change {s} same there old new = by (has_told sc frame slot tells me i s) refl
   where
     sites2 : Each Site
     sites2 = with_message sc me i frame_sent k m (at_node me i change sites)
@@ -144,7 +144,7 @@ completes {X = X} sc frame slot tells sites me i frame_sent k m change s same th
         → (not (is_good sc side j frame slot) || is_some (tells (elim (is_node me i side j) as (λ _. Site) [ true ↦ change z | false ↦ z ]))) ≡ true
     told2 side j z e =
         ap (λ o. not (is_good sc side j frame slot) || is_some o) (sym (same side j (elim (is_node me i side j) as (λ _. Site) [ true ↦ change z | false ↦ z ])))
-        ∙ told-each sc frame slot tells sites2 new side j (after_tick sc me i frame_sent k m change side j z) (get2 side j z e)
+        ∙ told-each sc frame slot tells sites2 new side j (get2 side j z e)
 
     parts : (good told told_now : Bool) → (not good || told) ≡ false → (not good || told_now) ≡ true → (good ≡ true) × ((told ≡ false) × (told_now ≡ true))
     parts true told told_now a b = (refl, (a, b))
@@ -210,10 +210,10 @@ begun-there frame (Some b) h = by (b.frame == frame) refl h
     by false e h = cc
 
 -- if all nodes are at a stage or before it, the stage is not complete
-pub stage-waits : (sc : Scenario) (hands : List HandIn) (at : Side → ℕ → ℕ) (sites : Each Site) (place : Place) → ((me : Side) → length (of_kind me sites) ≡ count_of me sc.sizes)
+pub stage-waits : {sc : Scenario} {hands : List HandIn} {at : Side → ℕ → ℕ} {sites : Each Site} (place : Place) → ((me : Side) → length (of_kind me sites) ≡ count_of me sc.sizes)
     → AllTold sc hands at sites → ((me : Side) (i : ℕ) (s : Site) → slice_get (of_kind me sites) i ≡ Some s → at me i ≤ number_at sc.sizes place)
     → is_due sc sites (Stage place) ≡ false
-stage-waits sc hands at sites place counts told bound =
+stage-waits {sc} {at} {sites} place counts told bound =
     none-told sc place.frame place.slot (λ s. row_for place s.row) sites counts (λ me i s there good. by me i s there (is_some (row_for place s.row)) refl)
   where
     by : (me : Side) (i : ℕ) (s : Site) → slice_get (of_kind me sites) i ≡ Some s → (b : Bool) → is_some (row_for place s.row) ≡ b → is_some (row_for place s.row) ≡ false

@@ -114,11 +114,11 @@ abbrev pub IsTurn : List Record → World → Type 0
 IsTurn before w =
     ((w.book.given ≡ before) × (w.turn ≡ None)) ⊎ ((r : Record) × ((w.book.given ≡ before ++ r ∷ []) × (w.turn ≡ Some r)))
 
-pub none-past : (xs ys : List Record) → ys ≡ xs → slice_get ys (length xs) ≡ None
-none-past xs ys e = ap (λ l. slice_get l (length xs)) e ∙ slice_get_past xs (length xs) (omega arith)
+pub none-past : (xs : List Record) {ys : _} → ys ≡ xs → slice_get ys (length xs) ≡ None
+none-past xs e = ap (λ l. slice_get l (length xs)) e ∙ slice_get_past xs (length xs) (omega arith)
 
-pub last-one : (xs ys : List Record) (r : Record) → ys ≡ xs ++ r ∷ [] → slice_get ys (length xs) ≡ Some r
-last-one xs ys r e =
+pub last-one : (xs : List Record) {ys : _} (r : Record) → ys ≡ xs ++ r ∷ [] → slice_get ys (length xs) ≡ Some r
+last-one xs r e =
     let z : length xs + 0 ≡ length xs = omega arith in
     ap (λ l. slice_get l (length xs)) e ∙ ap (slice_get (xs ++ r ∷ [])) (sym z) ∙ slice_get-back xs (r ∷ []) 0
 
@@ -129,12 +129,12 @@ settle-turn sc way (suc n) w =
     let next : World = settle_next sc way w in
     elim (next-more sc way w) [
       | inl same ↦
-          let none : record_since w next ≡ None = none-past w.book.given next.book.given same in
+          let none : record_since w next ≡ None = none-past w.book.given same in
           let rest : IsTurn next.book.given (settle sc way n next) = settle-turn sc way n next in
           subst (λ r. IsTurn w.book.given (settle_rest sc way n next r)) (sym none)
           (subst (λ given. IsTurn given (settle sc way n next)) same rest)
       | inr added ↦
-          let one : record_since w next ≡ Some added.0 = last-one w.book.given next.book.given added.0 added.1 in
+          let one : record_since w next ≡ Some added.0 = last-one w.book.given added.0 added.1 in
           subst (λ r. IsTurn w.book.given (settle_rest sc way n next r)) (sym one) (inr (added.0, (added.1, refl)))
     ]
 

@@ -10,19 +10,19 @@ use Rattle.rb_laws_events.proofs.{Invariant.{InTime, NodeStands, is_good_at, las
 
 -- Time passes.
 
-pub sites-on : (sc : Scenario) (hands : List HandIn) (now t : ℕ) (at : Side → ℕ → ℕ) (sites : Each Site) → now ≤ t → AllPend t sites
+pub sites-on : {sc hands now : _} (t : ℕ) {at sites : _} → now ≤ t → AllPend t sites
     → SitesStand sc hands now at sites → SitesStand sc hands t at sites
 unfolding AllPend
-sites-on sc hands now t at sites le pend h = record {
+sites-on {sc} {hands} {now} t {at} {sites} le pend h = record {
   up = λ me i s there runs.
       let node : IsUp sc hands (sent_by sc hands at sites) now me i (at me i) s = h.up me i s there runs in
-      record { st = node.st; a = node.a; stands = stands-on sc hands (sent_by sc hands at sites) now t me i (at me i) s node.st node.a le (pend me i s there) node.stands };
+      record { st = node.st; a = node.a; stands = stands-on t le (pend me i s there) node.stands };
   down = h.down;
   counts = h.counts;
 }
 
-pub passed-on : (sc : Scenario) (hands : List HandIn) (now t : ℕ) (at : Side → ℕ → ℕ) → now ≤ t → HavePassed sc hands now at → HavePassed sc hands t at
-passed-on sc hands now t at le h =
+pub passed-on : {sc hands now : _} (t : ℕ) {at : _} → now ≤ t → HavePassed sc hands now at → HavePassed sc hands t at
+passed-on {sc} {hands} {now} t le h =
     record { passed = λ me i q st before stage there good. let gone : time_of (clock_of sc me i) (last_tick sc (moment sc hands q) me st) ≤ now = h.passed me i q st before stage there good in omega arith }
 
 -- A tick.
@@ -69,12 +69,12 @@ state-frame sc me i st n word k = by (gone (sending_at sc.sizes sc.plan me i st 
     by true = (keeping-stays sc.sizes me i st (window_numbered sc.sizes sc.plan me st n).slot (window_numbered sc.sizes sc.plan me st n).stage word).frame
     by false = refl
 
-has-passed : (sc : Scenario) (hands : List HandIn) (now t : ℕ) (at : Side → ℕ → ℕ) (me : Side) (i r : ℕ) (st : NodeState) → now ≤ t → HavePassed sc hands now at
+has-passed : {sc hands now : _} (t : ℕ) {at : _} (me : Side) (i r : ℕ) {st : _} → now ≤ t → HavePassed sc hands now at
     → slice_get (of_kind me (moment sc hands (at me i)).nodes) i ≡ Some st
     → ((r ≡ at me i) ⊎ ((at me i < r) × (time_of (clock_of sc me i) (last_tick sc (moment sc hands (at me i)) me st) ≤ t)))
     → ((q : ℕ) → at me i < q → q < r → stages_in sc.sizes ≤ (moment sc hands q).window)
     → HavePassed sc hands t (moved me i r at)
-has-passed sc hands now t at me i r st le h there how between = record {
+has-passed {sc} {hands} {now} t {at} me i r {st} le h there how between = record {
   passed = λ side j q other_st before stage here good.
       let go : (b : Bool) → is_node me i side j ≡ b → q < (elim b as (λ _. ℕ) [ true ↦ r | false ↦ at side j ])
       → time_of (clock_of sc side j) (last_tick sc (moment sc hands q) side other_st) ≤ t =
@@ -111,15 +111,15 @@ has-passed sc hands now t at me i r st le h there how between = record {
       go (is_node me i side j) refl before;
 }
 
-pub tick-event : (sc : Scenario) (hands : List HandIn) (now : ℕ) (at : Side → ℕ → ℕ) (sites : Each Site) (ports : List PortState) (me : Side) (i : ℕ) (s : Site) (a : Timed)
+pub tick-event : {sc hands now at sites ports me i s a : _}
     → IsLawful sc → HasRoom sc.plan → AreInTime sc hands at → HavePassed sc hands now at → SitesStand sc hands now at sites
     → TickIsDue sc hands now at sites ports me i s a → AfterTick sc hands at sites ports me i s a (pass_and_tick sc ports me i a.tick s.core)
-tick-event sc hands now at sites ports me i s a lawful room times passed h due =
+tick-event {sc} {hands} {at} {sites} {ports} {me} {i} {s} {a} lawful room times passed h due =
     let p : ℕ = at me i in
     let m : Moment = moment sc hands p in
     let old : Side → ℕ → ℕ → Bool = sent_by sc hands at sites in
-    let ht : SitesStand sc hands a.time at sites = sites-on sc hands now a.time at sites due.later due.first h in
-    let pt : HavePassed sc hands a.time at = passed-on sc hands now a.time at due.later passed in
+    let ht : SitesStand sc hands a.time at sites = sites-on a.time due.later due.first h in
+    let pt : HavePassed sc hands a.time at = passed-on a.time due.later passed in
     let up : IsUp sc hands old a.time me i p s = ht.up me i s due.there due.runs in
     let st : NodeState = up.st in
     let same : up.a ≡ a = same_Some up.a a (sym up.stands.receives.pends ∙ due.pend) in
@@ -133,13 +133,13 @@ tick-event sc hands now at sites ports me i s a lawful room times passed h due =
     let x : Act = pass_and_tick sc ports me i a.tick s.core in
     let le : a.tick ≤ last_tick sc m me st = node.receives.in_window in
     let window : m.window ≤ stages_in sc.sizes = node.stands.window in
-    let so_is : sending_of sc m me i ≡ sending_at sc.sizes sc.plan me i st m.window (word_at sc m me i st) = sending-of-is sc m me i st node.state in
+    let so_is : sending_of sc m me i ≡ sending_at sc.sizes sc.plan me i st m.window (word_at sc m me i st) = sending-of-is sc m me i node.state in
     let next : NextIsStage sc hands p = next-is-stage sc hands p window in
     let lands : (frame : ℕ) → frame ≡ m.frame → AllLand sc hands at sites me i frame a.tick a.time =
-    λ frame e. all-land sc hands now at sites me i frame a.tick a.time lawful room.ticks due.later node.receives.at_time counted node.good e (omega arith) passed times h.counts in
+    λ frame e. all-land sites me i a.tick lawful room.ticks due.later node.receives.at_time counted node.good e (omega arith) passed times h.counts in
     elim (cases_lt a.tick (last_tick sc m me st)) [
       | inl before ↦
-          let stays : StaysOpen sc hands old a.time ports me i p s st a.tick x = stays-open sc hands old a.time ports me i p s st a room below words due.alone before node in
+          let stays : StaysOpen sc hands old a.time ports me i p s st a.tick x = stays-open room below words due.alone before node in
           let frame : x.core.state.frame ≡ m.frame =
           ap (λ (z : NodeState). z.frame) stays.act.state ∙ state-frame sc me i st m.window (word_at sc m me i st) (a.tick + 1) ∙ known.frame in
           let site = stays.site in
@@ -155,7 +155,7 @@ tick-event sc hands now at sites ports me i s a lawful room times passed h due =
             good = node.good;
             frame = known.frame;
             stands = node.stands;
-            sites_stand = tick-keeps-world sc hands now at sites me i x.core.state.frame a.tick p x.message (after_act sc ports me i x) s a (Some stays.a) lawful due.later due.first
+            sites_stand = tick-keeps-world (after_act sc ports me i x) lawful due.later due.first
                 (record {
                   there = due.there;
                   pend = due.pend;
@@ -169,15 +169,15 @@ tick-event sc hands now at sites ports me i s a lawful room times passed h due =
                 })
                 (lands x.core.state.frame frame) (ap (λ (z : Site). z.ahead) site)
                 (inl (ap (λ (z : Site). z.runs) site ∙ due.runs, record { st = st; a = stays.a; stands = stays.stands })) h;
-            passed = has-passed sc hands now a.time at me i p st due.later passed node.state (inl refl) (λ q lt gt. absurd (omega arith));
+            passed = has-passed a.time me i p due.later passed node.state (inl refl) (λ q lt gt. absurd (omega arith));
             node = inl (refl, stays);
           }
       | inr ge ↦
           let last : a.tick ≡ last_tick sc m me st = omega arith in
           let time : a.time ≡ time_of (clock_of sc me i) (last_tick sc m me st) = node.receives.at_time ∙ ap (time_of (clock_of sc me i)) last in
-          let others : OthersKeepUp sc hands old me i p = keep-up sc hands a.time at sites me i st lawful room.ticks node.state node.good time window pt times counted ht in
+          let others : OthersKeepUp sc hands old me i p = keep-up me i lawful room.ticks node.state node.good time window pt times counted ht in
           let closes : ClosesWindow sc hands old ports me i p s st a x =
-          closes-window sc hands old a.time ports me i p s st a room known (due.next st node.state last) others words due.alone last node in
+          closes-window room known (due.next st node.state last) others words due.alone last node in
           let r : ℕ = closes.q in
           let later : p < r = elim closes.place [ inl stage ↦ omega (arith, stage, next.later) | inr tail ↦ omega (arith, tail.0) ] in
           let between : (q : ℕ) → p < q → q < r → (stages_in sc.sizes ≤ (moment sc hands q).window) × ((moment sc hands q).window ≤ windows_in sc.sizes) =
@@ -190,7 +190,7 @@ tick-event sc hands now at sites ports me i s a lawful room times passed h due =
           ∙ known.frame in
           let all : (y : Sending) → sending_of sc m me i ≡ Some y → y.tick ≤ a.tick =
           λ y e.
-          let in_it : IsTickIn sc.sizes sc.plan me st m.window y.tick = sent-in sc.sizes sc.plan me i st m.window (word_at sc m me i st) y room.inside node.stands.keeps window (sym so_is ∙ e) in
+          let in_it : IsTickIn sc.sizes sc.plan me st m.window y.tick = sent-in i m.window (word_at sc m me i st) room.inside node.stands.keeps window (sym so_is ∙ e) in
           let to : y.tick ≤ st.epoch + last_of sc.sizes sc.plan me st m.window = in_it.to in
           omega arith in
           let steps : (b : Option Timed) → past (sending_of sc (moment sc hands r) me i) b ≡ false → Steps (λ p. sending_of sc (moment sc hands p) me i) p a.tick r b =
@@ -216,13 +216,13 @@ tick-event sc hands now at sites ports me i s a lawful room times passed h due =
           elim closes.goes [
             | inl on ↦
                 let silent : past (sending_of sc (moment sc hands r) me i) (Some on.a) ≡ false =
-                ap (λ o. past o (Some on.a)) (sending-of-is sc (moment sc hands r) me i on.st on.stands.state)
+                ap (λ o. past o (Some on.a)) (sending-of-is sc (moment sc hands r) me i on.stands.state)
                 ∙ past-gone (sending_at sc.sizes sc.plan me i on.st (moment sc hands r).window (word_at sc (moment sc hands r) me i on.st)) on.a ∙ on.silent in
-                tick-keeps-world sc hands now at sites me i x.core.state.frame a.tick r x.message (after_act sc ports me i x) s a (Some on.a) lawful due.later due.first
+                tick-keeps-world (after_act sc ports me i x) lawful due.later due.first
                 (ticks (Some on.a) silent) (lands x.core.state.frame close_frame) on.stands.receives.pends
                 (inl (closes.runs on.stands.good ∙ due.runs, record { st = on.st; a = on.a; stands = on.stands })) h
             | inr off ↦
-                tick-keeps-world sc hands now at sites me i x.core.state.frame a.tick r x.message (after_act sc ports me i x) s a None lawful due.later due.first
+                tick-keeps-world (after_act sc ports me i x) lawful due.later due.first
                 (ticks None (past-none (sending_of sc (moment sc hands r) me i))) (lands x.core.state.frame close_frame) off.ahead
                 (inr (off.runs, record { not_good = off.not_good; stopped = off.stopped; ahead = off.ahead; coming = off.coming })) h
           ] in
@@ -234,7 +234,7 @@ tick-event sc hands now at sites ports me i s a lawful room times passed h due =
             frame = known.frame;
             stands = node.stands;
             sites_stand = sites_after;
-            passed = has-passed sc hands now a.time at me i r st due.later passed node.state (inr (later, omega (arith, time))) (λ q lt gt. (between q lt gt).0);
+            passed = has-passed a.time me i r due.later passed node.state (inr (later, omega (arith, time))) (λ q lt gt. (between q lt gt).0);
             node = inr (later, (closes, (refl, last)));
           }
     ]

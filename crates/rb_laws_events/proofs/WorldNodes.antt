@@ -91,10 +91,10 @@ pub record NodesKnown (sc : Scenario) (sites : Each Site) : Type 0 where
   pub known : (me : Side) (i : ℕ) (s : Site) → slice_get (of_kind me sites) i ≡ Some s → Known sc.sizes me s.coming
 
 -- a change that keeps `Known` at each node keeps `NodesKnown`
-each-known : (sc : Scenario) (f : Side → ℕ → Site → Site) (sites : Each Site)
+each-known : {sc : Scenario} (f : Side → ℕ → Site → Site) {sites : Each Site}
     → ((me : Side) (i : ℕ) (s : Site) → slice_get (of_kind me sites) i ≡ Some s → Known sc.sizes me s.coming → Known sc.sizes me (f me i s).coming)
     → NodesKnown sc sites → NodesKnown sc (map_each f sites)
-each-known sc f sites go h = record {
+each-known {sc} f {sites} go h = record {
   counts = λ me. length-each f sites me ∙ h.counts me;
   known = λ me i s e.
       let was = option_map-back (f me i) (slice_get (of_kind me sites) i) s (sym (get-each f sites me i) ∙ e) in
@@ -114,10 +114,10 @@ changed-at sizes Rmu Biu change s b go k = k
 changed-at sizes Rmu Rmu change s b go k = changed sizes Rmu change s b go k
 
 -- a change of one node that keeps `Known` there keeps `NodesKnown`
-at-known : (sc : Scenario) (me : Side) (i : ℕ) (change : Site → Site) (sites : Each Site)
+at-known : {sc : Scenario} (me : Side) (i : ℕ) (change : Site → Site) {sites : Each Site}
     → ((s : Site) → Known sc.sizes me s.coming → Known sc.sizes me (change s).coming) → NodesKnown sc sites → NodesKnown sc (at_node me i change sites)
-at-known sc me i change sites go h =
-    each-known sc (λ side n s. elim (same_side side me && (n == i)) as (λ _. Site) [ true ↦ change s | false ↦ s ]) sites (λ side n s e k. changed-at sc.sizes me side change s (n == i) (go s) k) h
+at-known {sc} me i change go h =
+    each-known (λ side n s. elim (same_side side me && (n == i)) as (λ _. Site) [ true ↦ change s | false ↦ s ]) (λ side n s e k. changed-at sc.sizes me side change s (n == i) (go s) k) h
 
 -- a message goes out from a node of the bus
 sent-at : (sc : Scenario) (me side : Side) (j frame : ℕ) (x : Sending) (i : ℕ) (s : Site) → j < count_of me sc.sizes → Known sc.sizes side s.coming
@@ -131,33 +131,33 @@ sent-at sc Rmu Biu j frame x i s h k =
     (λ k. known-append sc.sizes Biu s.coming (coming_of sc Biu i j frame x ∷ []) k (h, tt)) k
 sent-at sc Rmu Rmu j frame x i s h k = k
 
-message-known : (sc : Scenario) (me : Side) (j frame tick : ℕ) (m : Option Message) (sites : Each Site) → j < count_of me sc.sizes → NodesKnown sc sites
+message-known : {sc : Scenario} (me : Side) (j frame tick : ℕ) (m : Option Message) {sites : Each Site} → j < count_of me sc.sizes → NodesKnown sc sites
     → NodesKnown sc (with_message sc me j frame tick m sites)
-message-known sc me j frame tick None sites h k = k
-message-known sc me j frame tick (Some m) sites h k =
-    each-known sc (sent_to sc me j frame (record { tick = tick; message = m })) sites (λ side i s e known. sent-at sc me side j frame (record { tick = tick; message = m }) i s h known) k
+message-known me j frame tick None h k = k
+message-known {sc} me j frame tick (Some m) h k =
+    each-known (sent_to sc me j frame (record { tick = tick; message = m })) (λ side i s e known. sent-at sc me side j frame (record { tick = tick; message = m }) i s h known) k
 
 -- an event keeps `NodesKnown`
-pending-known : (sc : Scenario) (w : World) (me : Side) (i : ℕ) (s : Site) (p : Pending) → i < count_of me sc.sizes → NodesKnown sc w.sites
+pending-known : {sc : Scenario} (w : World) (me : Side) (i : ℕ) (s : Site) (p : Pending) → i < count_of me sc.sizes → NodesKnown sc w.sites
     → NodesKnown sc (with_pending sc w me i s p).sites
 unfolding with_act
-pending-known sc w me i s (Tick k) h known =
+pending-known {sc} w me i s (Tick k) h known =
     let x : Act = pass_and_tick sc w.ports me i k s.core in
-    message-known sc me i x.core.state.frame k x.message (at_node me i (after_act sc w.ports me i x) w.sites) h
-    (at-known sc me i (after_act sc w.ports me i x) w.sites (act-known sc w.ports me i x) known)
-pending-known sc w me i s (Arrival place c) h known = at-known sc me i (after_arrival sc me i place c) w.sites (arrival-known sc me i place c) known
+    message-known me i x.core.state.frame k x.message h
+    (at-known me i (after_act sc w.ports me i x) (act-known sc w.ports me i x) known)
+pending-known {sc} w me i s (Arrival place c) h known = at-known me i (after_arrival sc me i place c) (arrival-known sc me i place c) known
 
-happens-by : (sc : Scenario) (w : World) (d : Due) (o : Option Site) → slice_get (of_kind d.side w.sites) d.node ≡ o → NodesKnown sc w.sites
+happens-by : {sc : _} (w : World) (d : Due) (o : Option Site) → slice_get (of_kind d.side w.sites) d.node ≡ o → NodesKnown sc w.sites
     → NodesKnown sc (elim o as (λ _. World) [ None ↦ w | Some s ↦ with_pending sc w d.side d.node s d.pending ]).sites
-happens-by sc w d None e known = known
-happens-by sc w d (Some s) e known =
+happens-by w d None e known = known
+happens-by {sc} w d (Some s) e known =
     let long : length (of_kind d.side w.sites) ≡ count_of d.side sc.sizes = known.counts d.side in
     let within : d.node < length (of_kind d.side w.sites) = slice_get_within (of_kind d.side w.sites) d.node s e in
-    pending-known sc w d.side d.node s d.pending (omega arith) known
+    pending-known w d.side d.node s d.pending (omega arith) known
 
-pub happens-known : (sc : Scenario) (w : World) (d : Due) → NodesKnown sc w.sites → NodesKnown sc (happens sc w d).sites
+pub happens-known : {sc : _} (w : World) (d : Due) → NodesKnown sc w.sites → NodesKnown sc (happens sc w d).sites
 unfolding happens
-happens-known sc w d known = happens-by sc w d (slice_get (of_kind d.side w.sites) d.node) refl known
+happens-known w d known = happens-by w d (slice_get (of_kind d.side w.sites) d.node) refl known
 
 -- settling leaves the nodes alone
 pub next-sites : (sc : Scenario) (way : Way) (w : World) → (settle_next sc way w).sites ≡ w.sites
@@ -178,10 +178,10 @@ settle-sites sc way (suc n) w =
     rest-sites sc way n w (settle_next sc way w) (next-sites sc way w) (settle-sites sc way n (settle_next sc way w))
     (record_since w (settle_next sc way w))
 
-due-known : (sc : Scenario) (w : World) (o : Option Due) → NodesKnown sc w.sites → NodesKnown sc (take_if_due sc w o).sites
-due-known sc w None known = known
-due-known sc w (Some d) known =
-    subst (NodesKnown sc) (sym (settle-sites sc ByAnEvent 2 (happens sc w d))) (happens-known sc w d known)
+due-known : {sc : _} (w : World) (o : Option Due) → NodesKnown sc w.sites → NodesKnown sc (take_if_due sc w o).sites
+due-known w None known = known
+due-known {sc} w (Some d) known =
+    subst (NodesKnown sc) (sym (settle-sites sc ByAnEvent 2 (happens sc w d))) (happens-known w d known)
 
 go-sites : (sc : Scenario) (w : World) (b : Bool)
     → (elim b as (λ _. World) [ true ↦ w | false ↦ settle sc ByItself 2 w ]).sites ≡ w.sites
@@ -189,11 +189,11 @@ go-sites sc w true = refl
 go-sites sc w false = settle-sites sc ByItself 2 w
 
 -- each choice keeps `NodesKnown`
-pub choose-known : (sc : Scenario) (w : World) (c : Choice) → NodesKnown sc w.sites → NodesKnown sc (choose sc w c).sites
+pub choose-known : {sc : _} (w : World) (c : Choice) → NodesKnown sc w.sites → NodesKnown sc (choose sc w c).sites
 unfolding take go_on
-choose-known sc w (Take place) known = due-known sc w (slice_get (due_of sc w) place) known
-choose-known sc w GoOn known = subst (NodesKnown sc) (sym (go-sites sc w w.book.ended)) known
-choose-known sc w (Hand biu state) known = hand-leaves (λ x. NodesKnown sc x.sites) sc w biu state (λ ports hands. known) known
+choose-known {sc} w (Take place) known = due-known w (slice_get (due_of sc w) place) known
+choose-known {sc} w GoOn known = subst (NodesKnown sc) (sym (go-sites sc w w.book.ended)) known
+choose-known {sc} w (Hand biu state) known = hand-leaves (λ x. NodesKnown sc x.sites) sc w biu state (λ ports hands. known) known
 
 pub first-counts : {X : Type 0} (sizes : Sizes) (make : Side → ℕ → X) (me : Side) → length (of_kind me (each_of sizes make)) ≡ count_of me sizes
 first-counts sizes make Biu = length-map-range_with_len (make Biu) 0 sizes.bius
@@ -213,15 +213,15 @@ first-known sc = record {
       subst (λ x. Known sc.sizes me x.coming) same (proceed-known sc me i (fresh_site sc.sizes me) tt);
 }
 
-from-known : (sc : Scenario) (choices : List Choice) (w : World) → NodesKnown sc w.sites → NodesKnown sc (fold (choose sc) w choices).sites
-from-known sc [] w known = known
-from-known sc (c ∷ cs) w known = from-known sc cs (choose sc w c) (choose-known sc w c known)
+from-known : {sc : _} (choices : List Choice) (w : World) → NodesKnown sc w.sites → NodesKnown sc (fold (choose sc) w choices).sites
+from-known [] w known = known
+from-known {sc} (c ∷ cs) w known = from-known cs (choose sc w c) (choose-known w c known)
 
 -- `NodesKnown` holds in every world that choices lead to
 pub worlds-known : (sc : Scenario) (choices : List Choice) → NodesKnown sc (world_after sc choices).sites
-worlds-known sc choices = from-known sc choices (first_world sc) (first-known sc)
+worlds-known sc choices = from-known choices (first_world sc) (first-known sc)
 
 -- each event that may be taken in a world that choices lead to is due
-pub events-due : (sc : Scenario) (choices : List Choice) (i : ℕ) (d : Due) → slice_get (due_of sc (world_after sc choices)) i ≡ Some d
+pub events-due : (sc : Scenario) (choices : List Choice) (i : ℕ) {d : _} → slice_get (due_of sc (world_after sc choices)) i ≡ Some d
     → IsDue (world_after sc choices) d
-events-due sc choices i d e = due-is sc (world_after sc choices) i d (record { known = (worlds-known sc choices).known }) e
+events-due sc choices i e = due-is i (record { known = (worlds-known sc choices).known }) e

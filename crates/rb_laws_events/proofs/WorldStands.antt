@@ -91,12 +91,12 @@ arrival-runs sc me i n c s = refl
 unfoldable pub AllPend : ℕ → Each Site → Type 0
 AllPend t sites = (me : Side) (i : ℕ) (s : Site) → slice_get (of_kind me sites) i ≡ Some s → Every (λ u. t ≤ u) (times_of s)
 
-pub arrival-keeps-world : (sc : Scenario) (hands : List HandIn) (now : ℕ) (at : Side → ℕ → ℕ) (sites : Each Site) (me : Side) (i n : ℕ) (c : Coming) (s : Site)
+pub arrival-keeps-world : {sc : Scenario} {hands : List HandIn} {now : ℕ} {at : Side → ℕ → ℕ} {sites : Each Site} (me : Side) (i n : ℕ) (c : Coming) {s : Site}
     → Moves (clock_of sc me i) → slice_get (of_kind me sites) i ≡ Some s → s.runs ≡ true → now ≤ c.time → AllPend c.time sites
     → ((a : Timed) → s.ahead ≡ Some a → ArrivesNow n c s a)
     → SitesStand sc hands now at sites → SitesStand sc hands c.time at (at_node me i (after_arrival sc me i n c) sites)
 unfolding AllPend
-arrival-keeps-world sc hands now at sites me i n c s moves there runs later pend due h =
+arrival-keeps-world {sc} {hands} {now} {at} {sites} me i n c {s} moves there runs later pend due h =
     let change : Site → Site = after_arrival sc me i n c in
     let new : Each Site = at_node me i change sites in
     let same : sent_by sc hands at sites ≡ sent_by sc hands at new =
@@ -116,14 +116,14 @@ arrival-keeps-world sc hands now at sites me i n c s moves there runs later pend
           let new_up : IsUp sc hands (sent_by sc hands at sites) c.time me i (at me i) (change s) = record {
             st = node.st;
             a = node.a;
-            stands = stands-arrival sc hands (sent_by sc hands at sites) now me i (at me i) n c s node.st node.a moves (due node.a node.stands.receives.pends) node.stands;
+            stands = stands-arrival moves (due node.a node.stands.receives.pends) node.stands;
           } in
           subst (λ z. IsUp sc hands (sent_by sc hands at sites) c.time side j (at side j) (change z)) old_is
           (subst (λ k. IsUp sc hands (sent_by sc hands at sites) c.time k j (at k j) (change s)) (sym is.0)
           (subst (λ k. IsUp sc hands (sent_by sc hands at sites) c.time me k (at me k) (change s)) (sym is.1) new_up))
       | false ↦ λ e was up.
           let node : IsUp sc hands (sent_by sc hands at sites) now side j (at side j) old = h.up side j old was up in
-          record { st = node.st; a = node.a; stands = stands-on sc hands (sent_by sc hands at sites) now c.time side j (at side j) old node.st node.a later (pend side j old was) node.stands }
+          record { st = node.st; a = node.a; stands = stands-on c.time later (pend side j old was) node.stands }
     ] in
     record {
       up = λ side j z e up.

@@ -74,11 +74,11 @@ unfoldable pub sent_then : Scenario → List HandIn → (Side → ℕ → ℕ) �
 sent_then sc hands at sites me i r b side j p =
     elim (is_node me i side j) [ true ↦ has_sent (sending_of sc (moment sc hands p) me i) r b p | false ↦ sent_by sc hands at sites side j p ]
 
-sent-then-is : (sc : Scenario) (hands : List HandIn) (at : Side → ℕ → ℕ) (sites : Each Site) (me : Side) (i r frame k : ℕ) (b : Option Timed) (m : Option Message) (change : Site → Site) (s : Site)
+sent-then-is : (sc : Scenario) (hands : List HandIn) (at : Side → ℕ → ℕ) (sites : Each Site) (me : Side) (i r frame k : ℕ) {b : _} (m : Option Message) (change : Site → Site) {s : _}
     → slice_get (of_kind me sites) i ≡ Some s → (change s).ahead ≡ b
     → sent_then sc hands at sites me i r b ≡ sent_by sc hands (moved me i r at) (with_message sc me i frame k m (at_node me i change sites))
 unfolding sent_then
-sent-then-is sc hands at sites me i r frame k b m change s there ahead =
+sent-then-is sc hands at sites me i r frame k {b} m change {s} there ahead =
     let new : Each Site = with_message sc me i frame k m (at_node me i change sites) in
     same-sent (sent_then sc hands at sites me i r b) (sent_by sc hands (moved me i r at) new)
     (λ side j p.
@@ -114,10 +114,10 @@ sent-then-is sc hands at sites me i r frame k b m change s there ahead =
 
 -- The node itself afterwards.
 
-up-same : (sc : Scenario) (hands : List HandIn) (sent sent2 : Side → ℕ → ℕ → Bool) (now : ℕ) (me : Side) (i p : ℕ) (s : Site)
+up-same : {sc : Scenario} {hands : List HandIn} {sent : Side → ℕ → ℕ → Bool} (sent2 : Side → ℕ → ℕ → Bool) {now : ℕ} {me : Side} {i p : ℕ} {s : Site}
     → ((j p : ℕ) → sent2 (other me) j p ≡ sent (other me) j p) → IsUp sc hands sent now me i p s → IsUp sc hands sent2 now me i p s
-up-same sc hands sent sent2 now me i p s same h =
-    record { st = h.st; a = h.a; stands = stands-same sc hands sent sent2 now me i p s h.st h.a same h.stands }
+up-same sent2 same h =
+    record { st = h.st; a = h.a; stands = stands-same sent2 same h.stands }
 
 -- What happens at the other nodes.
 
@@ -144,35 +144,35 @@ sent-then-other sc hands at sites me i r b j p e =
     (ap (λ x. x && (j == i)) (same_side_self me) ∙ e)
 
 -- what the node had sent before, by its pending tick
-own-before : (sc : Scenario) (hands : List HandIn) (at : Side → ℕ → ℕ) (sites : Each Site) (me : Side) (i : ℕ) (s : Site) (a : Timed) (p : ℕ)
+own-before : (sc : Scenario) (hands : List HandIn) (at : Side → ℕ → ℕ) (sites : Each Site) (me : Side) (i : ℕ) {s a : _} (p : ℕ)
     → slice_get (of_kind me sites) i ≡ Some s → s.ahead ≡ Some a
     → sent_by sc hands at sites me i p ≡ has_sent (sending_of sc (moment sc hands p) me i) (at me i) (Some a) p
-own-before sc hands at sites me i s a p there pend =
+own-before sc hands at sites me i {s} p there pend =
     ap (λ o. has_sent (sending_of sc (moment sc hands p) me i) (at me i) (option_and_then (λ (s : Site). s.ahead) o) p) there
     ∙ ap (λ o. has_sent (sending_of sc (moment sc hands p) me i) (at me i) o p) pend
 
 -- if the node said nothing, what has been sent stays the same
-then-silent : (sc : Scenario) (hands : List HandIn) (at : Side → ℕ → ℕ) (sites : Each Site) (me : Side) (i k r : ℕ) (s : Site) (a : Timed) (b : Option Timed)
+then-silent : (sc : Scenario) (hands : List HandIn) (at : Side → ℕ → ℕ) (sites : Each Site) (me : Side) (i : ℕ) {k r s a b : _}
     → slice_get (of_kind me sites) i ≡ Some s → s.ahead ≡ Some a → SaysNothing (λ p. sending_of sc (moment sc hands p) me i) (at me i) k r a b
     → (j p : ℕ) → sent_then sc hands at sites me i r b me j p ≡ sent_by sc hands at sites me j p
-then-silent sc hands at sites me i k r s a b there pend says j p =
+then-silent sc hands at sites me i {r} {b} there pend says j p =
     let go : (d : Bool) → (j == i) ≡ d → sent_then sc hands at sites me i r b me j p ≡ sent_by sc hands at sites me j p =
     λ d. elim d as (λ d. (j == i) ≡ d → sent_then sc hands at sites me i r b me j p ≡ sent_by sc hands at sites me j p) [
       | true ↦ λ e.
           subst (λ j. sent_then sc hands at sites me i r b me j p ≡ sent_by sc hands at sites me j p) (sym (eqb-true j i e))
-          (sent-then-own sc hands at sites me i r b p ∙ says.same p ∙ sym (own-before sc hands at sites me i s a p there pend))
+          (sent-then-own sc hands at sites me i r b p ∙ says.same p ∙ sym (own-before sc hands at sites me i p there pend))
       | false ↦ λ e. sent-then-other sc hands at sites me i r b j p e
     ] in
     go (j == i) refl
 
 -- if the node said what it says in its moment, it has sent that and no more
-then-said : (sc : Scenario) (hands : List HandIn) (at : Side → ℕ → ℕ) (sites : Each Site) (me : Side) (i k r : ℕ) (s : Site) (a : Timed) (b : Option Timed)
+then-said : (sc : Scenario) (hands : List HandIn) (at : Side → ℕ → ℕ) (sites : Each Site) (me : Side) (i : ℕ) {k r s a b : _}
     → slice_get (of_kind me sites) i ≡ Some s → s.ahead ≡ Some a → SaysNow (λ p. sending_of sc (moment sc hands p) me i) (at me i) k r a b
     → SendsFor (sent_by sc hands at sites me) (sent_then sc hands at sites me i r b me) i (at me i)
-then-said sc hands at sites me i k r s a b there pend says = record {
+then-said sc hands at sites me i {r} {b} there pend says = record {
   others = λ j p e. sent-then-other sc hands at sites me i r b j p e;
-  elsewhere = λ p e. sent-then-own sc hands at sites me i r b p ∙ says.elsewhere p e ∙ sym (own-before sc hands at sites me i s a p there pend);
-  before = own-before sc hands at sites me i s a (at me i) there pend ∙ says.before;
+  elsewhere = λ p e. sent-then-own sc hands at sites me i r b p ∙ says.elsewhere p e ∙ sym (own-before sc hands at sites me i p there pend);
+  before = own-before sc hands at sites me i (at me i) there pend ∙ says.before;
   after = sent-then-own sc hands at sites me i r b (at me i) ∙ says.after;
 }
 
@@ -201,24 +201,24 @@ reached-running sc me i frame k m j s runs =
     ]) (ap (λ x. x && s.runs) (same_side_self (other me)) ∙ runs)
 
 -- a node of the other kind still stands when the node's message is on its way to it
-other-on : (sc : Scenario) (hands : List HandIn) (at : Side → ℕ → ℕ) (sites : Each Site) (me : Side) (i frame k r : ℕ) (m : Option Message) (s : Site) (a : Timed) (b : Option Timed)
-    → IsLawful sc → TicksNow sc hands at sites me i frame k r m s a b → (j : ℕ) (z : Site) → z.runs ≡ true
+other-on : {sc : Scenario} {hands : List HandIn} {at : Side → ℕ → ℕ} {sites : Each Site} {me : Side} {i frame k r : ℕ} {m : Option Message} {s : Site} {a : Timed} {b : Option Timed}
+    → IsLawful sc → TicksNow sc hands at sites me i frame k r m s a b → {j : ℕ} {z : Site} → z.runs ≡ true
     → ((x : Sending) → sending_of sc (moment sc hands (at me i)) me i ≡ Some x → x.tick ≡ k → (st : NodeState) (c : Timed)
     → NodeStands sc hands (sent_by sc hands at sites) a.time (other me) j (at (other me) j) z st c
     → Lands sc hands (other me) j (at (other me) j) (at me i) st (on_way sc me i frame k x.message j))
     → IsUp sc hands (sent_by sc hands at sites) a.time (other me) j (at (other me) j) z
     → IsUp sc hands (sent_then sc hands at sites me i r b) a.time (other me) j (at (other me) j) (reached sc me i frame k m (other me) j z)
-other-on sc hands at sites me i frame k r m s a b lawful now j z runs lands h =
+other-on {sc} {hands} {at} {sites} {me} {i} {frame} {k} {r} {m} {a} {b} lawful now {j} {z} runs lands h =
     let so : ℕ → Option Sending = λ p. sending_of sc (moment sc hands p) me i in
     let q : ℕ = at me i in
     let old : Side → ℕ → ℕ → Bool = sent_by sc hands at sites in
     let new : Side → ℕ → ℕ → Bool = sent_then sc hands at sites me i r b in
-    elim (sent-changes so q k r a b now.tick now.steps) [
+    elim (sent-changes a now.tick now.steps) [
       | inl silent ↦
           let none : m ≡ None = now.message ∙ silent.silent in
           subst (λ m. IsUp sc hands new a.time (other me) j (at (other me) j) (reached sc me i frame k m (other me) j z)) (sym none)
-          (up-same sc hands old new a.time (other me) j (at (other me) j) z
-          (λ n p. ap (λ x. new x n p) (other_twice me) ∙ then-silent sc hands at sites me i k r s a b now.there now.pend silent n p ∙ sym (ap (λ x. old x n p) (other_twice me))) h)
+          (up-same new
+          (λ n p. ap (λ x. new x n p) (other_twice me) ∙ then-silent sc hands at sites me i now.there now.pend silent n p ∙ sym (ap (λ x. old x n p) (other_twice me))) h)
       | inr says ↦
           let x : Sending = says.message in
           let some : m ≡ Some x.message = now.message ∙ says.said in
@@ -231,13 +231,13 @@ other-on sc hands at sites me i frame k r m s a b lawful now j z runs lands h =
           ∙ ap (λ f. coming_of sc (other me) j i f (record { tick = k; message = x.message }) ∷ []) (sym now.in_frame) in
           let after : a.time < e.time =
           subst (λ t. t < e.time) (ap (λ y. time_of (clock_of sc y i) k) (other_twice me) ∙ sym now.time)
-          (comes-after sc lawful (other me) j i frame (record { tick = k; message = x.message })) in
+          (comes-after lawful (other me) j i frame (record { tick = k; message = x.message })) in
           subst (λ m. IsUp sc hands new a.time (other me) j (at (other me) j) (reached sc me i frame k m (other me) j z)) (sym some)
           (subst (IsUp sc hands new a.time (other me) j (at (other me) j)) (sym (reached-running sc me i frame k x.message j z runs)) (record {
             st = h.st;
             a = h.a;
-            stands = stands-more sc hands old new a.time (other me) j (at (other me) j) i q z h.st h.a e
-                (subst (λ y. SendsFor (old y) (new y) i q) (sym (other_twice me)) (then-said sc hands at sites me i k r s a b now.there now.pend says)) refl
+            stands = stands-more new
+                (subst (λ y. SendsFor (old y) (new y) i q) (sym (other_twice me)) (then-said sc hands at sites me i now.there now.pend says)) refl
                 (subst (λ y. i < count_of y sc.sizes) (sym (other_twice me)) now.counted) after entry
                 (subst (λ y. is_good_at sc (moment sc hands q) y i ≡ true) (sym (other_twice me)) now.good)
                 (lands x says.is says.tick h.st h.a h.stands) h.stands;
@@ -252,26 +252,26 @@ AllLand sc hands at sites me i frame k t =
     → Lands sc hands (other me) j (at (other me) j) (at me i) st (on_way sc me i frame k x.message j)
 
 -- any other node that runs still stands after the tick
-any-on : (sc : Scenario) (hands : List HandIn) (now : ℕ) (at : Side → ℕ → ℕ) (sites : Each Site) (me : Side) (i frame k r : ℕ) (m : Option Message) (s : Site) (a : Timed) (b : Option Timed)
+any-on : {sc : Scenario} {hands : List HandIn} {now : ℕ} {at : Side → ℕ → ℕ} {sites : Each Site} {me : Side} {i frame k r : ℕ} {m : Option Message} {s : Site} {a : Timed} {b : Option Timed}
     → IsLawful sc → now ≤ a.time → AllPend a.time sites → TicksNow sc hands at sites me i frame k r m s a b → AllLand sc hands at sites me i frame k a.time
-    → SitesStand sc hands now at sites → (side : Side) (j : ℕ) (z : Site) → (side ≡ me) ⊎ (side ≡ other me) → slice_get (of_kind side sites) j ≡ Some z → z.runs ≡ true
+    → SitesStand sc hands now at sites → (side : Side) (j : ℕ) {z : Site} → (side ≡ me) ⊎ (side ≡ other me) → slice_get (of_kind side sites) j ≡ Some z → z.runs ≡ true
     → IsUp sc hands (sent_then sc hands at sites me i r b) a.time side j (at side j) (reached sc me i frame k m side j z)
 unfolding AllLand AllPend
-any-on sc hands now at sites me i frame k r m s a b lawful later pend ticks land h side j z (inl same) there runs =
+any-on {sc} {hands} {now} {at} {sites} {me} {i} {frame} {k} {r} {m} {a} {b} lawful later pend ticks land h side j {z} (inl same) there runs =
     let old : Side → ℕ → ℕ → Bool = sent_by sc hands at sites in
     let new : Side → ℕ → ℕ → Bool = sent_then sc hands at sites me i r b in
     let node : IsUp sc hands old now side j (at side j) z = h.up side j z there runs in
     let on : IsUp sc hands old a.time side j (at side j) z = record {
       st = node.st;
       a = node.a;
-      stands = stands-on sc hands old now a.time side j (at side j) z node.st node.a later (pend side j z there) node.stands;
+      stands = stands-on a.time later (pend side j z there) node.stands;
     } in
     let not_reached : reached sc me i frame k m side j z ≡ z =
     reached-not sc me i frame k m side j z (ap (λ y. same_side y (other me) && z.runs) same ∙ ap (λ x. x && z.runs) (kind-other me)) in
     subst (IsUp sc hands new a.time side j (at side j)) (sym not_reached)
-    (up-same sc hands old new a.time side j (at side j) z
+    (up-same new
     (λ n p. ap (λ y. new (other y) n p) same ∙ same-kind-on sc hands at sites me i r b n p ∙ sym (ap (λ y. old (other y) n p) same)) on)
-any-on sc hands now at sites me i frame k r m s a b lawful later pend ticks land h side j z (inr same) there runs =
+any-on {sc} {hands} {now} {at} {sites} {me} {i} {frame} {k} {r} {m} {a} {b} lawful later pend ticks land h side j {z} (inr same) there runs =
     let old : Side → ℕ → ℕ → Bool = sent_by sc hands at sites in
     let new : Side → ℕ → ℕ → Bool = sent_then sc hands at sites me i r b in
     let its : slice_get (of_kind (other me) sites) j ≡ Some z = ap (λ y. slice_get (of_kind y sites) j) (sym same) ∙ there in
@@ -279,24 +279,24 @@ any-on sc hands now at sites me i frame k r m s a b lawful later pend ticks land
     let on : IsUp sc hands old a.time (other me) j (at (other me) j) z = record {
       st = node.st;
       a = node.a;
-      stands = stands-on sc hands old now a.time (other me) j (at (other me) j) z node.st node.a later (pend (other me) j z its) node.stands;
+      stands = stands-on a.time later (pend (other me) j z its) node.stands;
     } in
     subst (λ y. IsUp sc hands new a.time y j (at y j) (reached sc me i frame k m y j z)) (sym same)
-    (other-on sc hands at sites me i frame k r m s a b lawful ticks j z runs (land j z its) on)
+    (other-on lawful ticks runs (land j z its) on)
 
 -- after one tick all nodes of the world still stand
-pub tick-keeps-world : (sc : Scenario) (hands : List HandIn) (now : ℕ) (at : Side → ℕ → ℕ) (sites : Each Site) (me : Side) (i frame k r : ℕ) (m : Option Message) (change : Site → Site) (s : Site) (a : Timed) (b : Option Timed)
+pub tick-keeps-world : {sc : Scenario} {hands : List HandIn} {now : ℕ} {at : Side → ℕ → ℕ} {sites : Each Site} {me : Side} {i frame k r : ℕ} {m : Option Message} (change : Site → Site) {s : Site} {a : Timed} {b : Option Timed}
     → IsLawful sc → now ≤ a.time → AllPend a.time sites → TicksNow sc hands at sites me i frame k r m s a b → AllLand sc hands at sites me i frame k a.time
     → (change s).ahead ≡ b
     → (((change s).runs ≡ true) × IsUp sc hands (sent_by sc hands at sites) a.time me i r (change s)) ⊎ (((change s).runs ≡ false) × IsDown sc hands me i r (change s))
     → SitesStand sc hands now at sites
     → SitesStand sc hands a.time (moved me i r at) (with_message sc me i frame k m (at_node me i change sites))
-tick-keeps-world sc hands now at sites me i frame k r m change s a b lawful later pend ticks land ahead after h =
+tick-keeps-world {sc} {hands} {at} {sites} {me} {i} {frame} {k} {r} {m} change {s} {a} {b} lawful later pend ticks land ahead after h =
     let old : Side → ℕ → ℕ → Bool = sent_by sc hands at sites in
     let new : Side → ℕ → ℕ → Bool = sent_then sc hands at sites me i r b in
     let sites2 : Each Site = with_message sc me i frame k m (at_node me i change sites) in
     let at2 : Side → ℕ → ℕ = moved me i r at in
-    let is_new : new ≡ sent_by sc hands at2 sites2 = sent-then-is sc hands at sites me i r frame k b m change s ticks.there ahead in
+    let is_new : new ≡ sent_by sc hands at2 sites2 = sent-then-is sc hands at sites me i r frame k m change ticks.there ahead in
     let own_reach : (z : Site) → reached sc me i frame k m me i z ≡ z =
     λ z. reached-not sc me i frame k m me i z (ap (λ x. x && z.runs) (kind-other me)) in
     record {
@@ -316,7 +316,7 @@ tick-keeps-world sc hands now at sites me i frame k r m change s a b lawful late
                 ap change s_is ∙ sym (own_reach (change was.0)) ∙ ap (λ y. reached sc me i frame k m y i (change was.0)) (sym is.0)
                 ∙ ap (λ n. reached sc me i frame k m side n (change was.0)) (sym is.1) ∙ g in
                 let own : IsUp sc hands new a.time me i r (change s) = elim after [
-                  | inl on ↦ up-same sc hands old new a.time me i r (change s) (same-kind-on sc hands at sites me i r b) on.1
+                  | inl on ↦ up-same new (same-kind-on sc hands at sites me i r b) on.1
                   | inr off ↦ absurd (true≢false (sym (ap (λ (s : Site). s.runs) z_is ∙ runs) ∙ off.0))
                 ] in
                 subst (IsUp sc hands new a.time side j r) z_is
@@ -325,7 +325,7 @@ tick-keeps-world sc hands now at sites me i frame k r m change s a b lawful late
                 let same : Same was.0 (reached sc me i frame k m side j was.0) = reached-same sc me i frame k m side j was.0 in
                 let on : was.0.runs ≡ true = sym same.runs ∙ ap (λ (s : Site). s.runs) g ∙ runs in
                 subst (IsUp sc hands new a.time side j (at side j)) g
-                (any-on sc hands now at sites me i frame k r m s a b lawful later pend ticks land h side j was.0 (one_or_other side me) was.1.0 on)
+                (any-on lawful later pend ticks land h side j (one_or_other side me) was.1.0 on)
           ] in
           subst (λ f. IsUp sc hands f a.time side j (at2 side j) z) is_new (go (is_node me i side j) refl was.1.1);
       down = λ side j z e stopped.

@@ -23,10 +23,10 @@ no-lines sc frame f slot None value i e = by (f == frame)
     by false = refl
 no-lines sc frame f slot (Some owner) value i e = cc
 
-slot-alike : (sc : Scenario) (hands : List HandIn) (p frame i j : ℕ) (s : IsServed sc hands p) → IsGoodPort sc frame i → IsGoodPort sc frame j
+slot-alike : {sc hands p : _} (frame i j : ℕ) (s : IsServed sc hands p) → IsGoodPort sc frame i → IsGoodPort sc frame j
     → told_of frame i (Slot (moment sc hands p).frame s.slot (lines_in sc (moment sc hands p).frame s.slot (owner_sending (role_of sc.sizes s.slot) s.sender) s.value))
     ≡ told_of frame j (Slot (moment sc hands p).frame s.slot (lines_in sc (moment sc hands p).frame s.slot (owner_sending (role_of sc.sizes s.slot) s.sender) s.value))
-slot-alike sc hands p frame i j s good_i good_j =
+slot-alike {sc} {hands} {p} frame i j s good_i good_j =
     elim (cases_lt (last_data_slot sc.sizes) s.slot) [
       | inl past ↦
           let none : owner_sending (role_of sc.sizes s.slot) s.sender ≡ None = no-owner sc.sizes s.slot s.sender (inr (omega arith)) in
@@ -54,17 +54,17 @@ slot-alike sc hands p frame i j s good_i good_j =
     by f slot owner value good_here good_there = with_test f slot owner value good_here good_there (f == frame) refl
 
 -- two good ports have delivered the same at each moment
-moments-alike : (sc : Scenario) (hands : List HandIn) → IsLawful sc → (frame i j : ℕ) → IsGoodPort sc frame i → IsGoodPort sc frame j → (p : ℕ)
+moments-alike : {sc : _} (hands : List HandIn) → IsLawful sc → (frame i j : ℕ) → IsGoodPort sc frame i → IsGoodPort sc frame j → (p : ℕ)
     → told_in frame i (moment sc hands p).book ≡ told_in frame j (moment sc hands p).book
-moments-alike sc hands law frame i j good_i good_j zero = first-told sc hands frame i ∙ sym (first-told sc hands frame j)
-moments-alike sc hands law frame i j good_i good_j (suc p) =
-    let before : told_in frame i (moment sc hands p).book ≡ told_in frame j (moment sc hands p).book = moments-alike sc hands law frame i j good_i good_j p in
+moments-alike {sc} hands law frame i j good_i good_j zero = first-told sc hands frame i ∙ sym (first-told sc hands frame j)
+moments-alike {sc} hands law frame i j good_i good_j (suc p) =
+    let before : told_in frame i (moment sc hands p).book ≡ told_in frame j (moment sc hands p).book = moments-alike hands law frame i j good_i good_j p in
     elim (step-tells sc hands (moment sc hands p) frame) [
       | inl none ↦ none i ∙ before ∙ sym (none j)
       | inr adds ↦
-          let s : IsServed sc hands p = served sc hands law p adds in
+          let s : IsServed sc hands p = served hands law p adds in
           ap (port_deliveries frame i) s.given ∙ told-more frame i (moment sc hands p).book.given _
-          ∙ ap (λ l. told_in frame i (moment sc hands p).book ++ l) (slot-alike sc hands p frame i j s good_i good_j)
+          ∙ ap (λ l. told_in frame i (moment sc hands p).book ++ l) (slot-alike frame i j s good_i good_j)
           ∙ ap (λ l. l ++ told_of frame j (Slot (moment sc hands p).frame s.slot (lines_in sc (moment sc hands p).frame s.slot (owner_sending (role_of sc.sizes s.slot) s.sender) s.value))) before
           ∙ sym (ap (port_deliveries frame j) s.given ∙ told-more frame j (moment sc hands p).book.given _)
     ]
@@ -73,5 +73,5 @@ pub groups-agree : GroupsAgree
 groups-agree sc hands law which members frame i j good_i good_j =
     ap (group_value which members)
     (ap (port_deliveries frame i) (records-are sc hands)
-    ∙ moments-alike sc hands law frame i j good_i good_j (steps_of sc)
+    ∙ moments-alike hands law frame i j good_i good_j (steps_of sc)
     ∙ ap (port_deliveries frame j) (sym (records-are sc hands)))

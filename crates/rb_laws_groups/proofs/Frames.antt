@@ -13,8 +13,8 @@ use Rattle.rb_laws_groups.proofs.{Added.{first-told, told_in}, Owned.{HasState, 
 -- The data slots are complete.
 
 -- the slots before a complete one are complete
-pub slot-earlier : (sc : Scenario) (hands : List HandIn) (frame slot last : ℕ) → slot ≤ last → IsComplete sc hands frame last → IsComplete sc hands frame slot
-slot-earlier sc hands frame slot last within complete =
+pub slot-earlier : (sc : Scenario) (hands : List HandIn) (frame slot : ℕ) {last : ℕ} → slot ≤ last → IsComplete sc hands frame last → IsComplete sc hands frame slot
+slot-earlier sc hands frame slot {last} within complete =
     running_earlier sc hands (frame * (windows_in sc.sizes + 1) + 3 * slot + 4 - 1) (frame * (windows_in sc.sizes + 1) + 3 * last + 4 - 1)
     (le (frame * (windows_in sc.sizes + 1)) slot last within) complete
   where
@@ -46,10 +46,10 @@ abbrev pub number_of : Scenario → ℕ → ℕ → ℕ
 number_of sc frame slot = frame * (windows_in sc.sizes + 1) + 3 * slot + 1 - 1
 
 -- before the data slots nothing is delivered
-none-early : (sc : Scenario) (hands : List HandIn) → IsLawful sc → (frame port : ℕ) → told_in frame port (before_slot sc hands frame sc.sizes.bius).book ≡ []
-none-early sc hands law frame port =
+none-early : {sc : _} (hands : List HandIn) → IsLawful sc → (frame port : ℕ) → told_in frame port (before_slot sc hands frame sc.sizes.bius).book ≡ []
+none-early {sc} hands law frame port =
     ap (λ n. told_in frame port (moment sc hands n).book) (sym (from_zero (number_of sc frame sc.sizes.bius)))
-    ∙ quiet-steps sc hands law frame port 0 (number_of sc frame sc.sizes.bius) (λ q low high slot at.
+    ∙ quiet-steps hands law frame port 0 (number_of sc frame sc.sizes.bius) (λ q low high slot at.
     inl (early (frame * (windows_in sc.sizes + 1)) q slot sc.sizes.bius high at))
     ∙ first-told sc hands frame port
   where
@@ -65,22 +65,22 @@ abbrev pub AreDelivered : Scenario → List HandIn → ℕ → ℕ → (ℕ → 
 AreDelivered sc hands frame port owner n =
     (i : ℕ) → IsDeliveredOf sc hands frame i (first_among owner i (range_with_len sc.sizes.bius n)) (first_of i (told_in frame port (before_slot sc hands frame (sc.sizes.bius + n)).book))
 
-data-slots : (sc : Scenario) (hands : List HandIn) → IsLawful sc → (frame : ℕ) → AreServed sc hands frame → (owner : ℕ → Option ℕ) → IsSchedule sc hands frame owner
+data-slots : {sc hands : _} → IsLawful sc → {frame : ℕ} → AreServed sc hands frame → {owner : _} → IsSchedule sc hands frame owner
     → (port : ℕ) → IsGoodPort sc frame port → (n : ℕ) → n ≤ sc.sizes.data_slots → AreDelivered sc hands frame port owner n
-data-slots sc hands law frame are owner schedule port good zero le i =
-    ap (λ s. first_of i (told_in frame port (before_slot sc hands frame s).book)) (same sc.sizes.bius) ∙ ap (first_of i) (none-early sc hands law frame port)
+data-slots {sc} {hands} law {frame} are schedule port good zero le i =
+    ap (λ s. first_of i (told_in frame port (before_slot sc hands frame s).book)) (same sc.sizes.bius) ∙ ap (first_of i) (none-early hands law frame port)
   where
     same : (a : ℕ) → a + 0 ≡ a
     same a = omega arith
-data-slots sc hands law frame are owner schedule port good (suc n) le i =
+data-slots {sc} {hands} law {frame} are {owner} schedule port good (suc n) le i =
     let slot : ℕ = sc.sizes.bius + n in
     let within : slot ≤ last_data_slot sc.sizes = omega (arith, le) in
     let below : slot < sync_slot_of sc.sizes = omega (arith, le) in
     let adds : SlotAdds sc hands frame slot port owner =
-    slot-adds sc hands law frame slot port below (slot-earlier sc hands frame slot (last_data_slot sc.sizes) within are) (good_earlier sc Biu port frame slot (last_data_slot sc.sizes) within good) owner
+    slot-adds law port below (slot-earlier sc hands frame slot within are) (good_earlier sc Biu port frame slot (last_data_slot sc.sizes) within good) owner
     (λ st before. schedule slot (omega arith) within Biu port st before) in
     let before : IsDeliveredOf sc hands frame i (first_among owner i (range_with_len sc.sizes.bius n)) (first_of i (told_in frame port (before_slot sc hands frame slot).book)) =
-    data-slots sc hands law frame are owner schedule port good n (omega (arith, le)) i in
+    data-slots law are schedule port good n (omega (arith, le)) i in
     let both : IsDeliveredOf sc hands frame i (or_else (first_among owner i (range_with_len sc.sizes.bius n)) (first_among owner i (slot ∷ [])))
     (or_else (first_of i (told_in frame port (before_slot sc hands frame slot).book)) (first_of i adds.more)) =
     delivered-more sc hands frame i (first_among owner i (range_with_len sc.sizes.bius n)) (first_among owner i (slot ∷ []))
@@ -105,15 +105,15 @@ ended-at sc hands m e =
     ap (λ b. (stepped sc hands m b (nat_lt m.window (windows_in sc.sizes))).book.ended) (ap (λ f. f == sc.frames) e ∙ eq_self sc.frames) ∙ ended-end m.book
 
 -- a run that goes on has not come to its last step
-pub is-early : (sc : Scenario) (hands : List HandIn) → IsLawful sc → (n : ℕ) → IsRunning (moment sc hands n) → n ≤ steps_of sc
-is-early sc hands law n running =
+pub is-early : {sc : _} (hands : List HandIn) → IsLawful sc → (n : ℕ) → IsRunning (moment sc hands n) → n ≤ steps_of sc
+is-early {sc} hands law n running =
     elim (cases_lt (steps_of sc) n) [
       | inr le ↦ le
       | inl past ↦
           let size : ℕ = windows_in sc.sizes + 1 in
           let last : ℕ = sc.frames * size in
           let run : IsRunning (moment sc hands (suc last)) = running_earlier sc hands (suc last) n (before last n past) running in
-          let a : IsAgreed sc hands last = agreement sc hands law last (running_before sc hands (moment sc hands last) run) in
+          let a : IsAgreed sc hands last = agreement hands law last (running_before sc hands (moment sc hands last) run) in
           let place : last ≡ (moment sc hands last).frame * size + (moment sc hands last).window = a.agree.place in
           let bound : (moment sc hands last).window ≤ windows_in sc.sizes = a.agree.window in
           let frame : (moment sc hands last).frame ≡ sc.frames =
@@ -125,22 +125,22 @@ is-early sc hands law n running =
     before last n h = omega (arith, h)
 
 -- what a good port has delivered of a BIU in all
-pub delivered-of : (sc : Scenario) (hands : List HandIn) → IsLawful sc → (frame : ℕ) → AreServed sc hands frame → (owner : ℕ → Option ℕ) → IsSchedule sc hands frame owner
+pub delivered-of : {sc hands : _} → IsLawful sc → {frame : ℕ} → AreServed sc hands frame → {owner : _} → IsSchedule sc hands frame owner
     → (port : ℕ) → IsGoodPort sc frame port → (i : ℕ)
     → IsDeliveredOf sc hands frame i (first_slot sc.sizes owner i) (first_of i (port_deliveries frame port (records_of sc hands)))
-delivered-of sc hands law frame are owner schedule port good i =
+delivered-of {sc} {hands} law {frame} are {owner} schedule port good i =
     let n : ℕ = number_of sc frame (sc.sizes.bius + sc.sizes.data_slots) in
     let size : ℕ = windows_in sc.sizes + 1 in
     let some : 1 ≤ sc.sizes.data_slots = law.sizes.some_slot in
     let running : IsRunning (moment sc hands n) =
     ap (λ k. (moment sc hands k).book.ended) (sym (same (frame * size) sc.sizes.bius sc.sizes.data_slots some)) ∙ are in
-    let le : n ≤ steps_of sc = is-early sc hands law n running in
+    let le : n ≤ steps_of sc = is-early hands law n running in
     let rest : told_in frame port (moment sc hands (n + (steps_of sc - n))).book ≡ told_in frame port (moment sc hands n).book =
-    quiet-steps sc hands law frame port n (steps_of sc - n) (λ q low high slot at. inr (late (frame * size) q slot (sc.sizes.bius + sc.sizes.data_slots) low at)) in
+    quiet-steps hands law frame port n (steps_of sc - n) (λ q low high slot at. inr (late (frame * size) q slot (sc.sizes.bius + sc.sizes.data_slots) low at)) in
     let all : told_in frame port (moment sc hands n).book ≡ port_deliveries frame port (records_of sc hands) =
     sym rest ∙ ap (λ k. told_in frame port (moment sc hands k).book) (add-sub_of_le le) ∙ ap (port_deliveries frame port) (sym (records-are sc hands)) in
     subst (λ ds. IsDeliveredOf sc hands frame i (first_slot sc.sizes owner i) (first_of i ds)) all
-    (data-slots sc hands law frame are owner schedule port good sc.sizes.data_slots (omega arith) i)
+    (data-slots law are schedule port good sc.sizes.data_slots (omega arith) i)
   where
     same : (a bius slots : ℕ) → 1 ≤ slots → a + 3 * (bius + slots - 1) + 4 - 1 ≡ a + 3 * (bius + slots) + 1 - 1
     same a bius slots some = omega (arith, some)
@@ -172,8 +172,8 @@ frames-have-a-schedule sc hands law frame are port good = (owner, held)
     held slot from within me i st before =
         let some : 1 ≤ sc.sizes.data_slots = law.sizes.some_slot in
         let below : slot < sync_slot_of sc.sizes = omega (arith, within, some) in
-        let complete : IsComplete sc hands frame slot = slot-earlier sc hands frame slot (last_data_slot sc.sizes) within are in
+        let complete : IsComplete sc hands frame slot = slot-earlier sc hands frame slot within are in
         let state : HasState sc hands frame slot port =
-        has-state sc hands law frame slot port below complete (good_earlier sc Biu port frame slot (last_data_slot sc.sizes) within good) in
-        same-owner (role_of sc.sizes slot) st state.st (one-schedule sc hands law frame slot from (omega (arith, below)) complete me Biu i port st state.st before state.is)
+        has-state law port below complete (good_earlier sc Biu port frame slot (last_data_slot sc.sizes) within good) in
+        same-owner (role_of sc.sizes slot) st state.st (one-schedule hands law frame slot from (omega (arith, below)) complete me Biu i port st state.st before state.is)
         ∙ ap (λ o. owner_held sc o slot) (sym state.is.state)

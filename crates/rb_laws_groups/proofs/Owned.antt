@@ -17,13 +17,13 @@ abbrev pub IsQuiet : Scenario → List HandIn → ℕ → ℕ → Type 0
 IsQuiet sc hands frame p =
     (slot : ℕ) → suc p ≡ frame * (windows_in sc.sizes + 1) + 3 * slot + 3 → (slot < sc.sizes.bius) ⊎ (sc.sizes.bius + sc.sizes.data_slots ≤ slot)
 
-quiet-step : (sc : Scenario) (hands : List HandIn) → IsLawful sc → (frame i p : ℕ) → IsQuiet sc hands frame p
+quiet-step : {sc : _} (hands : List HandIn) → IsLawful sc → (frame i : ℕ) {p : ℕ} → IsQuiet sc hands frame p
     → told_in frame i (moment sc hands (suc p)).book ≡ told_in frame i (moment sc hands p).book
-quiet-step sc hands law frame i p quiet =
+quiet-step {sc} hands law frame i {p} quiet =
     elim (step-tells sc hands (moment sc hands p) frame) [
       | inl none ↦ none i
       | inr adds ↦
-          let s : IsServed sc hands p = served sc hands law p adds in
+          let s : IsServed sc hands p = served hands law p adds in
           ap (port_deliveries frame i) s.given ∙ told-more frame i (moment sc hands p).book.given _
           ∙ ap (λ l. told_in frame i (moment sc hands p).book ++ l)
           (by (moment sc hands p).frame s.slot (owner_sending (role_of sc.sizes s.slot) s.sender) s.value ((moment sc hands p).frame == frame) refl (λ same.
@@ -37,16 +37,16 @@ quiet-step sc hands law frame i p quiet =
     by f slot (Some owner) value true e idle = let none : Some owner ≡ None = idle (eqb-true f frame e) in cc
     by f slot owner value false e idle = refl
 
-pub quiet-steps : (sc : Scenario) (hands : List HandIn) → IsLawful sc → (frame i p k : ℕ) → ((q : ℕ) → p ≤ q → q < p + k → IsQuiet sc hands frame q)
+pub quiet-steps : {sc : _} (hands : List HandIn) → IsLawful sc → (frame i p k : ℕ) → ((q : ℕ) → p ≤ q → q < p + k → IsQuiet sc hands frame q)
     → told_in frame i (moment sc hands (p + k)).book ≡ told_in frame i (moment sc hands p).book
-quiet-steps sc hands law frame i p zero quiet = ap (λ n. told_in frame i (moment sc hands n).book) (same p)
+quiet-steps {sc} hands law frame i p zero quiet = ap (λ n. told_in frame i (moment sc hands n).book) (same p)
   where
     same : (p : ℕ) → p + 0 ≡ p
     same p = omega arith
-quiet-steps sc hands law frame i p (suc k) quiet =
+quiet-steps {sc} hands law frame i p (suc k) quiet =
     ap (λ n. told_in frame i (moment sc hands n).book) (same p k)
-    ∙ quiet-step sc hands law frame i (p + k) (quiet (p + k) (omega arith) (omega arith))
-    ∙ quiet-steps sc hands law frame i p k (λ q low high. quiet q low (omega (arith, high)))
+    ∙ quiet-step hands law frame i (quiet (p + k) (omega arith) (omega arith))
+    ∙ quiet-steps hands law frame i p k (λ q low high. quiet q low (omega (arith, high)))
   where
     same : (p k : ℕ) → p + suc k ≡ suc (p + k)
     same p k = omega arith
@@ -92,13 +92,13 @@ pub record HasState (sc : Scenario) (hands : List HandIn) (frame slot port : ℕ
   pub st : NodeState
   pub is : IsGoodBefore sc hands frame slot Biu port st
 
-pub has-state : (sc : Scenario) (hands : List HandIn) → IsLawful sc → (frame slot port : ℕ) → slot < sync_slot_of sc.sizes → IsComplete sc hands frame slot
+pub has-state : {sc hands : _} → IsLawful sc → {frame slot : ℕ} (port : ℕ) → slot < sync_slot_of sc.sizes → IsComplete sc hands frame slot
     → is_good sc Biu port frame slot ≡ true → HasState sc hands frame slot port
-has-state sc hands law frame slot port below complete good =
-    let r : IsSlot sc hands frame slot = slot_runs sc hands law frame slot below complete in
+has-state {sc} {hands} law {frame} {slot} port below complete good =
+    let r : IsSlot sc hands frame slot = slot_runs law below complete in
     let m : Moment = before_slot sc hands frame slot in
-    let now : is_good_now sc m Biu port ≡ true = good_in_stage sc hands r.steps m r.shared frame slot 0 r.first r.frame_is Biu port good in
-    let mine : Present (slice_get (of_kind Biu m.nodes) port) = good_state sc hands r.steps m r.shared r.first.agree Biu port now in
+    let now : is_good_now sc m Biu port ≡ true = good_in_stage r.first r.frame_is Biu port good in
+    let mine : Present (slice_get (of_kind Biu m.nodes) port) = good_state r.first.agree Biu port now in
     record { st = mine.value; is = record { good = good; state = mine.is } }
 
 -- the data slot has an owner and a value, which is the offered word if the owner is good
@@ -107,18 +107,18 @@ record HasSlotValue (sc : Scenario) (hands : List HandIn) (frame slot owner : �
   pub given : HasRecord sc hands frame slot (lines_of sc frame slot owner value)
   pub word : is_good sc Biu owner frame slot ≡ true → value ≡ Word (offered_in sc hands frame slot owner)
 
-slot-value : (sc : Scenario) (hands : List HandIn) → IsLawful sc → (frame slot : ℕ) → slot < sync_slot_of sc.sizes → IsComplete sc hands frame slot
-    → (port : ℕ) (st : NodeState) → IsGoodBefore sc hands frame slot Biu port st → (owner : ℕ) → owner_at sc.sizes st slot ≡ Some owner → HasSlotValue sc hands frame slot owner
-slot-value sc hands law frame slot below complete port st before owner owns =
+slot-value : {sc hands : _} → IsLawful sc → {frame slot : ℕ} → slot < sync_slot_of sc.sizes → IsComplete sc hands frame slot
+    → {port st : _} → IsGoodBefore sc hands frame slot Biu port st → {owner : ℕ} → owner_at sc.sizes st slot ≡ Some owner → HasSlotValue sc hands frame slot owner
+slot-value {sc} {hands} law {frame} {slot} below complete {port} {st} before {owner} owns =
     elim (true_or_false (is_good sc Biu owner frame slot)) [
       | inl good ↦ record {
         value = Word (offered_in sc hands frame slot owner);
-        given = deliver-word sc hands law frame slot below complete Biu port st before owner owns good;
+        given = deliver-word hands law frame slot below complete Biu port st before owner owns good;
         word = λ g. refl;
       }
       | inr faulty ↦
           let one : DeliversOneValue sc hands frame slot (Some owner) =
-          subst (DeliversOneValue sc hands frame slot) owns (deliver-alike sc hands law frame slot below complete Biu port st before) in
+          subst (DeliversOneValue sc hands frame slot) owns (deliver-alike hands law frame slot below complete Biu port st before) in
           record { value = one.0; given = one.1; word = λ g. absurd (let both : true ≡ false = sym g ∙ faulty in cc) }
     ]
 
@@ -144,13 +144,13 @@ pub record SlotAdds (sc : Scenario) (hands : List HandIn) (frame slot port : ℕ
   pub told : told_in frame port (after_slot sc hands frame slot).book ≡ told_in frame port (before_slot sc hands frame slot).book ++ more
   pub each : (i : ℕ) → IsDeliveredOf sc hands frame i (first_among owner i (slot ∷ [])) (first_of i more)
 
-pub slot-adds : (sc : Scenario) (hands : List HandIn) → IsLawful sc → (frame slot port : ℕ) → slot < sync_slot_of sc.sizes → IsComplete sc hands frame slot
+pub slot-adds : {sc hands : _} → IsLawful sc → {frame slot : ℕ} (port : ℕ) → slot < sync_slot_of sc.sizes → IsComplete sc hands frame slot
     → is_good sc Biu port frame slot ≡ true → (owner : ℕ → Option ℕ)
     → ((st : NodeState) → IsGoodBefore sc hands frame slot Biu port st → owner_at sc.sizes st slot ≡ owner slot) → SlotAdds sc hands frame slot port owner
-slot-adds sc hands law frame slot port below complete good owner held = by (owner slot) refl
+slot-adds {sc} {hands} law {frame} {slot} port below complete good owner held = by (owner slot) refl
   where
     state : HasState sc hands frame slot port
-    state = has-state sc hands law frame slot port below complete good
+    state = has-state law port below complete good
 
     owned : owner_at sc.sizes state.st slot ≡ owner slot
     owned = held state.st state.is
@@ -176,11 +176,11 @@ slot-adds sc hands law frame slot port below complete good owner held = by (owne
     by : (o : Option ℕ) → owner slot ≡ o → SlotAdds sc hands frame slot port owner
     by None e = record {
       more = [];
-      told = told-by-none sc hands frame slot port (subst (DeliversOneValue sc hands frame slot) (owned ∙ e) (deliver-alike sc hands law frame slot below complete Biu port state.st state.is));
+      told = told-by-none sc hands frame slot port (subst (DeliversOneValue sc hands frame slot) (owned ∙ e) (deliver-alike hands law frame slot below complete Biu port state.st state.is));
       each = λ i. idle i (owner slot) e;
     }
     by (Some p) e =
-        let v : HasSlotValue sc hands frame slot p = slot-value sc hands law frame slot below complete port state.st state.is p (owned ∙ e) in
+        let v : HasSlotValue sc hands frame slot p = slot-value law below complete state.is (owned ∙ e) in
         record {
           more = record { frame = frame; slot = slot; sender = p; value = v.value } ∷ [];
           told = told-by-record sc hands frame slot port p v.value good v.given;

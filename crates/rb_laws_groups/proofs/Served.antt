@@ -24,27 +24,27 @@ pub record IsServed (sc : Scenario) (hands : List HandIn) (p : ℕ) : Type 0 whe
       ≡ (moment sc hands p).book.given
       ++ Slot (moment sc hands p).frame slot (lines_in sc (moment sc hands p).frame slot (owner_sending (role_of sc.sizes slot) sender) value) ∷ []
 
-pub served : (sc : Scenario) (hands : List HandIn) → IsLawful sc → (p : ℕ) → AddsSlot sc (moment sc hands p) (moment sc hands (suc p)).book → IsServed sc hands p
-served sc hands law p x =
+pub served : {sc : _} (hands : List HandIn) → IsLawful sc → (p : ℕ) → AddsSlot sc (moment sc hands p) (moment sc hands (suc p)).book → IsServed sc hands p
+served {sc} hands law p x =
     let m : Moment = moment sc hands p in
     let size : ℕ = windows_in sc.sizes + 1 in
     let before : IsRunning m = running_before sc hands m x.running in
-    let a : IsAgreed sc hands p = agreement sc hands law p before in
+    let a : IsAgreed sc hands p = agreement hands law p before in
     let place : p ≡ m.frame * size + m.window = a.agree.place in
     let at : m.window ≡ 3 * x.slot + 2 = x.at in
     let complete : IsComplete sc hands m.frame x.slot =
     ap (λ n. (moment sc hands n).book.ended) (last (m.frame * size) x.slot m.window p at place) ∙ x.running in
-    let r : IsSlot sc hands m.frame x.slot = slot_runs sc hands law m.frame x.slot x.below complete in
-    let lines : m.book.lines ≡ lines_in sc m.frame x.slot (owner_sending (role_of sc.sizes x.slot) (sender_of sc.sizes r.shared x.slot)) (value_of_slot sc hands m.frame x.slot r) =
+    let r : IsSlot sc hands m.frame x.slot = slot_runs law x.below complete in
+    let lines : m.book.lines ≡ lines_in sc m.frame x.slot (owner_sending (role_of sc.sizes x.slot) (sender_of sc.sizes r.shared x.slot)) (value_of_slot r) =
     ap (λ n. (moment sc hands n).book.lines) (third (m.frame * size) x.slot m.window p at place)
-    ∙ ap (λ m. m.book.lines) (sym r.after_second) ∙ slot-lines sc hands m.frame x.slot r in
+    ∙ ap (λ m. m.book.lines) (sym r.after_second) ∙ slot-lines r in
     record {
       slot = x.slot;
       below = x.below;
       number = omega (arith, place, at);
       complete = complete;
       sender = sender_of sc.sizes r.shared x.slot;
-      value = value_of_slot sc hands m.frame x.slot r;
+      value = value_of_slot r;
       given = x.given ∙ ap (λ l. m.book.given ++ Slot m.frame x.slot l ∷ []) lines;
     }
   where

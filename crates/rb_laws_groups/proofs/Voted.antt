@@ -17,10 +17,10 @@ number-is n None e = cc
 number-is n (Some k) e = ap (λ k. Some k) (eqb-true k n e)
 
 -- what a good owner offers is delivered
-offer-delivered : (sc : Scenario) (hands : List HandIn) (frame i word : ℕ) (slot : Option ℕ) (o : Option Heard) → IsDeliveredOf sc hands frame i slot o
+offer-delivered : (sc : Scenario) (hands : List HandIn) (frame i : ℕ) {word : ℕ} (slot : Option ℕ) {o : _} → IsDeliveredOf sc hands frame i slot o
     → offer_in sc hands frame i slot ≡ Some word → o ≡ Some (Word word)
-offer-delivered sc hands frame i word None o h e = cc
-offer-delivered sc hands frame i word (Some slot) o h e = by (is_good sc Biu i frame slot) refl e
+offer-delivered sc hands frame i None h e = cc
+offer-delivered sc hands frame i {word} (Some slot) {o} h e = by (is_good sc Biu i frame slot) refl e
   where
     by : (b : Bool) → is_good sc Biu i frame slot ≡ b → (if b then Some (offered_in sc hands frame slot i) else None) ≡ Some word → o ≡ Some (Word word)
     by true good e = let same : offered_in sc hands frame slot i ≡ word = cc in h.1 good ∙ ap (λ w. Some (Word w)) same
@@ -36,10 +36,10 @@ slot-there sc hands frame i (Some slot) o h e = refl
 abbrev pub AreOf : Scenario → List HandIn → ℕ → (ℕ → Option ℕ) → List Delivery → Type 0
 AreOf sc hands frame owner ds = (i : ℕ) → IsDeliveredOf sc hands frame i (first_slot sc.sizes owner i) (first_of i ds)
 
-member-value : (sc : Scenario) (hands : List HandIn) (frame : ℕ) (owner : ℕ → Option ℕ) (ds : List Delivery) (members i word : ℕ) → AreOf sc hands frame owner ds
+member-value : (sc : Scenario) (hands : List HandIn) (frame : ℕ) (owner : ℕ → Option ℕ) (ds : List Delivery) (members i : ℕ) {word : ℕ} → AreOf sc hands frame owner ds
     → has members i ≡ true → offer_of sc hands frame owner i ≡ Some word → value_of members ds i ≡ Some (Word word)
-member-value sc hands frame owner ds members i word are member offer =
-    ap (λ b. if b then first_of i ds else None) member ∙ offer-delivered sc hands frame i word (first_slot sc.sizes owner i) (first_of i ds) (are i) offer
+member-value sc hands frame owner ds members i are member offer =
+    ap (λ b. if b then first_of i ds else None) member ∙ offer-delivered sc hands frame i (first_slot sc.sizes owner i) (are i) offer
 
 -- a member that gave something owns a slot
 gave-slot : (sc : Scenario) (hands : List HandIn) (frame : ℕ) (owner : ℕ → Option ℕ) (ds : List Delivery) (members i : ℕ) → AreOf sc hands frame owner ds
@@ -78,11 +78,11 @@ most-finds sc hands law members frame served owner schedule word more port good 
     ds = port_deliveries frame port (records_of sc hands)
 
     are : AreOf sc hands frame owner ds
-    are i = delivered-of sc hands law frame served owner schedule port good i
+    are i = delivered-of law served schedule port good i
 
     said : (i : ℕ) → offers sc hands frame owner members word i ≡ true → value_of members ds i ≡ Some (Word word)
     said i e =
-        member-value sc hands frame owner ds members i word are (and_first (has members i) (is_number word (offer_of sc hands frame owner i)) e)
+        member-value sc hands frame owner ds members i are (and_first (has members i) (is_number word (offer_of sc hands frame owner i)) e)
         (number-is word (offer_of sc hands frame owner i) (and_second (has members i) (is_number word (offer_of sc hands frame owner i)) e))
 
 -- Mid.
@@ -187,10 +187,10 @@ mid-stays sc hands law members frame served owner schedule more low high offered
     ds = port_deliveries frame port (records_of sc hands)
 
     are : AreOf sc hands frame owner ds
-    are i = delivered-of sc hands law frame served owner schedule port good i
+    are i = delivered-of law served schedule port good i
 
     gave : (i : ℕ) → is_good_owner sc hands frame owner members i ≡ true → (word : ℕ) × ((value_of members ds i ≡ Some (Word word)) × ((low ≤ word) × (word ≤ high)))
     gave i e =
         let member : has members i ≡ true = and_first (has members i) (is_some (offer_of sc hands frame owner i)) e in
         let offer : Present (offer_of sc hands frame owner i) = present_if (offer_of sc hands frame owner i) (and_second (has members i) (is_some (offer_of sc hands frame owner i)) e) in
-        (offer.value, (member-value sc hands frame owner ds members i offer.value are member offer.is, offered i offer.value member offer.is))
+        (offer.value, (member-value sc hands frame owner ds members i are member offer.is, offered i offer.value member offer.is))

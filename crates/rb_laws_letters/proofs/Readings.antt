@@ -138,15 +138,15 @@ drop-first : (xs ys : List ℕ) → drop (length xs) (xs ++ ys) ≡ ys
 drop-first [] ys = refl
 drop-first (x ∷ xs) ys = drop-first xs ys
 
-more : (n wanted : ℕ) (bytes : List ℕ) → length bytes ≡ n → n < wanted → with_bytes wanted bytes ≡ keeps (Some (record { wanted = wanted; bytes = bytes }))
-more n wanted bytes e lt =
+more : {n : ℕ} (wanted : ℕ) (bytes : List ℕ) → length bytes ≡ n → n < wanted → with_bytes wanted bytes ≡ keeps (Some (record { wanted = wanted; bytes = bytes }))
+more wanted bytes e lt =
     ap (λ b. elim b as (λ _. Read) [ true ↦ keeps (Some (record { wanted = wanted; bytes = bytes })) | false ↦ with_last wanted bytes ])
     (lt-ltb (length bytes) wanted (omega (arith, e, lt)))
 
 -- the last bytes of a letter, filled with zeros, end it
-last : (wanted : ℕ) (letter zeros bytes : List ℕ) → bytes ≡ letter ++ zeros → length letter ≡ wanted → list_all is_zero zeros ≡ true
+last : {wanted : ℕ} (letter zeros : List ℕ) {bytes : _} → bytes ≡ letter ++ zeros → length letter ≡ wanted → list_all is_zero zeros ≡ true
     → with_bytes wanted bytes ≡ record { after = None; given = Some letter }
-last wanted letter zeros bytes is long all =
+last {wanted} letter zeros {bytes} is long all =
     let many = length-append letter zeros in
     let all_long : length bytes ≡ length (letter ++ zeros) = ap length is in
     let dropped : drop wanted bytes ≡ zeros = ap (λ n. drop n bytes) (sym long) ∙ ap (drop (length letter)) is ∙ drop-first letter zeros in
@@ -172,51 +172,51 @@ gives-last wanted done letter a b c ha hb hc e =
     let read = read-part a b c wanted done ha hb hc ∙ e in
     record { given = ap (λ (r : Read). option_to_list r.given ++ []) read; after = ap (λ (r : Read). r.after) read }
 
-gives-more : (wanted : ℕ) (done letter : List ℕ) (a b c : ℕ) (values : List Heard) → a < 256 → b < 256 → c < 256
+gives-more : (wanted : ℕ) (done : List ℕ) {letter : _} (a b c : ℕ) {values : _} → a < 256 → b < 256 → c < 256
     → with_bytes wanted (done ++ a ∷ b ∷ c ∷ []) ≡ keeps (opened wanted (done ++ a ∷ b ∷ c ∷ []))
     → Gives (opened wanted (done ++ a ∷ b ∷ c ∷ [])) values letter
     → Gives (opened wanted done) (Word (part_word a b c) ∷ values) letter
-gives-more wanted done letter a b c values ha hb hc e rest =
+gives-more wanted done a b c {values} ha hb hc e rest =
     let read = read-part a b c wanted done ha hb hc ∙ e in record {
       given = ap (λ (r : Read). option_to_list r.given ++ given_with r.after values) read ∙ rest.given;
       after = ap (λ (r : Read). open_after r.after values) read ∙ rest.after;
     }
 
-gives-same : (o : Option OpenLetter) (values others : List Heard) (letter : List ℕ) → values ≡ others → Gives o others letter → Gives o values letter
-gives-same o values others letter e h = subst (λ vs. Gives o vs letter) (sym e) h
+gives-same : {o values others letter : _} → values ≡ others → Gives o others letter → Gives o values letter
+gives-same {o} {letter} e h = subst (λ vs. Gives o vs letter) (sym e) h
 
 -- the parts of what is left of a letter complete the letter
-reads-parts : (wanted : ℕ) (done rest : List ℕ) → length done + length rest ≡ wanted → 1 ≤ length rest → All (λ b. b < 256) rest
+reads-parts : {wanted : ℕ} (done rest : List ℕ) → length done + length rest ≡ wanted → 1 ≤ length rest → All (λ b. b < 256) rest
     → Gives (opened wanted done) (heard_words (parts_of rest)) (done ++ rest)
-reads-parts wanted done [] long some small = absurd (omega (arith, some))
-reads-parts wanted done (a ∷ []) long some small =
+reads-parts done [] long some small = absurd (omega (arith, some))
+reads-parts {wanted} done (a ∷ []) long some small =
     let many = length-append done (a ∷ []) in
     gives-last wanted done (done ++ a ∷ []) a 0 0 (All-head (λ x. x < 256) a [] small) (omega arith) (omega arith)
-    (last wanted (done ++ a ∷ []) (0 ∷ 0 ∷ []) (done ++ a ∷ 0 ∷ 0 ∷ []) (sym (append_assoc done (a ∷ []) (0 ∷ 0 ∷ []))) (omega (arith, many, long)) refl)
-reads-parts wanted done (a ∷ b ∷ []) long some small =
+    (last (done ++ a ∷ []) (0 ∷ 0 ∷ []) (sym (append_assoc done (a ∷ []) (0 ∷ 0 ∷ []))) (omega (arith, many, long)) refl)
+reads-parts {wanted} done (a ∷ b ∷ []) long some small =
     let many = length-append done (a ∷ b ∷ []) in
     let tail = All-tail (λ x. x < 256) a (b ∷ []) small in
     gives-last wanted done (done ++ a ∷ b ∷ []) a b 0 (All-head (λ x. x < 256) a (b ∷ []) small) (All-head (λ x. x < 256) b [] tail) (omega arith)
-    (last wanted (done ++ a ∷ b ∷ []) (0 ∷ []) (done ++ a ∷ b ∷ 0 ∷ []) (sym (append_assoc done (a ∷ b ∷ []) (0 ∷ []))) (omega (arith, many, long)) refl)
-reads-parts wanted done (a ∷ b ∷ c ∷ []) long some small =
+    (last (done ++ a ∷ b ∷ []) (0 ∷ []) (sym (append_assoc done (a ∷ b ∷ []) (0 ∷ []))) (omega (arith, many, long)) refl)
+reads-parts {wanted} done (a ∷ b ∷ c ∷ []) long some small =
     let many = length-append done (a ∷ b ∷ c ∷ []) in
     let tail = All-tail (λ x. x < 256) a (b ∷ c ∷ []) small in
     gives-last wanted done (done ++ a ∷ b ∷ c ∷ []) a b c (All-head (λ x. x < 256) a (b ∷ c ∷ []) small) (All-head (λ x. x < 256) b (c ∷ []) tail) (All-head (λ x. x < 256) c [] (All-tail (λ x. x < 256) b (c ∷ []) tail))
-    (last wanted (done ++ a ∷ b ∷ c ∷ []) [] (done ++ a ∷ b ∷ c ∷ []) (sym (append-nil (done ++ a ∷ b ∷ c ∷ []))) (omega (arith, many, long)) refl)
-reads-parts wanted done (a ∷ b ∷ c ∷ d ∷ rest) long some small =
+    (last (done ++ a ∷ b ∷ c ∷ []) [] (sym (append-nil (done ++ a ∷ b ∷ c ∷ []))) (omega (arith, many, long)) refl)
+reads-parts {wanted} done (a ∷ b ∷ c ∷ d ∷ rest) long some small =
     let now : List ℕ = done ++ a ∷ b ∷ c ∷ [] in
     let many : length now ≡ length done + 3 = length-append done (a ∷ b ∷ c ∷ []) in
     let t1 = All-tail (λ x. x < 256) a (b ∷ c ∷ d ∷ rest) small in
     let t2 = All-tail (λ x. x < 256) b (c ∷ d ∷ rest) t1 in
     let t3 = All-tail (λ x. x < 256) c (d ∷ rest) t2 in
     let further : Gives (opened wanted now) (heard_words (parts_of (d ∷ rest))) (now ++ d ∷ rest) =
-    reads-parts wanted now (d ∷ rest) (omega (arith, many, long)) (omega arith) t3 in
+    reads-parts now (d ∷ rest) (omega (arith, many, long)) (omega arith) t3 in
     let whole : now ++ d ∷ rest ≡ done ++ a ∷ b ∷ c ∷ d ∷ rest = append_assoc done (a ∷ b ∷ c ∷ []) (d ∷ rest) in
-    gives-same (opened wanted done) (heard_words (parts_of (a ∷ b ∷ c ∷ d ∷ rest))) (Word (part_word a b c) ∷ heard_words (parts_of (d ∷ rest))) (done ++ a ∷ b ∷ c ∷ d ∷ rest)
+    gives-same
     (ap heard_words (parts-more a b c (d ∷ rest)))
-    (gives-more wanted done (done ++ a ∷ b ∷ c ∷ d ∷ rest) a b c (heard_words (parts_of (d ∷ rest)))
+    (gives-more wanted done a b c
     (All-head (λ x. x < 256) a (b ∷ c ∷ d ∷ rest) small) (All-head (λ x. x < 256) b (c ∷ d ∷ rest) t1) (All-head (λ x. x < 256) c (d ∷ rest) t2)
-    (more (length done + 3) wanted now many (omega (arith, long)))
+    (more wanted now many (omega (arith, long)))
     (subst (λ l. Gives (opened wanted now) (heard_words (parts_of (d ∷ rest))) l) whole further))
 
 -- A letter.
@@ -224,7 +224,7 @@ reads-parts wanted done (a ∷ b ∷ c ∷ d ∷ rest) long some small =
 pub letters-read : LettersAreRead
 letters-read letter is =
     let some : 1 ≤ length letter = low (length letter) is.length in
-    let parts = reads-parts (length letter) [] letter (omega arith) some is.bytes in
+    let parts = reads-parts [] letter (omega arith) some is.bytes in
     let read = read-first (length letter) None is.length in record {
       given = ap (λ (r : Read). option_to_list r.given ++ given_with r.after (heard_words (parts_of letter))) read ∙ parts.given;
       after = ap (λ (r : Read). open_after r.after (heard_words (parts_of letter))) read ∙ parts.after;

@@ -80,17 +80,17 @@ last-is [] r = refl
 last-is (x ∷ []) r = refl
 last-is (x ∷ y ∷ rs) r = last-is (y ∷ rs) r
 
-lines-are : (sc : Scenario) (hands : List HandIn) (frame slot : ℕ) (lines others : List SlotLine) → IsRecorded sc hands frame slot lines
+lines-are : {sc hands frame slot lines others : _} → IsRecorded sc hands frame slot lines
     → HasRecord sc hands frame slot others → lines ≡ others
-lines-are sc hands frame slot lines others r has =
+lines-are {sc} {hands} {frame} {slot} {lines} {others} r has =
     sym (last-is r.before (Slot frame slot lines)) ∙ ap last_lines (sym r.is ∙ has) ∙ last-is (before_slot sc hands frame slot).book.given (Slot frame slot others)
 
 -- a good BIU has a state before the slot
-has-state : (sc : Scenario) (hands : List HandIn) → IsLawful sc → (frame slot : ℕ) (lines : List SlotLine) → IsRecorded sc hands frame slot lines
+has-state : {sc hands : _} → IsLawful sc → {frame slot lines : _} → IsRecorded sc hands frame slot lines
     → (i : ℕ) → is_good sc Biu i frame slot ≡ true → IsGoodBefore sc hands frame slot Biu i (state_before sc hands frame slot i)
-has-state sc hands law frame slot lines r i good =
+has-state {sc} {hands} law {frame} {slot} r i good =
     let le : slot < sync_slot_of sc.sizes = r.below in
-    let p = placed sc hands law frame slot 1 (omega (arith, le)) (omega arith) (omega arith) (complete_before sc hands frame slot 1 (omega arith) r.complete) in
+    let p = placed hands law frame slot 1 (omega (arith, le)) (omega arith) (omega arith) (complete_before sc hands frame slot 1 (omega arith) r.complete) in
     let long : length (of_kind Biu (before_slot sc hands frame slot).nodes) ≡ sc.sizes.bius = p.agree.counts Biu in
     let within : i < sc.sizes.bius = good_counts sc Biu i frame slot good in record {
       good = good;
@@ -103,11 +103,11 @@ record HasOne (sc : Scenario) (frame slot : ℕ) (lines : List SlotLine) : Type 
   value : Heard
   is : lines ≡ lines_of sc frame slot owner value
 
-has-one : (sc : Scenario) (hands : List HandIn) (frame slot : ℕ) (lines : List SlotLine) → IsRecorded sc hands frame slot lines
+has-one : {sc hands frame slot lines : _} → IsRecorded sc hands frame slot lines
     → (o : Option ℕ) → DeliversOneValue sc hands frame slot o → (lines ≡ []) ⊎ HasOne sc frame slot lines
-has-one sc hands frame slot lines r None has = inl (lines-are sc hands frame slot lines [] r has)
-has-one sc hands frame slot lines r (Some owner) has =
-    inr (record { owner = owner; value = has.0; is = lines-are sc hands frame slot lines (lines_of sc frame slot owner has.0) r has.1 })
+has-one r None has = inl (lines-are r has)
+has-one r (Some owner) has =
+    inr (record { owner = owner; value = has.0; is = lines-are r has.1 })
 
 -- Records one after another.
 
@@ -131,12 +131,12 @@ first-recorded sc hands records first =
 
 -- Good ports.
 
-alike-slot : (sc : Scenario) (hands : List HandIn) → IsLawful sc → (i j k frame slot : ℕ) (lines : List SlotLine) → IsRecorded sc hands frame slot lines
+alike-slot : {sc hands : _} → IsLawful sc → (i j k : ℕ) {frame slot lines : _} → IsRecorded sc hands frame slot lines
     → is_good sc Biu i frame slot ≡ true → is_good sc Biu j frame slot ≡ true → values_of i k lines ≡ values_of j k lines
-alike-slot sc hands law i j k frame slot lines r good_i good_j =
+alike-slot {sc} {hands} law i j k {frame} {slot} {lines} r good_i good_j =
     let st : NodeState = state_before sc hands frame slot i in
-    by (has-one sc hands frame slot lines r (owner_at sc.sizes st slot)
-    ((promise sc hands law).deliveries frame slot r.below r.complete Biu i st (has-state sc hands law frame slot lines r i good_i)))
+    by (has-one r (owner_at sc.sizes st slot)
+    ((promise sc hands law).deliveries frame slot r.below r.complete Biu i st (has-state law r i good_i)))
   where
     by : (lines ≡ []) ⊎ HasOne sc frame slot lines → values_of i k lines ≡ values_of j k lines
     by (inl none) = ap (values_of i k) none ∙ sym (ap (values_of j k) none)
@@ -144,19 +144,19 @@ alike-slot sc hands law i j k frame slot lines r good_i good_j =
         ap (values_of i k) one.is ∙ lines-value sc frame slot one.owner one.value i k good_i
         ∙ sym (ap (values_of j k) one.is ∙ lines-value sc frame slot one.owner one.value j k good_j)
 
-alike-record : (sc : Scenario) (hands : List HandIn) → IsLawful sc → (i j k : ℕ) (r : Record) → IsOfSlot sc hands r
+alike-record : {sc : _} (hands : List HandIn) → IsLawful sc → (i j k : ℕ) (r : Record) → IsOfSlot sc hands r
     → is_good_in sc i r ≡ true → is_good_in sc j r ≡ true → values_of i k (lines_in r) ≡ values_of j k (lines_in r)
-alike-record sc hands law i j k (Frame frame nodes ports) is good_i good_j = refl
-alike-record sc hands law i j k (Slot frame slot lines) is good_i good_j = alike-slot sc hands law i j k frame slot lines is good_i good_j
-alike-record sc hands law i j k Ended is good_i good_j = refl
-alike-record sc hands law i j k (Breach place cause) is good_i good_j = refl
+alike-record hands law i j k (Frame frame nodes ports) is good_i good_j = refl
+alike-record hands law i j k (Slot frame slot lines) is good_i good_j = alike-slot law i j k is good_i good_j
+alike-record hands law i j k Ended is good_i good_j = refl
+alike-record hands law i j k (Breach place cause) is good_i good_j = refl
 
-alike : (sc : Scenario) (hands : List HandIn) → IsLawful sc → (i j k : ℕ) (rs : List Record) → All (IsOfSlot sc hands) rs
+alike : {sc : _} (hands : List HandIn) → IsLawful sc → (i j k : ℕ) (rs : List Record) → All (IsOfSlot sc hands) rs
     → IsGoodThrough sc i rs → IsGoodThrough sc j rs → values_of i k (deliveries_in rs) ≡ values_of j k (deliveries_in rs)
-alike sc hands law i j k [] all good_i good_j = refl
-alike sc hands law i j k (r ∷ rs) all good_i good_j =
-    let here = alike-record sc hands law i j k r (All-head (IsOfSlot sc hands) r rs all) (All-head (λ x. is_good_in sc i x ≡ true) r rs good_i) (All-head (λ x. is_good_in sc j x ≡ true) r rs good_j) in
-    let rest = alike sc hands law i j k rs (All-tail (IsOfSlot sc hands) r rs all) (All-tail (λ x. is_good_in sc i x ≡ true) r rs good_i) (All-tail (λ x. is_good_in sc j x ≡ true) r rs good_j) in
+alike hands law i j k [] all good_i good_j = refl
+alike {sc} hands law i j k (r ∷ rs) all good_i good_j =
+    let here = alike-record hands law i j k r (All-head (IsOfSlot sc hands) r rs all) (All-head (λ x. is_good_in sc i x ≡ true) r rs good_i) (All-head (λ x. is_good_in sc j x ≡ true) r rs good_j) in
+    let rest = alike hands law i j k rs (All-tail (IsOfSlot sc hands) r rs all) (All-tail (λ x. is_good_in sc i x ≡ true) r rs good_i) (All-tail (λ x. is_good_in sc j x ≡ true) r rs good_j) in
     values-append i k (lines_in r) (deliveries_in rs)
     ∙ ap (λ l. l ++ values_of i k (deliveries_in rs)) here
     ∙ ap (λ l. values_of j k (lines_in r) ++ l) rest
@@ -164,21 +164,21 @@ alike sc hands law i j k (r ∷ rs) all good_i good_j =
 
 pub receive-alike : GoodPortsReceiveAlike
 receive-alike sc hands law records first i j good_i good_j sender =
-    let values = alike sc hands law i j sender records (first-recorded sc hands records first) good_i good_j in
+    let values = alike hands law i j sender records (first-recorded sc hands records first) good_i good_j in
     record { values = values; letters = ap (given_with None) values; left_open = ap (open_after None) values }
 
 -- Good senders.
 
-sent-slot : (sc : Scenario) (hands : List HandIn) → IsLawful sc → (i k frame slot : ℕ) (lines : List SlotLine) → IsRecorded sc hands frame slot lines
+sent-slot : {sc hands : _} → IsLawful sc → (i k : ℕ) {frame slot lines : _} → IsRecorded sc hands frame slot lines
     → is_good sc Biu i frame slot ≡ true → is_good sc Biu k frame slot ≡ true
     → values_of i k lines ≡ heard_words (offers sc hands k (Slot frame slot lines))
-sent-slot sc hands law i k frame slot lines r good_i good_k = by (owner_at sc.sizes st slot) refl
+sent-slot {sc} {hands} law i k {frame} {slot} {lines} r good_i good_k = by (owner_at sc.sizes st slot) refl
   where
     st : NodeState
     st = state_before sc hands frame slot k
 
     there : IsGoodBefore sc hands frame slot Biu k st
-    there = has-state sc hands law frame slot lines r k good_k
+    there = has-state law r k good_k
 
     kept : Headline sc hands
     kept = promise sc hands law
@@ -193,38 +193,38 @@ sent-slot sc hands law i k frame slot lines r good_i good_k = by (owner_at sc.si
     owned owner true e f =
         let me : owner ≡ k = eqb-true owner k f in
         let has = kept.words frame slot r.below r.complete Biu k st there owner e (subst (λ x. is_good sc Biu x frame slot ≡ true) (sym me) good_k) in
-        ap (values_of i k) (lines-are sc hands frame slot lines (lines_of sc frame slot owner (Word (offered_in sc hands frame slot owner))) r has)
+        ap (values_of i k) (lines-are r has)
         ∙ lines-value sc frame slot owner (Word (offered_in sc hands frame slot owner)) i k good_i
         ∙ ap (λ c. cond c (Word (offered_in sc hands frame slot owner) ∷ []) []) f
         ∙ ap (λ x. Word (offered_in sc hands frame slot x) ∷ []) me
     owned owner false e f =
         let has : DeliversOneValue sc hands frame slot (Some owner) = subst (DeliversOneValue sc hands frame slot) e delivered in
-        ap (values_of i k) (lines-are sc hands frame slot lines (lines_of sc frame slot owner has.0) r has.1)
+        ap (values_of i k) (lines-are r has.1)
         ∙ lines-value sc frame slot owner has.0 i k good_i
         ∙ ap (λ c. cond c (has.0 ∷ []) []) f
 
     by : (o : Option ℕ) → owner_at sc.sizes st slot ≡ o → values_of i k lines ≡ heard_words (if is_owner k (owner_at sc.sizes st slot) then offered_in sc hands frame slot k ∷ [] else [])
     by None e =
         let has : DeliversOneValue sc hands frame slot None = subst (DeliversOneValue sc hands frame slot) e delivered in
-        ap (values_of i k) (lines-are sc hands frame slot lines [] r has)
+        ap (values_of i k) (lines-are r has)
         ∙ sym (ap (λ o. heard_words (if is_owner k o then offered_in sc hands frame slot k ∷ [] else [])) e)
     by (Some owner) e =
         owned owner (owner == k) e refl
         ∙ sym (ap (λ o. heard_words (if is_owner k o then offered_in sc hands frame slot k ∷ [] else [])) e)
 
-sent-record : (sc : Scenario) (hands : List HandIn) → IsLawful sc → (i k : ℕ) (r : Record) → IsOfSlot sc hands r
+sent-record : {sc : _} (hands : List HandIn) → IsLawful sc → (i k : ℕ) (r : Record) → IsOfSlot sc hands r
     → is_good_in sc i r ≡ true → is_good_in sc k r ≡ true → values_of i k (lines_in r) ≡ heard_words (offers sc hands k r)
-sent-record sc hands law i k (Frame frame nodes ports) is good_i good_k = refl
-sent-record sc hands law i k (Slot frame slot lines) is good_i good_k = sent-slot sc hands law i k frame slot lines is good_i good_k
-sent-record sc hands law i k Ended is good_i good_k = refl
-sent-record sc hands law i k (Breach place cause) is good_i good_k = refl
+sent-record hands law i k (Frame frame nodes ports) is good_i good_k = refl
+sent-record hands law i k (Slot frame slot lines) is good_i good_k = sent-slot law i k is good_i good_k
+sent-record hands law i k Ended is good_i good_k = refl
+sent-record hands law i k (Breach place cause) is good_i good_k = refl
 
-sent-all : (sc : Scenario) (hands : List HandIn) → IsLawful sc → (i k : ℕ) (rs : List Record) → All (IsOfSlot sc hands) rs
+sent-all : {sc : _} (hands : List HandIn) → IsLawful sc → (i k : ℕ) (rs : List Record) → All (IsOfSlot sc hands) rs
     → IsGoodThrough sc i rs → IsGoodThrough sc k rs → values_of i k (deliveries_in rs) ≡ heard_words (offered_by sc hands k rs)
-sent-all sc hands law i k [] all good_i good_k = refl
-sent-all sc hands law i k (r ∷ rs) all good_i good_k =
-    let here = sent-record sc hands law i k r (All-head (IsOfSlot sc hands) r rs all) (All-head (λ x. is_good_in sc i x ≡ true) r rs good_i) (All-head (λ x. is_good_in sc k x ≡ true) r rs good_k) in
-    let rest = sent-all sc hands law i k rs (All-tail (IsOfSlot sc hands) r rs all) (All-tail (λ x. is_good_in sc i x ≡ true) r rs good_i) (All-tail (λ x. is_good_in sc k x ≡ true) r rs good_k) in
+sent-all hands law i k [] all good_i good_k = refl
+sent-all {sc} hands law i k (r ∷ rs) all good_i good_k =
+    let here = sent-record hands law i k r (All-head (IsOfSlot sc hands) r rs all) (All-head (λ x. is_good_in sc i x ≡ true) r rs good_i) (All-head (λ x. is_good_in sc k x ≡ true) r rs good_k) in
+    let rest = sent-all hands law i k rs (All-tail (IsOfSlot sc hands) r rs all) (All-tail (λ x. is_good_in sc i x ≡ true) r rs good_i) (All-tail (λ x. is_good_in sc k x ≡ true) r rs good_k) in
     values-append i k (lines_in r) (deliveries_in rs)
     ∙ ap (λ l. l ++ values_of i k (deliveries_in rs)) here
     ∙ ap (λ l. heard_words (offers sc hands k r) ++ l) rest
@@ -234,7 +234,7 @@ pub senders-received : GoodSendersAreReceived
 senders-received sc hands law records first receiver sender good_i good_k =
     let words : List ℕ = offered_by sc hands sender records in
     let values : values_of receiver sender (deliveries_in records) ≡ heard_words words =
-    sent-all sc hands law receiver sender records (first-recorded sc hands records first) good_i good_k in
+    sent-all hands law receiver sender records (first-recorded sc hands records first) good_i good_k in
     record {
       values = values;
       first = λ letters all part. subst (λ vs. IsFirstPart (given_with None vs) letters) (sym values) (words-give letters words all part).first;

@@ -69,9 +69,9 @@ adds-verdict sizes frame n w rows stages b (Some cause) slot stage = inr (Breach
 abbrev guarded : Bool → Book → Book → Book
 guarded ended b x = elim ended as (λ _. Book) [ true ↦ b | false ↦ x ]
 
-adds-guarded : (sizes : Sizes) (frame n : ℕ) (b x : Book) (e : Bool) → Adds sizes frame n b x → Adds sizes frame n b (guarded e b x)
-adds-guarded sizes frame n b x true h = inl refl
-adds-guarded sizes frame n b x false h = h
+adds-guarded : {sizes frame n : _} (b : Book) {x : _} (e : Bool) → Adds sizes frame n b x → Adds sizes frame n b (guarded e b x)
+adds-guarded b true h = inl refl
+adds-guarded b false h = h
 
 adds-stage : (sc : Scenario) (frame n : ℕ) (w : Window) (rows : Each (Option Row)) (b : Book) → w.slot ≡ slot_numbered sc.sizes n → w.stage ≡ n % 3 + 1
     → Adds sc.sizes frame n b (with_stage sc (record { frame = frame; slot = w.slot; stage = w.stage }) rows b)
@@ -79,7 +79,7 @@ unfolding with_stage
 adds-stage sc frame n w rows b slot stage =
     let place : Place = record { frame = frame; slot = w.slot; stage = w.stage } in
     let stages : List JudgedStage = judged_of sc place rows ∷ b.stages in
-    adds-guarded sc.sizes frame n b (after_verdict sc.sizes place rows stages b (verdict_of stages)) b.ended
+    adds-guarded b b.ended
     (adds-verdict sc.sizes frame n w rows stages b (verdict_of stages) slot stage)
 
 adds-begun : (sizes : Sizes) (frame n f : ℕ) (begun : List Begun) (b x : Book) → x.given ≡ b.given ++ frame_records f begun → Adds sizes frame n b x
@@ -96,10 +96,10 @@ adds-frame sc frame n f begun b =
       given = b.given ++ frame_records f begun;
       ended = false;
     } in
-    adds-guarded sc.sizes frame n b x b.ended (adds-begun sc.sizes frame n f begun b x refl)
+    adds-guarded b b.ended (adds-begun sc.sizes frame n f begun b x refl)
 
 adds-end : (sizes : Sizes) (frame n : ℕ) (b : Book) → Adds sizes frame n b (with_end b)
-adds-end sizes frame n b = adds-guarded sizes frame n b (record b { given = b.given ++ Ended ∷ []; ended = true }) b.ended (inr (Ended, (refl, tt)))
+adds-end sizes frame n b = adds-guarded b b.ended (inr (Ended, (refl, tt)))
 
 adds-window : (sc : Scenario) (m : Moment) (rows : Each (Option Row)) (o : Option Window) → slice_get (windows_of_frame sc.sizes sc.plan) m.window ≡ o
     → Adds sc.sizes m.frame m.window m.book (book_after sc m.frame o rows m.book)

@@ -60,9 +60,9 @@ not-refused waiting letter e = by (is_length (length letter)) refl e
     by true f h = f
     by false f h = absurd (cc)
 
-pushed : (waiting taken : List (List ℕ)) (words letter : List ℕ) → HasLength letter → Keeps waiting taken words
+pushed : {waiting taken words : _} (letter : List ℕ) → HasLength letter → Keeps waiting taken words
     → Keeps (with_letter waiting letter) (taken ++ letter ∷ []) words
-pushed waiting taken words letter long h = record {
+pushed {waiting} {taken} {words} letter long h = record {
   whole = flat-last spelling_of taken letter
       ∙ ap (λ l. l ++ spelling_of letter) h.whole
       ∙ append_assoc (without_zeros words) (all_waiting waiting) (spelling_of letter)
@@ -79,22 +79,22 @@ word-last words w rest above =
     differs : (n : ℕ) → 0 < n → (n == 0) ≡ false
     differs n h = grind (arith, nat_tests)
 
-asked : (waiting taken : List (List ℕ)) (words : List ℕ) → Keeps waiting taken words → Keeps (without_word waiting) taken (words ++ next_word_of waiting ∷ [])
-asked [] taken words h = record {
+asked : (waiting : List (List ℕ)) {taken words : _} → Keeps waiting taken words → Keeps (without_word waiting) taken (words ++ next_word_of waiting ∷ [])
+asked [] {words} h = record {
   whole = h.whole ∙ ap (λ l. l ++ []) (sym (zeros-last words 0 ∙ append-nil (without_zeros words)));
   waits = h.waits;
   lengths = h.lengths;
 }
-asked ([] ∷ rest) taken words h =
+asked ([] ∷ rest) h =
     let it : IsWaiting [] = All-head IsWaiting [] rest h.waits in absurd (omega (arith, it.some))
-asked ((w ∷ []) ∷ rest) taken words h =
+asked ((w ∷ []) ∷ rest) {words} h =
     let it : IsWaiting (w ∷ []) = All-head IsWaiting (w ∷ []) rest h.waits in
     record {
       whole = h.whole ∙ sym (word-last words w (all_waiting rest) (All-head (λ x. 0 < x) w [] it.above));
       waits = All-tail IsWaiting (w ∷ []) rest h.waits;
       lengths = h.lengths;
     }
-asked ((w ∷ v ∷ vs) ∷ rest) taken words h =
+asked ((w ∷ v ∷ vs) ∷ rest) {taken} {words} h =
     let it : IsWaiting (w ∷ v ∷ vs) = All-head IsWaiting (w ∷ v ∷ vs) rest h.waits in
     let left : IsWaiting (v ∷ vs) = record { some = omega arith; above = All-tail (λ x. 0 < x) w (v ∷ vs) it.above } in
     let many : nat_le (length (w ∷ v ∷ vs)) 1 ≡ false = lt-leb _ _ (omega arith) in
@@ -108,20 +108,20 @@ asked ((w ∷ v ∷ vs) ∷ rest) taken words h =
 abbrev KeepsIn : Sent → Type 0
 KeepsIn s = Keeps s.waiting s.taken s.words
 
-push-keeps : (letter : List ℕ) (s : Sent) (o : Option LongRefusal) → refusal_of s.waiting letter ≡ o → KeepsIn s → KeepsIn (with_push letter o s)
-push-keeps letter s None e h = pushed s.waiting s.taken s.words letter (not-refused s.waiting letter e) h
-push-keeps letter s (Some refusal) e h = h
+push-keeps : (letter : List ℕ) {s : Sent} (o : Option LongRefusal) → refusal_of s.waiting letter ≡ o → KeepsIn s → KeepsIn (with_push letter o s)
+push-keeps letter {s} None e h = pushed letter (not-refused s.waiting letter e) h
+push-keeps letter (Some refusal) e h = h
 
-call-keeps : (call : Call) (s : Sent) → KeepsIn s → KeepsIn (after_call call s)
-call-keeps (Push letter) s h = push-keeps letter s (refusal_of s.waiting letter) refl h
-call-keeps Next s h = asked s.waiting s.taken s.words h
+call-keeps : (call : Call) {s : _} → KeepsIn s → KeepsIn (after_call call s)
+call-keeps (Push letter) {s} h = push-keeps letter (refusal_of s.waiting letter) refl h
+call-keeps Next {s} h = asked s.waiting h
 
-calls-keep : (calls : List Call) (s : Sent) → KeepsIn s → KeepsIn (after_calls calls s)
-calls-keep [] s h = h
-calls-keep (call ∷ calls) s h = calls-keep calls (after_call call s) (call-keeps call s h)
+calls-keep : (calls : List Call) {s : _} → KeepsIn s → KeepsIn (after_calls calls s)
+calls-keep [] h = h
+calls-keep (call ∷ calls) h = calls-keep calls (call-keeps call h)
 
 pub senders-send : SendersSendTheirLetters
-senders-send calls = from (after_calls calls nothing_sent) (calls-keep calls nothing_sent (record { whole = refl; waits = All-nil IsWaiting; lengths = All-nil HasLength }))
+senders-send calls = from (after_calls calls nothing_sent) (calls-keep calls (record { whole = refl; waits = All-nil IsWaiting; lengths = All-nil HasLength }))
   where
     from : (s : Sent) → KeepsIn s → SendsItsLetters s
     from s h = record {

@@ -24,10 +24,10 @@ arrivals-other sizes k c cs j e = go (nat_lt c.from sizes.rmus)
     go true = of-other (c.from, record { stamp = k; bytes = c.bytes }) (arrivals sizes k cs) j e
     go false = refl
 
-arrivals-mine : (sizes : Sizes) (k : ℕ) (c : Coming) (cs : List Coming) (j : ℕ) → j < sizes.rmus → c.from ≡ j
+arrivals-mine : (sizes : Sizes) (k : ℕ) (c : Coming) (cs : List Coming) {j : ℕ} → j < sizes.rmus → c.from ≡ j
     → of_source (arrivals sizes k (c ∷ cs)) j ≡ record { stamp = k; bytes = c.bytes } ∷ of_source (arrivals sizes k cs) j
 unfolding arrivals
-arrivals-mine sizes k c cs j below from =
+arrivals-mine sizes k c cs {j} below from =
     go (nat_lt c.from sizes.rmus) (subst (λ i. nat_lt i sizes.rmus ≡ true) (sym from) (lt-ltb j sizes.rmus below))
   where
     go : (b : Bool) → b ≡ true
@@ -43,17 +43,17 @@ none_with_stamp sizes k (c ∷ cs) j none =
     arrivals-other sizes k c cs j (false_from_ne_true (c.from == j) (λ e. none 0 c refl (eqb-true c.from j e)))
     ∙ none_with_stamp sizes k cs j (λ nth d is. none (suc nth) d is)
 
-pub one_with_stamp : (sizes : Sizes) (k : ℕ) (cs : List Coming) (j nth : ℕ) (c : Coming) → j < sizes.rmus → slice_get cs nth ≡ Some c → c.from ≡ j
+pub one_with_stamp : (sizes : Sizes) (k : ℕ) (cs : List Coming) {j : ℕ} (nth : ℕ) {c : _} → j < sizes.rmus → slice_get cs nth ≡ Some c → c.from ≡ j
     → ((a : ℕ) (d : Coming) → slice_get cs a ≡ Some d → d.from ≡ j → a ≡ nth) → of_source (arrivals sizes k cs) j ≡ record { stamp = k; bytes = c.bytes } ∷ []
-one_with_stamp sizes k [] j nth c below there from sole = cc
-one_with_stamp sizes k (x ∷ xs) j zero c below there from sole =
+one_with_stamp sizes k [] nth below there from sole = cc
+one_with_stamp sizes k (x ∷ xs) {j} zero {c} below there from sole =
     let same : x ≡ c = same_Some x c there in
-    arrivals-mine sizes k x xs j below (ap (λ (y : Coming). y.from) same ∙ from)
+    arrivals-mine sizes k x xs below (ap (λ (y : Coming). y.from) same ∙ from)
     ∙ ap (λ l. record { stamp = k; bytes = x.bytes } ∷ l) (none_with_stamp sizes k xs j (λ a d is mine. let e : suc a ≡ 0 = sole (suc a) d is mine in absurd (omega (arith, e))))
     ∙ ap (λ (y : Coming). record { stamp = k; bytes = y.bytes } ∷ []) same
-one_with_stamp sizes k (x ∷ xs) j (suc nth) c below there from sole =
+one_with_stamp sizes k (x ∷ xs) {j} (suc nth) below there from sole =
     arrivals-other sizes k x xs j (false_from_ne_true (x.from == j) (λ e. let zero_is : 0 ≡ suc nth = sole 0 x refl (eqb-true x.from j e) in absurd (omega (arith, zero_is))))
-    ∙ one_with_stamp sizes k xs j nth c below there from (λ a d is mine. let e : suc a ≡ suc nth = sole (suc a) d is mine in omega (arith, e))
+    ∙ one_with_stamp sizes k xs nth below there from (λ a d is mine. let e : suc a ≡ suc nth = sole (suc a) d is mine in omega (arith, e))
 
 -- Arrivals of all stamps of a window.
 

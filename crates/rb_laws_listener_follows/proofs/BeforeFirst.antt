@@ -3,7 +3,7 @@ use Rattle.std.proofs.{Common.{◌≡◌, ℕ, zero, suc, ◌+◌, ◌-◌, ◌<
 use Rattle.std.specs.Option.{option_or}
 use Rattle.rb_base.specs.Nodes.Side.{Biu}
 use Rattle.rb_rules.specs.{Core.{Core, arrive}, Goodness.Scenario, Hearing.Coming}
-use Rattle.rb_listen.specs.{Following.follow, Listening.{Listening, followed, hear, heed}, declared.lesson.First.First, declared.search.Search.Search}
+use Rattle.rb_listen.specs.{Following.follow, Listening.{Listening, followed, hear, heed}, declared.search.Search.Search}
 use Rattle.rb_laws_listener_learns.specs.{Ears.{Ear, hears, listening_at}, Receivers.{closing_at, closing_in, if_window, seen_by}, Waiting.WaitsFor}
 use Rattle.rb_laws_listener_follows.proofs.SeenWindows.{NoneSeen}
 use Rattle.rb_listen.specs.Listening as now
@@ -52,9 +52,9 @@ quiet-none sc ear g v (suc n) quiet =
     ap (λ x. option_or x (if_window g v (closing_at sc ear n))) (quiet-none sc ear g v n (λ k lt. quiet k (omega (arith, lt))))
     ∙ ap (if_window g v) (quiet n (omega arith))
 
-pub none_first : (sc : Scenario) (ear : Ear) (tick : ℕ) (s : Search) (first : First) → listening_at sc ear tick ≡ now.Searching s → WaitsFor sc ear tick first → first.epoch < ear.ticks
+pub none_first : {sc ear tick : _} (s : Search) {first : _} → listening_at sc ear tick ≡ now.Searching s → WaitsFor sc ear tick first → first.epoch < ear.ticks
     → (frame : ℕ) → NoneSeen sc ear frame 0 (suc first.epoch)
-none_first sc ear tick s first searching w in_time frame g v from =
+none_first {sc} {ear} {tick} s {first} searching w in_time frame g v from =
     quiet-none sc ear g v (suc first.epoch) (λ k lt.
     elim (cases_lt tick k) [
       | inl after ↦ ap (closing_in sc) (w.waits k after (omega (arith, lt)) (omega (arith, lt, in_time)))

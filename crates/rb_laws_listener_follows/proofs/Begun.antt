@@ -16,32 +16,32 @@ pub record HasBegun (sc : Scenario) (hands : List HandIn) (frame : ℕ) (me : Si
   pub old : NodeState
   pub turned : turn sc.sizes sc.plan.probation me epoch old ≡ now
 
-turns-by : (sizes : Sizes) (plan : Plan) (me : Side) (st : NodeState) (epoch : ℕ) → new_epoch_of plan me st ≡ Some epoch → turn_if_known sizes plan me st ≡ turn sizes plan.probation me epoch st
-turns-by sizes plan me st epoch is = ap (λ o. elim o as (λ _. NodeState) [ None ↦ st | Some epoch ↦ turn sizes plan.probation me epoch st ]) is
+turns-by : (sizes : Sizes) (plan : Plan) (me : Side) (st : NodeState) {epoch : ℕ} → new_epoch_of plan me st ≡ Some epoch → turn_if_known sizes plan me st ≡ turn sizes plan.probation me epoch st
+turns-by sizes plan me st {epoch} is = ap (λ o. elim o as (λ _. NodeState) [ None ↦ st | Some epoch ↦ turn sizes plan.probation me epoch st ]) is
 
-pub has_begun : (sc : Scenario) (hands : List HandIn) → IsLawful sc → (frame : ℕ) → IsComplete sc hands frame (sync_slot_of sc.sizes) → (me : Side) (i : ℕ) (now : NodeState)
+pub has_begun : {sc hands : _} → IsLawful sc → {frame : ℕ} → IsComplete sc hands frame (sync_slot_of sc.sizes) → {me i now : _}
     → IsGoodBefore sc hands (suc frame) 0 me i now → HasBegun sc hands frame me i now
-has_begun sc hands law frame complete me i now h = record {
+has_begun {sc} {hands} law {frame} complete {me} {i} {now} h = record {
   st = came.st;
   after = record { good = ap (λ f. is_good sc me i f (sync_slot_of sc.sizes)) (sym p4.frame_is) ∙ good; state = came.was.there };
   epoch = knows.takes.epoch;
   known = knows.takes.known;
-  epoch_is = sym (turned-epoch sc.sizes sc.plan me turned.st knows.takes.epoch known) ∙ ap (λ x. x.epoch) turned.is;
+  epoch_is = sym (turned-epoch sc.sizes sc.plan me turned.st known) ∙ ap (λ x. x.epoch) turned.is;
   old = turned.st;
-  turned = sym (turns-by sc.sizes sc.plan me turned.st knows.takes.epoch known) ∙ turned.is;
+  turned = sym (turns-by sc.sizes sc.plan me turned.st known) ∙ turned.is;
 }
   where
     k : ℕ
     k = frame * (windows_in sc.sizes + 1) + 3 * sync_slot_of sc.sizes + 4 - 1
 
     t : IsTurn sc hands frame
-    t = frame_turns sc hands law frame complete
+    t = frame_turns law complete
 
     p4 : IsPlaced sc hands frame (sync_slot_of sc.sizes) 4
-    p4 = placed sc hands law frame (sync_slot_of sc.sizes) 4 (omega arith) (omega arith) (omega arith) complete
+    p4 = placed hands law frame (sync_slot_of sc.sizes) 4 (omega arith) (omega arith) (omega arith) complete
 
     p0 : IsPlaced sc hands (suc frame) 0 1
-    p0 = placed sc hands law (suc frame) 0 1 (omega arith) (omega arith) (omega arith) t.running
+    p0 = placed hands law (suc frame) 0 1 (omega arith) (omega arith) (omega arith) t.running
 
     at : (after_slot sc hands frame (sync_slot_of sc.sizes)).window ≡ 3 * sync_slot_of sc.sizes + 3
     at = p4.window_is
@@ -52,19 +52,19 @@ has_begun sc hands law frame complete me i now h = record {
         (omega (arith, turn-index frame (sync_slot_of sc.sizes))) t.running
 
     a : IsAgreed sc hands (suc (frame * (windows_in sc.sizes + 1) + 3 * sync_slot_of sc.sizes + 4 - 1))
-    a = agreement sc hands law (suc (frame * (windows_in sc.sizes + 1) + 3 * sync_slot_of sc.sizes + 4 - 1)) running
+    a = agreement hands law (suc (frame * (windows_in sc.sizes + 1) + 3 * sync_slot_of sc.sizes + 4 - 1)) running
 
     x : IsSynchronous sc hands (frame * (windows_in sc.sizes + 1) + 3 * sync_slot_of sc.sizes + 4 - 1)
-    x = synchrony sc hands law (frame * (windows_in sc.sizes + 1) + 3 * sync_slot_of sc.sizes + 4 - 1) complete
+    x = synchrony hands law (frame * (windows_in sc.sizes + 1) + 3 * sync_slot_of sc.sizes + 4 - 1) complete
 
     turned : TurnedFrom sc (moment sc hands (suc (frame * (windows_in sc.sizes + 1) + 3 * sync_slot_of sc.sizes + 4 - 1))) me i now
     turned =
-        turned_from sc hands (suc k) (moment sc hands (suc (frame * (windows_in sc.sizes + 1) + 3 * sync_slot_of sc.sizes + 4 - 1))) a.shared a.agree me i now
-        (subst (λ m. IsGoodNode sc m me i now) (sym t.turn ∙ ap (next_frame sc hands) t.tail) (good_before_slot sc hands (suc frame) 0 (omega arith) p0 me i now h))
+        turned_from a.agree
+        (subst (λ m. IsGoodNode sc m me i now) (sym t.turn ∙ ap (next_frame sc hands) t.tail) (good_before_slot (omega arith) p0 h))
 
     came : CameFrom sc (after_slot sc hands frame (sync_slot_of sc.sizes)) me i turned.st
     came =
-        came_from sc hands k (after_slot sc hands frame (sync_slot_of sc.sizes)) x.shared x.agree me i turned.st
+        came_from x.agree
         (subst (λ m. IsGoodNode sc m me i turned.st) (sym t.tail) turned.was)
 
     knows : KnowsEpoch sc me i came.st ((x.near.third (omega (arith, at))).0)
@@ -72,9 +72,9 @@ has_begun sc hands law frame complete me i now h = record {
 
     good : is_good sc me i (after_slot sc hands frame (sync_slot_of sc.sizes)).frame (sync_slot_of sc.sizes) ≡ true
     good =
-        ap (is_good sc me i (after_slot sc hands frame (sync_slot_of sc.sizes)).frame) (sym (slot_last sc.sizes (after_slot sc hands frame (sync_slot_of sc.sizes)).window 3 at)) ∙ came.was.good
+        ap (is_good sc me i (after_slot sc hands frame (sync_slot_of sc.sizes)).frame) (sym (slot_last sc.sizes 3 at)) ∙ came.was.good
 
     known : new_epoch_of sc.plan me turned.st ≡ Some knows.takes.epoch
     known =
         ap (new_epoch_of sc.plan me) (sym came.is)
-        ∙ tail_keeps_epoch sc (after_slot sc hands frame (sync_slot_of sc.sizes)) (tail_windows sc (after_slot sc hands frame (sync_slot_of sc.sizes)) at) me i came.st good ∙ knows.takes.known
+        ∙ tail_keeps_epoch (tail_windows sc (after_slot sc hands frame (sync_slot_of sc.sizes)) at) me i came.st good ∙ knows.takes.known

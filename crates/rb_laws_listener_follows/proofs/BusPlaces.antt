@@ -8,8 +8,8 @@ record IsAfter (sc : Scenario) (n : ℕ) (bus : AbstractBus) : Type 0 where
   pub place : n ≡ bus.frame * (sync_slot_of sc.sizes + 1) + bus.slot
   pub in_frame : bus.slot ≤ sync_slot_of sc.sizes
 
-one_more : (sc : Scenario) (offered : ℕ → ℕ → ℕ → ℕ) (n : ℕ) (before after : AbstractBus) → IsStep sc offered before after → IsAfter sc n before → IsAfter sc (suc n) after
-one_more sc offered n before after step at = go (nat_lt before.slot (sync_slot_of sc.sizes)) refl step
+one_more : {sc : _} (offered : ℕ → ℕ → ℕ → ℕ) {n before after : _} → IsStep sc offered before after → IsAfter sc n before → IsAfter sc (suc n) after
+one_more {sc} offered {n} {before} {after} step at = go (nat_lt before.slot (sync_slot_of sc.sizes)) refl step
   where
     go : (b : Bool) → nat_lt before.slot (sync_slot_of sc.sizes) ≡ b
         → elim b as (λ _. Type 0) [ true ↦ (value : Heard) × SlotStep sc (offered before.frame before.slot) value before after | false ↦ FrameStep sc before after ]
@@ -33,14 +33,14 @@ one_more sc offered n before after step at = go (nat_lt before.slot (sync_slot_o
           | inr ge ↦ ge
         ]
 
-after_steps : (sc : Scenario) (offered : ℕ → ℕ → ℕ → ℕ) (steps : ℕ) (bus : ℕ → AbstractBus) → IsRun sc offered steps bus → (n : ℕ) → n ≤ steps → IsAfter sc n (bus n)
-after_steps sc offered steps bus run zero le =
+after_steps : {sc offered steps bus : _} → IsRun sc offered steps bus → (n : ℕ) → n ≤ steps → IsAfter sc n (bus n)
+after_steps {sc} {bus} run zero le =
     let frame : (bus 0).frame ≡ 0 = ap (λ b. b.frame) run.first in
     let slot : (bus 0).slot ≡ 0 = ap (λ b. b.slot) run.first in
     let none : (bus 0).frame * (sync_slot_of sc.sizes + 1) ≡ 0 * (sync_slot_of sc.sizes + 1) = ap (λ f. f * (sync_slot_of sc.sizes + 1)) frame in
     record { place = omega (arith, none, slot); in_frame = omega (arith, slot) }
-after_steps sc offered steps bus run (suc n) le =
-    one_more sc offered n (bus n) (bus (suc n)) (run.each_step n (omega (arith, le))) (after_steps sc offered steps bus run n (omega (arith, le)))
+after_steps {offered} run (suc n) le =
+    one_more offered (run.each_step n (omega (arith, le))) (after_steps run n (omega (arith, le)))
 
 apart : (size f w g v : ℕ) → f < g → w < size → f * size + w ≡ g * size + v → ⊥
 apart size f w g v less small e =
@@ -55,8 +55,8 @@ same_slot size f w g v e small_w small_v =
       | inr order ↦ elim order [ inl less ↦ absurd (apart size f w g v less small_w e) | inr more ↦ absurd (apart size g v f w more small_v (sym e)) ]
     ]
 
-pub slot_there : (sc : Scenario) (offered : ℕ → ℕ → ℕ → ℕ) (steps : ℕ) (bus : ℕ → AbstractBus) → IsRun sc offered steps bus → (frame slot : ℕ) → slot ≤ sync_slot_of sc.sizes
+pub slot_there : {sc offered steps bus : _} → IsRun sc offered steps bus → (frame slot : ℕ) → slot ≤ sync_slot_of sc.sizes
     → steps_to sc.sizes frame slot ≤ steps → (bus (steps_to sc.sizes frame slot)).slot ≡ slot
-slot_there sc offered steps bus run frame slot small le =
-    let at : IsAfter sc (steps_to sc.sizes frame slot) (bus (steps_to sc.sizes frame slot)) = after_steps sc offered steps bus run (steps_to sc.sizes frame slot) le in
+slot_there {sc} {bus} run frame slot small le =
+    let at : IsAfter sc (steps_to sc.sizes frame slot) (bus (steps_to sc.sizes frame slot)) = after_steps run (steps_to sc.sizes frame slot) le in
     same_slot (sync_slot_of sc.sizes + 1) (bus (steps_to sc.sizes frame slot)).frame (bus (steps_to sc.sizes frame slot)).slot frame slot (sym at.place) (omega (arith, at.in_frame)) (omega (arith, small))

@@ -3,9 +3,9 @@
 use Rattle.std.proofs.{Common.{◌≡◌, ℕ, zero, suc, ◌+◌, ◌%◌, ◌<◌, ◌≤◌, ◌==◌, ◌&&◌, not, nat_lt, Bool, true, false, Option, Some, None, if◌then◌else◌, List, [], ◌∷◌, ◌++◌, slice_get, refl, sym, ◌∙◌, ap, subst, arith}, lemmas.Bool.{and_from, eq-eqb, eqb-true}, lemmas.Option.same_Some}
 use Rattle.rb_base.specs.{Nodes.has, Nodes.Side.{Biu, Rmu}, Sizes.{Sizes, sync_slot_of}}
 use Rattle.rb_base.proofs.Plain.{and_first, and_second}
-use Rattle.rb_rules.specs.{declared.message.Message.Message, declared.sense.Expect.Expect, declared.sense.Sense.Sense, declared.sense.Sense.TheVariants.{One, Bad}, Clock.IsStamp, Core.of_source, Goodness.{Scenario, is_good}, Hearing.Coming, NodeState.NodeState, NodeSteps.expect_of, Plan.f0_of, Ports.HandIn, Rounds.moment, Sense.{Arrival, sense_of, sense_of_one, stamp_in, suits, tag_suits}, Spelling.message_in, Standing.{Standing, taken_of}, SyncStage.{expects_call, see_time}}
+use Rattle.rb_rules.specs.{declared.message.Message.Message, declared.sense.Expect.Expect, declared.sense.Sense.Sense, declared.sense.Sense.TheVariants.{One, Bad}, Clock.IsStamp, Core.of_source, Goodness.{Scenario, is_good}, Hearing.Coming, NodeState.NodeState, NodeSteps.expect_of, Plan.f0_of, Rounds.moment, Sense.{Arrival, sense_of, sense_of_one, stamp_in, suits, tag_suits}, Spelling.message_in, Standing.{Standing, taken_of}, SyncStage.{expects_call, see_time}}
 use Rattle.rb_rules.proofs.Slots.{source-append}
-use Rattle.rb_laws_agreement.proofs.{Goodnesses.slot_last, Invariant.{IsGoodNode, Shared}}
+use Rattle.rb_laws_agreement.proofs.{Goodnesses.slot_last, Invariant.IsGoodNode}
 use Rattle.rb_listen.specs.Passes.{is_call, is_sync}
 use Rattle.rb_laws_listener_learns.specs.{Ears.{Ear, IsHeard, SendsIn, coming_to}, Receivers.{call_time, is_call_of, stamp_seen}}
 use Rattle.rb_laws_listener_learns.proofs.{CallTimes.{LastIs, finds-call, last-is, tag-sync}, Moments.same-sent}
@@ -82,33 +82,33 @@ record IsSensed (e : Expect) (xs : List Arrival) (k : ℕ) : Type 0 where
   pub reads : message_in e.version arrival.bytes ≡ Some message
   pub suited : suits e message ≡ true
 
-no_stamp : (t : ℕ) → (let o : Option ℕ = None in o) ≡ Some t → ⊥
-no_stamp t x = cc
+no_stamp : {t : ℕ} → (let o : Option ℕ = None in o) ≡ Some t → ⊥
+no_stamp x = cc
 
-sensed : (e : Expect) (xs : List Arrival) (k : ℕ) → stamp_in (sense_of e xs) ≡ Some k → IsSensed e xs k
-sensed e [] k h = absurd (no_stamp k h)
-sensed e (a ∷ []) k h = by (message_in e.version a.bytes) refl h
+sensed : (e : Expect) (xs : List Arrival) {k : ℕ} → stamp_in (sense_of e xs) ≡ Some k → IsSensed e xs k
+sensed e [] h = absurd (no_stamp h)
+sensed e (a ∷ []) {k} h = by (message_in e.version a.bytes) refl h
   where
     suited : (m : Message) → message_in e.version a.bytes ≡ Some m → (b : Bool) → suits e m ≡ b → stamp_in (if b then One a.stamp m else Bad) ≡ Some k → IsSensed e (a ∷ []) k
     suited m reads true s h = record { arrival = a; message = m; is = refl; stamp = same_Some a.stamp k h; reads = reads; suited = s }
-    suited m reads false s h = absurd (no_stamp k h)
+    suited m reads false s h = absurd (no_stamp h)
 
     by : (o : Option Message) → message_in e.version a.bytes ≡ o → stamp_in (sense_of_one e a.stamp o) ≡ Some k → IsSensed e (a ∷ []) k
-    by None reads h = absurd (no_stamp k h)
+    by None reads h = absurd (no_stamp h)
     by (Some m) reads h = suited m reads (suits e m) refl h
-sensed e (a ∷ (b ∷ others)) k h = absurd (no_stamp k h)
+sensed e (a ∷ (b ∷ others)) h = absurd (no_stamp h)
 
-taken_is : (s : Standing) (expected : ℕ → Bool) (sense : ℕ → Sense) (j k : ℕ) → taken_of stamp_in s expected sense j ≡ Some k → stamp_in (sense j) ≡ Some k
-taken_is s expected sense j k h = go (expected j && (has s.trusted j && not (has s.direct j))) h
+taken_is : (s : Standing) (expected : ℕ → Bool) (sense : ℕ → Sense) (j : ℕ) {k : ℕ} → taken_of stamp_in s expected sense j ≡ Some k → stamp_in (sense j) ≡ Some k
+taken_is s expected sense j {k} h = go (expected j && (has s.trusted j && not (has s.direct j))) h
   where
     go : (b : Bool) → (if b then stamp_in (sense j) else None) ≡ Some k → stamp_in (sense j) ≡ Some k
     go true h = h
-    go false h = absurd (no_stamp k h)
+    go false h = absurd (no_stamp h)
 
 -- what suits stage 2 of the sync slot is a call of the frame
-is_found : (sc : Scenario) (st : NodeState) (j : ℕ) (c : Coming) (m : Message) → c.from ≡ j → message_in sc.plan.version c.bytes ≡ Some m
+is_found : (sc : Scenario) (st : NodeState) {j : ℕ} (c : Coming) {m : _} → c.from ≡ j → message_in sc.plan.version c.bytes ≡ Some m
     → suits (expect_of sc.sizes sc.plan.version st (sync_slot_of sc.sizes) 2) m ≡ true → finds-call sc st.frame j c ≡ true
-is_found sc st j c m from reads h =
+is_found sc st {j} c {m} from reads h =
     let slot : ℕ = sync_slot_of sc.sizes in
     let front : ((m.frame == st.frame % 65536) && (m.slot == slot) && (m.stage == 2)) ≡ true =
     and_first ((m.frame == st.frame % 65536) && (m.slot == slot) && (m.stage == 2)) (tag_suits (slot == slot) m.tag) h in
@@ -128,18 +128,18 @@ record IsFoundAt (sc : Scenario) (ear : Ear) (epoch frame j k : ℕ) : Type 0 wh
   pub to : k < epoch + (f0_of sc.sizes sc.plan + sc.plan.l) + sc.plan.v
   pub last : LastIs (finds-call sc frame j) (ear.heard k)
 
-found_at : (sc : Scenario) (ear : Ear) (epoch : ℕ) (st : NodeState) (j k : ℕ) → taken_second sc ear epoch st j ≡ Some k → IsFoundAt sc ear epoch st.frame j k
-found_at sc ear epoch st j k taken =
+found_at : (sc : Scenario) (ear : Ear) (epoch : ℕ) (st : NodeState) (j : ℕ) {k : ℕ} → taken_second sc ear epoch st j ≡ Some k → IsFoundAt sc ear epoch st.frame j k
+found_at sc ear epoch st j {k} taken =
     let first : ℕ = epoch + (f0_of sc.sizes sc.plan + sc.plan.l) in
     let e : Expect = expect_of sc.sizes sc.plan.version st (sync_slot_of sc.sizes) 2 in
     let s : IsSensed e (of_source (collected sc.sizes ear.heard first sc.plan.v) j) k =
-    sensed e (of_source (collected sc.sizes ear.heard first sc.plan.v) j) k
-    (taken_is st.far (expects_call Biu st 2) (sense_span sc ear (epoch + (f0_of sc.sizes sc.plan + sc.plan.l)) sc.plan.v st (sync_slot_of sc.sizes) 2) j k taken) in
+    sensed e (of_source (collected sc.sizes ear.heard first sc.plan.v) j)
+    (taken_is st.far (expects_call Biu st 2) (sense_span sc ear (epoch + (f0_of sc.sizes sc.plan + sc.plan.l)) sc.plan.v st (sync_slot_of sc.sizes) 2) j taken) in
     let r : IsIn ear.heard first sc.plan.v j s.arrival = first_came sc.sizes ear.heard first sc.plan.v j s.arrival [] s.is in
     let at : first + r.i ≡ k = ap (λ (a : Arrival). a.stamp) (sym r.among.is) ∙ s.stamp in
     let reads : message_in sc.plan.version r.among.coming.bytes ≡ Some s.message = ap (λ (a : Arrival). message_in sc.plan.version a.bytes) (sym r.among.is) ∙ s.reads in
     let l : LastIs (finds-call sc st.frame j) (ear.heard (first + r.i)) =
-    last-is (finds-call sc st.frame j) (ear.heard (first + r.i)) r.among.nth r.among.coming r.among.there (is_found sc st j r.among.coming s.message r.among.from reads s.suited) in
+    last-is (finds-call sc st.frame j) (ear.heard (first + r.i)) r.among.nth r.among.there (is_found sc st r.among.coming r.among.from reads s.suited) in
     record { from = omega (arith, at); to = omega (arith, at, r.within); last = subst (λ t. LastIs (finds-call sc st.frame j) (ear.heard t)) at l }
 
 -- ---- the times
@@ -156,13 +156,13 @@ from_found sc frame j c h = go (message_in sc.plan.version c.bytes) h
     go (Some m) h =
         eqb-true c.from j (and_first (c.from == j) (is_call sc.sizes m) (and_first ((c.from == j) && is_call sc.sizes m) (m.frame == frame % 65536) h))
 
-pub has_times : (sc : Scenario) (hands : List HandIn) (ear : Ear) (n epoch low : ℕ) (s : Shared) (st : NodeState) → StandsSecond sc hands ear n epoch low s st
+pub has_times : {sc hands ear n epoch low s st : _} → StandsSecond sc hands ear n epoch low s st
     → HasTimes sc hands ear n epoch st (time_second sc ear epoch st)
-has_times sc hands ear n epoch low s st a = record { stamped = stamped; of_good = of_good }
+has_times {sc} {hands} {ear} {n} {epoch} {st} a = record { stamped = stamped; of_good = of_good }
   where
     stamped : (j k : ℕ) → taken_second sc ear epoch st j ≡ Some k → (1 ≤ k) × IsStamp ear.clock (time_second sc ear epoch st j) k
     stamped j k taken =
-        let f : IsFoundAt sc ear epoch st.frame j k = found_at sc ear epoch st j k taken in
+        let f : IsFoundAt sc ear epoch st.frame j k = found_at sc ear epoch st j taken in
         let heard : IsHeard ear k f.last.coming = record { nth = f.last.at; there = f.last.there } in
         let time : time_second sc ear epoch st j ≡ f.last.coming.time = ap (λ o. call_time sc ear st.frame j (stamp_seen (see_time o))) taken ∙ f.last.time in
         (omega (arith, f.from, a.beside.past), subst (λ t. IsStamp ear.clock t k) (sym time) (a.beside.is.stamps k f.last.coming (omega (arith, f.to, a.in_time)) heard))
@@ -171,7 +171,7 @@ has_times sc hands ear n epoch low s st a = record { stamped = stamped; of_good 
     of_good j tick t = time ∙ ap (λ (x : Coming). x.time) same
       where
         f : IsFoundAt sc ear epoch st.frame j t.stamp
-        f = found_at sc ear epoch st j t.stamp t.taken
+        f = found_at sc ear epoch st j t.taken
 
         from : f.last.coming.from ≡ j
         from = from_found sc st.frame j f.last.coming f.last.passes
@@ -180,19 +180,18 @@ has_times sc hands ear n epoch low s st a = record { stamped = stamped; of_good 
         time = ap (λ o. call_time sc ear st.frame j (stamp_seen (see_time o))) t.taken ∙ f.last.time
 
         node : IsGoodNode sc (moment sc hands n) Rmu j t.sent.state
-        node = (sends_then sc hands a.beside.law n j t.sending t.sent).node
+        node = (sends_then a.beside.law t.sent).node
 
         good : is_good sc Rmu j (moment sc hands n).frame (sync_slot_of sc.sizes) ≡ true
-        good = ap (is_good sc Rmu j (moment sc hands n).frame) (sym (slot_last sc.sizes (moment sc hands n).window 1 a.passed.stage.at)) ∙ node.good
+        good = ap (is_good sc Rmu j (moment sc hands n).frame) (sym (slot_last sc.sizes 1 a.passed.stage.at)) ∙ node.good
 
         same : f.last.coming ≡ coming_to sc ear j (moment sc hands n).frame t.sending
         same =
             let o : IsOwn sc hands ear n f.last.coming =
-            only_calls sc hands ear n epoch low s a.beside a.passed.stage.at f.last.coming t.sent.state (subst (λ r. IsGoodNode sc (moment sc hands n) Rmu r t.sent.state) (sym from) node)
-            (subst (λ r. is_good sc Rmu r (moment sc hands n).frame (sync_slot_of sc.sizes) ≡ true) (sym from) good)
-            t.stamp (omega (arith, f.to, a.in_time)) (record { nth = f.last.at; there = f.last.there }) f.from (omega (arith, f.to)) in
+            only_calls a.beside a.passed.stage.at (subst (λ r. IsGoodNode sc (moment sc hands n) Rmu r t.sent.state) (sym from) node)
+            (subst (λ r. is_good sc Rmu r (moment sc hands n).frame (sync_slot_of sc.sizes) ≡ true) (sym from) good) (omega (arith, f.to, a.in_time)) (record { nth = f.last.at; there = f.last.there }) f.from (omega (arith, f.to)) in
             let own : SendsIn sc hands n j o.good.sending =
             subst (λ r. SendsIn sc hands n r o.good.sending) from (subst (λ r. SendsIn sc hands r f.last.coming.from o.good.sending) o.here o.good.sent) in
-            let sending_is : o.good.sending ≡ t.sending = same-sent sc hands n j o.good.sending t.sending own t.sent in
+            let sending_is : o.good.sending ≡ t.sending = same-sent own t.sent in
             o.good.is ∙ ap (λ r. coming_to sc ear r (moment sc hands o.good.n).frame o.good.sending) from
             ∙ ap (λ r. coming_to sc ear j (moment sc hands r).frame o.good.sending) o.here ∙ ap (coming_to sc ear j (moment sc hands n).frame) sending_is

@@ -1,8 +1,8 @@
 -- A listener that keeps up with the good BIUs closes a window below the sync slot as the bus does.
 use Rattle.std.proofs.{Common.{◌≡◌, ℕ, zero, suc, ◌+◌, ◌-◌, ◌<◌, ◌≤◌, ◌==◌, Bool, true, false, List, Option, Some, None, nat_lt, inl, inr, get_or, slice_get, if◌then◌else◌, refl, sym, ◌∙◌, ap, subst, arith}, lemmas.Bool.{cases_lt, lt-ltb}, lemmas.Bool.Decides.nat_tests}
-use Rattle.rb_base.specs.{Nodes.Side.{Biu, Rmu}, Sizes.{Sizes, sync_slot_of}, declared.values.Delivery.Delivery, declared.values.Heard.Heard, declared.values.Heard.TheVariants.Fault, declared.values.Place.Place, declared.values.See.See}
+use Rattle.rb_base.specs.{Nodes.Side.{Biu, Rmu}, Sizes.{Sizes, sync_slot_of}, declared.values.Delivery.Delivery, declared.values.Heard.Heard, declared.values.Heard.TheVariants.Fault, declared.values.Place.Place}
 use Rattle.rb_base.proofs.Plain.{less-differs}
-use Rattle.rb_rules.specs.{declared.role.Role.Role, declared.role.Role.TheVariants.{Data, DiagBiu, DiagRmu, Schedule, Sync}, declared.sense.Sense.Sense, AbstractBus.{AbstractBus, sender_on}, Book.of_kind, ExactStage.{Outcome, close_exact, delivery_of, outcome_of, votes_in}, Goodness.{Scenario, is_good}, Judging.JudgedStage, Lawful.IsLawful, Moments.{IsComplete, IsGoodAfter, IsGoodBefore, after_slot, before_slot, before_stage, offered_in}, NodeState.{NodeState, sender_at}, Ports.HandIn, Rounds.Moment, Slots.{Sender, first_diagnosis_of, has_third_stage, role_of, same_side, sender_in}, Slots.Sender.{EachTrusted, Node, Nobody}, StandsFor.{AgreesBefore, SlotAgrees, StandsFor, steps_to, value_on}, SyncStage.close_sync}
+use Rattle.rb_rules.specs.{declared.role.Role.Role, declared.role.Role.TheVariants.{Data, DiagBiu, DiagRmu, Schedule, Sync}, declared.sense.Sense.Sense, AbstractBus.{AbstractBus, sender_on}, Book.of_kind, ExactStage.{Outcome, close_exact, delivery_of, outcome_of, votes_in}, Goodness.{Scenario, is_good}, Lawful.IsLawful, Moments.{IsComplete, IsGoodAfter, IsGoodBefore, after_slot, before_slot, before_stage}, NodeState.{NodeState, sender_at}, Ports.HandIn, Rounds.Moment, Slots.{Sender, first_diagnosis_of, has_third_stage, role_of, same_side, sender_in}, Slots.Sender.{EachTrusted, Node, Nobody}, StandsFor.{AgreesBefore, SlotAgrees, StandsFor, steps_to, value_on}, SyncStage.close_sync}
 use Rattle.rb_rules.proofs.RoundStates.{state-after}
 use Rattle.rb_laws_agreement.proofs.{Invariant.{Holds, IsGoodNode, Shared}, NextMoments.{CameFrom, came_from, next}, SecondStages.{GoodOne, some_good, vote-held}, Settings.{Setting, after, good_here}, SlotRuns.{IsSlot, next-frame, slot_runs}, ThirdStages.votes_kept}
 use Rattle.rb_laws_listener_near.proofs.{Tracking.{Held, held, listener_vote}, WindowSteps.{IsWatched, closed_by, closes_parts, votes_as}}
@@ -63,11 +63,11 @@ record InStage (sc : Scenario) (hands : List HandIn) (s : Shared) (frame slot q 
   pub steps : ℕ
   pub setting : Setting sc hands steps (before_stage sc hands frame slot (q + 1)) s slot q
 
-in_stage : (sc : Scenario) (hands : List HandIn) (frame slot q : ℕ) → (x : IsSlot sc hands frame slot) → q < 3 → InStage sc hands x.shared frame slot q
-in_stage sc hands frame slot zero x small = record { steps = x.steps; setting = x.first }
-in_stage sc hands frame slot (suc zero) x small = record { steps = suc x.steps; setting = subst (λ m. Setting sc hands (suc x.steps) m x.shared slot 1) x.after_first x.second }
-in_stage sc hands frame slot (suc (suc zero)) x small = record { steps = suc (suc x.steps); setting = subst (λ m. Setting sc hands (suc (suc x.steps)) m x.shared slot 2) x.after_second x.third }
-in_stage sc hands frame slot (suc (suc (suc q))) x small = absurd (omega (arith, small))
+in_stage : {sc hands frame slot : _} (q : ℕ) → (x : IsSlot sc hands frame slot) → q < 3 → InStage sc hands x.shared frame slot q
+in_stage zero x small = record { steps = x.steps; setting = x.first }
+in_stage {sc} {hands} {slot} (suc zero) x small = record { steps = suc x.steps; setting = subst (λ m. Setting sc hands (suc x.steps) m x.shared slot 1) x.after_first x.second }
+in_stage {sc} {hands} {slot} (suc (suc zero)) x small = record { steps = suc (suc x.steps); setting = subst (λ m. Setting sc hands (suc (suc x.steps)) m x.shared slot 2) x.after_second x.third }
+in_stage (suc (suc (suc q))) x small = absurd (omega (arith, small))
 
 -- the abstract bus has what all good nodes share
 pub record IsShared (bus : AbstractBus) (sc : Scenario) (s : Shared) : Type 0 where
@@ -75,14 +75,14 @@ pub record IsShared (bus : AbstractBus) (sc : Scenario) (s : Shared) : Type 0 wh
   pub rmus : s.trusted Rmu ≡ bus.rmus
   pub owners : sc.sizes.bius ≤ bus.slot → s.owners ≡ bus.owners
 
-shared_by : (sc : Scenario) (hands : List HandIn) (stands : StandsFor sc hands) (frame slot : ℕ) → slot < sync_slot_of sc.sizes → IsComplete sc hands frame slot → (x : IsSlot sc hands frame slot)
+shared_by : {sc hands : _} (stands : StandsFor sc hands) {frame slot : ℕ} → slot < sync_slot_of sc.sizes → IsComplete sc hands frame slot → (x : IsSlot sc hands frame slot)
     → IsShared (stands.bus (steps_to sc.sizes frame slot)) sc x.shared
-shared_by sc hands stands frame slot below complete x =
+shared_by {sc} {hands} stands {frame} {slot} below complete x =
     let agrees : SlotAgrees sc hands frame slot (stands.bus (steps_to sc.sizes frame slot)) (stands.bus (steps_to sc.sizes frame slot + 1)) = stands.slots frame slot (omega (arith, below)) complete in
-    let g : GoodOne sc (before_slot sc hands frame slot) Biu = some_good sc hands x.steps (before_slot sc hands frame slot) x.shared slot 0 x.first Biu in
+    let g : GoodOne sc (before_slot sc hands frame slot) Biu = some_good x.first Biu in
     let holds : Holds sc (before_slot sc hands frame slot) x.shared Biu g.st = x.first.agree.nodes Biu g.index g.st g.here in
     let good : IsGoodBefore sc hands frame slot Biu g.index g.st = record {
-      good = ap (λ f. is_good sc Biu g.index f slot) (sym x.frame_is) ∙ sym (good_here sc hands x.steps (before_slot sc hands frame slot) x.shared slot 0 x.first Biu g.index) ∙ g.here.good;
+      good = ap (λ f. is_good sc Biu g.index f slot) (sym x.frame_is) ∙ sym (good_here x.first Biu g.index) ∙ g.here.good;
       state = g.here.there;
     } in
     let b : AgreesBefore sc (stands.bus (steps_to sc.sizes frame slot)) Biu g.index g.st = agrees.before Biu g.index g.st good in
@@ -107,15 +107,15 @@ data-after sizes slot n e = go (nat_lt slot sizes.bius) refl e
     ]
 
 -- the listener's vote in stage 2 of a data slot is the value of the bus
-votes_value : (sc : Scenario) (hands : List HandIn) (stands : StandsFor sc hands) (frame slot q : ℕ) → slot < sync_slot_of sc.sizes → (complete : IsComplete sc hands frame slot) → (x : IsSlot sc hands frame slot)
-    → (st : NodeState) (sense : ℕ → Sense) (seen : ℕ → JudgedStage → Option (ℕ → See)) → IsWatched sc (before_stage sc hands frame slot (q + 1)) slot q st sense seen
+votes_value : {sc hands : _} (stands : StandsFor sc hands) {frame slot : ℕ} (q : ℕ) → slot < sync_slot_of sc.sizes → (complete : IsComplete sc hands frame slot) → (x : IsSlot sc hands frame slot)
+    → {st sense seen : _} → IsWatched sc (before_stage sc hands frame slot (q + 1)) slot q st sense seen
     → (n : ℕ) → role_of sc.sizes slot ≡ Data n → q + 1 ≡ 2 → listener_vote sc slot q st sense ≡ value_on (stands.bus (steps_to sc.sizes frame slot + 1)) slot
-votes_value sc hands stands frame slot zero below complete x st sense seen w n role two = absurd (omega (arith, two))
-votes_value sc hands stands frame slot (suc (suc q)) below complete x st sense seen w n role two = absurd (omega (arith, two))
-votes_value sc hands stands frame slot (suc zero) below complete x st sense seen w n role two =
-    votes_as sc hands c2.steps m2 x.shared slot 1 c2.setting st sense seen w (ap (λ r. votes_in Biu r 2) role) g.index from.st from.was
-    ∙ sym (vote-held sc hands c2.steps m2 x.shared slot 1 c2.setting Biu g.index from.st g.st from.was from.is (ap (λ r. votes_in Biu r 2) role))
-    ∙ sym (ap (λ v. get_or v slot Fault) (votes_kept sc hands c3.steps m3 x.shared slot 2 c3.setting Biu g.index g.st (after sc m3 Biu g.index g.st) g.here refl (ap (λ r. votes_in Biu r 3) role)))
+votes_value stands zero below complete x w n role two = absurd (omega (arith, two))
+votes_value stands (suc (suc q)) below complete x w n role two = absurd (omega (arith, two))
+votes_value {sc} {hands} stands {frame} {slot} (suc zero) below complete x w n role two =
+    votes_as c2.setting w (ap (λ r. votes_in Biu r 2) role) from.was
+    ∙ sym (vote-held c2.setting from.was from.is (ap (λ r. votes_in Biu r 2) role))
+    ∙ sym (ap (λ v. get_or v slot Fault) (votes_kept c3.setting g.here refl (ap (λ r. votes_in Biu r 3) role)))
     ∙ (agrees.after Biu g.index (after sc m3 Biu g.index g.st) last).vote below (ap (λ r. if has_third_stage r then true else same_side Biu Biu) role)
   where
     m2 : Moment
@@ -125,10 +125,10 @@ votes_value sc hands stands frame slot (suc zero) below complete x st sense seen
     m3 = before_stage sc hands frame slot 3
 
     c2 : InStage sc hands x.shared frame slot 1
-    c2 = in_stage sc hands frame slot 1 x (omega arith)
+    c2 = in_stage 1 x (omega arith)
 
     c3 : InStage sc hands x.shared frame slot 2
-    c3 = in_stage sc hands frame slot 2 x (omega arith)
+    c3 = in_stage 2 x (omega arith)
 
     second : next sc (before_stage sc hands frame slot 2) ≡ before_stage sc hands frame slot 3
     second = ap (next sc) (sym x.after_first) ∙ x.after_second
@@ -137,10 +137,10 @@ votes_value sc hands stands frame slot (suc zero) below complete x st sense seen
     third = ap (next sc) (sym x.after_second) ∙ x.after_third
 
     g : GoodOne sc (before_stage sc hands frame slot 3) Biu
-    g = some_good sc hands c3.steps m3 x.shared slot 2 c3.setting Biu
+    g = some_good c3.setting Biu
 
     from : CameFrom sc (before_stage sc hands frame slot 2) Biu g.index g.st
-    from = came_from sc hands c2.steps m2 x.shared c2.setting.agree Biu g.index g.st (subst (λ m. IsGoodNode sc m Biu g.index g.st) (sym second) g.here)
+    from = came_from c2.setting.agree (subst (λ m. IsGoodNode sc m Biu g.index g.st) (sym second) g.here)
 
     frame_third : (before_stage sc hands frame slot 3).frame ≡ frame
     frame_third =
@@ -148,7 +148,7 @@ votes_value sc hands stands frame slot (suc zero) below complete x st sense seen
 
     last : IsGoodAfter sc hands frame slot Biu g.index (after sc (before_stage sc hands frame slot 3) Biu g.index g.st)
     last = record {
-      good = ap (λ f. is_good sc Biu g.index f slot) (sym frame_third) ∙ sym (good_here sc hands c3.steps m3 x.shared slot 2 c3.setting Biu g.index) ∙ g.here.good;
+      good = ap (λ f. is_good sc Biu g.index f slot) (sym frame_third) ∙ sym (good_here c3.setting Biu g.index) ∙ g.here.good;
       state = ap (λ m. slice_get (of_kind Biu m.nodes) g.index) (sym third) ∙ state-after sc m3 Biu g.index g.st g.here.there;
     }
 
@@ -157,16 +157,16 @@ votes_value sc hands stands frame slot (suc zero) below complete x st sense seen
 
 -- The close.
 
-pub closes_exact : (sc : Scenario) (hands : List HandIn) → IsLawful sc → (stands : StandsFor sc hands) (frame slot q : ℕ) → slot < sync_slot_of sc.sizes → q < 3 → IsComplete sc hands frame slot
-    → (first : ℕ) (st : NodeState) (sense : ℕ → Sense) (seen : ℕ → JudgedStage → Option (ℕ → See)) → IsWatched sc (before_stage sc hands frame slot (q + 1)) slot q st sense seen
+pub closes_exact : {sc hands : _} → IsLawful sc → (stands : StandsFor sc hands) (frame : ℕ) {slot q : ℕ} → slot < sync_slot_of sc.sizes → q < 3 → IsComplete sc hands frame slot
+    → (first : ℕ) {st sense seen : _} → IsWatched sc (before_stage sc hands frame slot (q + 1)) slot q st sense seen
     → ClosesAsTheBus sc (stands.bus (steps_to sc.sizes frame slot)) (stands.bus (steps_to sc.sizes frame slot + 1)) st (closed_by sc slot (q + 1) first st sense).closed
-closes_exact sc hands law stands frame slot q below small complete first st sense seen w = record {
+closes_exact {sc} {hands} law stands frame {slot} {q} below small complete first {st} {sense} w = record {
   trusted = record { bius = h.near ∙ s.bius; rmus = h.far ∙ s.rmus };
   owners = λ le. h.owners ∙ s.owners le;
   delivers =
       (closes_parts sc slot (q + 1) first st sense below).delivered
       ∙ delivers-by st slot (q + 1) (role_of sc.sizes slot) (sender_at sc.sizes Biu st slot) (sender_on sc.sizes bus) (listener_vote sc slot q st sense) (value_on after_bus slot)
-      sender (votes_value sc hands stands frame slot q below complete x st sense seen w)
+      sender (votes_value stands q below complete x w)
       ∙ ap (λ (p : Place). delivery_by p.frame p.slot p.stage (role_of sc.sizes p.slot) (sender_on sc.sizes bus) (value_on after_bus p.slot)) (sym (place_is sc slot (q + 1) first st sense below));
 }
   where
@@ -177,19 +177,19 @@ closes_exact sc hands law stands frame slot q below small complete first st sens
     after_bus = stands.bus (steps_to sc.sizes frame slot + 1)
 
     x : IsSlot sc hands frame slot
-    x = slot_runs sc hands law frame slot below complete
+    x = slot_runs law below complete
 
     s : IsShared (stands.bus (steps_to sc.sizes frame slot)) sc x.shared
-    s = shared_by sc hands stands frame slot below complete x
+    s = shared_by stands below complete x
 
     here : InStage sc hands x.shared frame slot q
-    here = in_stage sc hands frame slot q x small
+    here = in_stage q x small
 
     h : Held sc (before_stage sc hands frame slot (q + 1)) x.shared st
-    h = held sc hands here.steps (before_stage sc hands frame slot (q + 1)) x.shared slot q here.setting st w.tracks
+    h = held here.setting w.tracks
 
     slot_is : (stands.bus (steps_to sc.sizes frame slot)).slot ≡ slot
-    slot_is = slot_there sc (offered_in sc hands) (steps_to sc.sizes frame slot + 1) stands.bus (stands.run_to_slot frame slot (omega (arith, below)) complete) frame slot (omega (arith, below)) (omega arith)
+    slot_is = slot_there (stands.run_to_slot frame slot (omega (arith, below)) complete) frame slot (omega (arith, below)) (omega arith)
 
     sender : (n : ℕ) → role_of sc.sizes slot ≡ Data n → sender_at sc.sizes Biu st slot ≡ sender_on sc.sizes (stands.bus (steps_to sc.sizes frame slot))
     sender n role =

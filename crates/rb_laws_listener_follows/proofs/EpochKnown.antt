@@ -21,9 +21,9 @@ pub record AmongThem (xs : List Window) (x : Window) : Type 0 where
   pub there : slice_get xs at ≡ Some x
   pub within : at < length xs
 
-pub among : (p : Window → Bool) (xs : List Window) (x : Window) → find p xs ≡ Some x → AmongThem xs x
-among p [] x h = cc
-among p (y ∷ ys) x h = by (p y) h (λ e. among p ys x e)
+pub among : (p : Window → Bool) (xs : List Window) {x : _} → find p xs ≡ Some x → AmongThem xs x
+among p [] h = cc
+among p (y ∷ ys) {x} h = by (p y) h (λ e. among p ys e)
   where
     by : (b : Bool) → cond b (Some y) (find p ys) ≡ Some x → (find p ys ≡ Some x → AmongThem ys x) → AmongThem (y ∷ ys) x
     by true h rest = record { at = 0; there = h; within = omega arith }
@@ -60,7 +60,7 @@ second_last sizes plan st k slot stage = go (window_at sizes plan (k - st.epoch)
         → (unwrap_or o (tail_at sizes plan Biu st)).last ≡ second_end sizes plan - 1
     go None e slot stage = let s : 4 ≡ 2 = stage in absurd (omega (arith, s))
     go (Some x) e slot stage =
-        let f : AmongThem (windows_of_frame sizes plan) x = among (holds_offset (k - st.epoch)) (windows_of_frame sizes plan) x e in
+        let f : AmongThem (windows_of_frame sizes plan) x = among (holds_offset (k - st.epoch)) (windows_of_frame sizes plan) e in
         let inside : f.at < stages_in sizes = omega (arith, f.within, how-many sizes plan) in
         let is : window_numbered sizes plan Biu st f.at ≡ x = same_window (window_numbered sizes plan Biu st f.at) x (sym (get-window sizes plan Biu st f.at inside) ∙ f.there) in
         let number : f.at ≡ 3 * sync_slot_of sizes + 1 = second_number sizes plan st f.at inside (ap (λ y. y.slot) is ∙ slot) (ap (λ y. y.stage) is ∙ stage) in
@@ -145,9 +145,9 @@ pub record Turns (sizes : Sizes) (plan : Plan) (st now : NodeState) (k : ℕ) : 
   pub epoch : now.epoch ≡ k
   pub unknown : new_epoch_of plan Biu now ≡ None
 
-keeps : (sizes : Sizes) (plan : Plan) (st : NodeState) (x k : ℕ) → new_epoch_of plan Biu st ≡ Some x → (x == k) ≡ false → state_at sizes plan Biu st k ≡ st
+keeps : (sizes : Sizes) (plan : Plan) (st : NodeState) {x : ℕ} (k : ℕ) → new_epoch_of plan Biu st ≡ Some x → (x == k) ≡ false → state_at sizes plan Biu st k ≡ st
 unfolding state_at
-keeps sizes plan st x k known other =
+keeps sizes plan st k known other =
     ap (λ o. elim (is_tick o k) as (λ _. NodeState) [ true ↦ turn_if_known sizes plan Biu st | false ↦ st ]) known
     ∙ ap (λ b. elim b as (λ _. NodeState) [ true ↦ turn_if_known sizes plan Biu st | false ↦ st ]) other
 
@@ -156,17 +156,17 @@ turns_or_stays sizes plan st k = go (new_epoch_of plan Biu st) refl
   where
     same_tick : (x : ℕ) → new_epoch_of plan Biu st ≡ Some x → x ≡ k → Turns sizes plan st (state_at sizes plan Biu st k) k
     same_tick x e same = subst (λ t. Turns sizes plan st (state_at sizes plan Biu st t) t) same (
-        let t = turn-at sizes plan Biu st x e in
+        let t = turn-at sizes plan Biu st e in
         record {
           known = e;
           frame = ap (λ (s : NodeState). s.frame) t.0 ∙ t.1.1;
           epoch = ap (λ (s : NodeState). s.epoch) t.0 ∙ t.1.0;
-          unknown = ap (new_epoch_of plan Biu) (t.0 ∙ turns_with sizes plan st x e) ∙ turned-unknown sizes plan x st;
+          unknown = ap (new_epoch_of plan Biu) (t.0 ∙ turns_with sizes plan st e) ∙ turned-unknown sizes plan x st;
         })
 
     go : (o : Option ℕ) → new_epoch_of plan Biu st ≡ o → Turns sizes plan st (state_at sizes plan Biu st k) k ⊎ (state_at sizes plan Biu st k ≡ st)
     go None e = inr (no-next sizes plan Biu st k e)
     go (Some x) e = elim (true_or_false (x == k)) [
       | inl is ↦ inl (same_tick x e (eqb-true x k is))
-      | inr other ↦ inr (keeps sizes plan st x k e other)
+      | inr other ↦ inr (keeps sizes plan st k e other)
     ]

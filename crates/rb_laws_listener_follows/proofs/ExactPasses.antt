@@ -34,10 +34,10 @@ pub record PassesExact (sc : Scenario) (hands : List HandIn) (ear : Ear) (frame 
   pub through : GoesThrough sc hands ear (w + first_of_frame sc frame) epoch x.before x.st (w / 3) (w % 3)
   pub next : StandsAt sc hands ear frame (suc w) epoch low
 
-pub passes_exact : (sc : Scenario) (hands : List HandIn) (ear : Ear) (learned : ℕ) (records : List Sense) (f last w epoch low : ℕ) → IsHeldTo sc hands ear learned records f last
+pub passes_exact : {sc hands ear learned records f last w epoch low : _} → IsHeldTo sc hands ear learned records f last
     → (x : StandsAt sc hands ear (suc f) w epoch low) → w < 3 * sync_slot_of sc.sizes → IsRunning (moment sc hands (suc (w + first_of_frame sc (suc f)))) → suc (w + first_of_frame sc (suc f)) ≤ last
     → epoch + w * sc.plan.l + sc.plan.l ≤ ear.ticks → PassesExact sc hands ear (suc f) w epoch low x
-passes_exact sc hands ear learned records f last w epoch low h x below running le in_time = record {
+passes_exact {sc} {hands} {ear} {records} {f} {w} {epoch} {low} h x below running le in_time = record {
   set = set;
   premise = premise;
   through = through;
@@ -68,22 +68,22 @@ passes_exact sc hands ear learned records f last w epoch low h x below running l
     time = omega (arith, ticks, in_time)
 
     set : Setting sc hands (w + first_of_frame sc (suc f)) (moment sc hands (w + first_of_frame sc (suc f))) x.shared (w / 3) (w % 3)
-    set = setting_at sc hands ear n epoch low x.shared (w / 3) (w % 3) x.abides.beside (omega (arith, below)) (omega arith) (omega (arith, window)) running
+    set = setting_at (w / 3) (w % 3) x.abides.beside (omega (arith, below)) (omega arith) (omega (arith, window)) running
 
     o : Outcome
     o = outcome_at sc hands ear (w + first_of_frame sc (suc f)) epoch x.st (w / 3) (w % 3)
 
     here : IsWindow sc.sizes sc.plan x.before x.st (epoch + (moment sc hands (w + first_of_frame sc (suc f))).window * sc.plan.l) (sc.plan.l - 1)
-    here = window_at sc hands ear n epoch low x.shared x.before x.st x.abides (omega (arith, window, below)) time
+    here = window_at x.abides (omega (arith, window, below)) time
 
     closes : ClosesWindow sc ear x.before x.st (epoch + (moment sc hands (w + first_of_frame sc (suc f))).window * sc.plan.l) (sc.plan.l - 1)
-    closes = closes_window sc ear x.before x.st first (sc.plan.l - 1) here x.abides.stands
+    closes = closes_window here x.abides.stands
 
     is : closing sc ear x.st (epoch + (moment sc hands (w + first_of_frame sc (suc f))).window * sc.plan.l) (sc.plan.l - 1) ≡ o
-    is = closing_is sc hands ear n epoch x.shared x.st (w / 3) (w % 3) set x.abides.epoch_is
+    is = closing_is ear x.st set x.abides.epoch_is
 
     frame : x.st.frame ≡ suc f
-    frame = (held sc hands n (moment sc hands n) x.shared (w / 3) (w % 3) set x.st x.abides.tracks).frame ∙ x.at.frame_is
+    frame = (held set x.abides.tracks).frame ∙ x.at.frame_is
 
     place : IsPlaceOf (closing sc ear x.st (epoch + (moment sc hands (w + first_of_frame sc (suc f))).window * sc.plan.l) (sc.plan.l - 1)).closed (suc f) w
     place =
@@ -96,13 +96,13 @@ passes_exact sc hands ear learned records f last w epoch low h x below running l
 
     sees : SeesWindow sc ear (suc f) w (closing sc ear x.st (epoch + (moment sc hands (w + first_of_frame sc (suc f))).window * sc.plan.l) (sc.plan.l - 1)).closed
         (epoch + (moment sc hands (w + first_of_frame sc (suc f))).window * sc.plan.l + (sc.plan.l - 1))
-    sees = sees_window sc ear x.before x.st first (sc.plan.l - 1) (suc f) w here x.abides.stands closes none place
+    sees = sees_window here x.abides.stands closes none place
 
     seen_end : seen_by sc ear (suc f) w ear.ticks ≡ Some o.closed
     seen_end =
         let k : ℕ = suc (first + (sc.plan.l - 1)) in
         let e : ear.ticks - k + k ≡ ear.ticks = omega (arith, time, set.law.plan.l.0) in
-        ap (seen_by sc ear (suc f) w) (sym e) ∙ seen_stays sc ear (suc f) w k (closing sc ear x.st first (sc.plan.l - 1)).closed sees.here (ear.ticks - k) ∙ ap (λ y. Some y.closed) is
+        ap (seen_by sc ear (suc f) w) (sym e) ∙ seen_stays sc ear (suc f) w k sees.here (ear.ticks - k) ∙ ap (λ y. Some y.closed) is
 
     saw : SawTaken sc (moment sc hands (w + first_of_frame sc (suc f))) (w / 3) (w % 3 + 1) x.st (sense_at sc hands ear (w + first_of_frame sc (suc f)) epoch x.st (w / 3) (w % 3)) (seen_following sc ear (suc f))
     saw = record {
@@ -118,7 +118,7 @@ passes_exact sc hands ear learned records f last w epoch low h x below running l
     e = omega arith
 
     next_at : IsAtWindow sc hands (suc f) (suc w)
-    next_at = at-window sc hands set.law f h.complete (suc w) (omega (arith, below)) (subst (λ k. IsRunning (moment sc hands k)) e running)
+    next_at = at-window set.law h.complete (suc w) (omega (arith, below)) (subst (λ k. IsRunning (moment sc hands k)) e running)
 
     stages : stages_with sc (moment sc hands (w + first_of_frame sc (suc f))) (w / 3) (w % 3 + 1) ≡ (moment sc hands (suc (w + first_of_frame sc (suc f)))).book.stages
     stages =
@@ -128,19 +128,19 @@ passes_exact sc hands ear learned records f last w epoch low h x below running l
     judged : verdict_with (seen_following sc ear (suc f)) (stages_with sc (moment sc hands (w + first_of_frame sc (suc f))) (w / 3) (w % 3 + 1)) ≡ None
     judged =
         ap (verdict_with (seen_following sc ear (suc f))) stages
-        ∙ holds_following sc hands ear learned records last h.holds (suc n) (suc f) le (ap (λ k. (moment sc hands k).frame) e ∙ next_at.frame_is) h.later
+        ∙ holds_following sc hands ear records h.holds (suc n) le (ap (λ k. (moment sc hands k).frame) e ∙ next_at.frame_is) h.later
         (let v : (moment sc hands (suc n)).window ≡ suc w = ap (λ k. (moment sc hands k).window) e ∙ next_at.window_is in omega (arith, v))
 
     premise : IsPremise sc hands ear (w + first_of_frame sc (suc f)) epoch x.st (w / 3) (w % 3) (seen_following sc ear (suc f))
-    premise = record { most = most_stay sc hands ear set.law x.abides.beside.run n (omega (arith, window, below)) running; none = judged; saw = λ votes. saw }
+    premise = record { most = most_stay set.law x.abides.beside.run n (omega (arith, window, below)) running; none = judged; saw = λ votes. saw }
 
     through : GoesThrough sc hands ear (w + first_of_frame sc (suc f)) epoch x.before x.st (w / 3) (w % 3)
-    through = goes_through sc hands ear n epoch low x.shared (w / 3) (w % 3) x.before x.st x.abides set (seen_following sc ear (suc f)) premise time
+    through = goes_through x.abides set premise time
 
     next : StandsNext sc hands ear (suc w + first_of_frame sc (suc f)) epoch low o.state
     next =
         subst (λ k. StandsNext sc hands ear k epoch low o.state) e
-        (stands_next sc hands ear n epoch low x.shared (w / 3) (w % 3) x.before x.st x.abides (omega (arith, below)) (omega arith) (omega (arith, window)) running through)
+        (stands_next x.abides (omega (arith, below)) (omega arith) (omega (arith, window)) running through)
 
     later_tick : suc (first + (sc.plan.l - 1)) ≡ epoch + suc w * sc.plan.l
     later_tick = let g : suc w * sc.plan.l ≡ w * sc.plan.l + sc.plan.l = omega arith in omega (arith, ticks, g, set.law.plan.l.0)

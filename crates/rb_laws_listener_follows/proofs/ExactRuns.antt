@@ -22,20 +22,20 @@ goes_on sc hands n inside running =
     ]
 
 -- if the run goes on over a window below the sync slot, the window is a setting
-pub setting_at : (sc : Scenario) (hands : List HandIn) (ear : Ear) (n epoch low : ℕ) (s : Shared) (slot q : ℕ) → Beside sc hands ear n epoch low s → slot < sync_slot_of sc.sizes → q < 3
+pub setting_at : {sc hands ear n epoch low s : _} (slot q : ℕ) → Beside sc hands ear n epoch low s → slot < sync_slot_of sc.sizes → q < 3
     → (moment sc hands n).window ≡ 3 * slot + q → IsRunning (moment sc hands (suc n)) → Setting sc hands n (moment sc hands n) s slot q
-setting_at sc hands ear n epoch low s slot q b below small at running =
-    exact-setting sc hands n (moment sc hands n) s slot q b.law b.agree below small at (goes_on sc hands n (omega (arith, at, below, small)) running).open_on
+setting_at {sc} {hands} {n} slot q b below small at running =
+    exact-setting slot q b.law b.agree below small at (goes_on sc hands n (omega (arith, at, below, small)) running).open_on
 
 -- the listener stands before the next window
 pub record StandsNext (sc : Scenario) (hands : List HandIn) (ear : Ear) (n epoch low : ℕ) (st : NodeState) : Type 0 where
   pub shared : Shared
   pub abides : Abides sc hands ear n epoch low shared st st
 
-pub stands_next : (sc : Scenario) (hands : List HandIn) (ear : Ear) (n epoch low : ℕ) (s : Shared) (slot q : ℕ) (before st : NodeState) → Abides sc hands ear n epoch low s before st
+pub stands_next : {sc hands ear n epoch low s slot q before st : _} → Abides sc hands ear n epoch low s before st
     → slot < sync_slot_of sc.sizes → q < 3 → (moment sc hands n).window ≡ 3 * slot + q → IsRunning (moment sc hands (suc n)) → GoesThrough sc hands ear n epoch before st slot q
     → StandsNext sc hands ear (suc n) epoch low (outcome_at sc hands ear n epoch st slot q).state
-stands_next sc hands ear n epoch low s slot q before st a below small at running g = record {
+stands_next {sc} {hands} {ear} {n} {epoch} {low} {slot} {q} {st} a below small at running g = record {
   shared = agreed.shared;
   abides = record {
     beside = record {
@@ -45,7 +45,7 @@ stands_next sc hands ear n epoch low s slot q before st a below small at running
       running = running;
       agree = agreed.agree;
       near = subst (λ m. Synchronous sc m agreed.shared low) on.next_is
-          (near_exact sc hands n (moment sc hands n) s agreed.shared low a.beside.agree a.beside.near.begun (omega (arith, at, below, small)));
+          (near_exact agreed.shared a.beside.agree a.beside.near.begun (omega (arith, at, below, small)));
       began = a.beside.began;
       past = a.beside.past;
     };
@@ -61,7 +61,7 @@ stands_next sc hands ear n epoch low s slot q before st a below small at running
     on = goes_on sc hands n (omega (arith, at, below, small)) running
 
     agreed : IsAgreed sc hands (suc n)
-    agreed = agreement sc hands a.beside.law (suc n) running
+    agreed = agreement hands a.beside.law (suc n) running
 
     window : (moment sc hands (suc n)).window ≡ (moment sc hands n).window + 1
     window = ap (λ m. m.window) (sym on.next_is) ∙ next-window sc (moment sc hands n)

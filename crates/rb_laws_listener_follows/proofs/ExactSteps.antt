@@ -39,8 +39,8 @@ pub record IsPremise (sc : Scenario) (hands : List HandIn) (ear : Ear) (n epoch 
 
 -- ---- its ticks
 
-before-sync : (sc : Scenario) (hands : List HandIn) (n : ℕ) (s : Shared) (slot q : ℕ) → Setting sc hands n (moment sc hands n) s slot q → (moment sc hands n).window < 3 * sync_slot_of sc.sizes
-before-sync sc hands n s slot q c =
+before-sync : {sc hands n s slot q : _} → Setting sc hands n (moment sc hands n) s slot q → (moment sc hands n).window < 3 * sync_slot_of sc.sizes
+before-sync {sc} {hands} {n} {slot} {q} c =
     let at : (moment sc hands n).window ≡ 3 * slot + q = c.at in let below : slot < sync_slot_of sc.sizes = c.below in let small : q < 3 = c.small in omega arith
 
 record Ticks (sc : Scenario) (st : NodeState) (w : ℕ) : Type 0 where
@@ -55,25 +55,25 @@ ticks_are sc st w below some =
     let b : last_of sc.sizes sc.plan Biu st w ≡ w * sc.plan.l + sc.plan.l - 1 = last-same sc.sizes sc.plan Biu st w (omega (arith, below)) in
     record { first = a; last = b; some = omega (arith, a, b, some); many = omega (arith, a, b, some) }
 
-pub window_at : (sc : Scenario) (hands : List HandIn) (ear : Ear) (n epoch low : ℕ) (s : Shared) (before st : NodeState) → Abides sc hands ear n epoch low s before st
+pub window_at : {sc hands ear n epoch low s before st : _} → Abides sc hands ear n epoch low s before st
     → (moment sc hands n).window < 3 * sync_slot_of sc.sizes → epoch + (moment sc hands n).window * sc.plan.l + sc.plan.l ≤ ear.ticks
     → IsWindow sc.sizes sc.plan before st (epoch + (moment sc hands n).window * sc.plan.l) (sc.plan.l - 1)
-window_at sc hands ear n epoch low s before st a below in_time =
+window_at {sc} {hands} {n} {epoch} {before} {st} a below in_time =
     let w : ℕ = (moment sc hands n).window in
     let t : Ticks sc st w = ticks_are sc st w below a.beside.law.plan.l.0 in
     let first : st.epoch + first_of sc.sizes sc.plan Biu st w ≡ epoch + w * sc.plan.l = omega (arith, a.epoch_is, t.first) in
     let end : st.epoch + last_of sc.sizes sc.plan Biu st w < 2 ^ 31 = omega (arith, a.epoch_is, t.last, in_time, a.beside.is.ticks, a.beside.law.plan.l.0) in
     let is : IsWindow sc.sizes sc.plan before st (st.epoch + first_of sc.sizes sc.plan Biu st w) (last_of sc.sizes sc.plan Biu st w - first_of sc.sizes sc.plan Biu st w) =
-    is_window sc.sizes sc.plan before st w (has_ticks sc a.beside.law) (omega (arith, below)) t.some
+    is_window sc.sizes before w (has_ticks a.beside.law) (omega (arith, below)) t.some
     (ap (state_at sc.sizes sc.plan Biu before) first ∙ a.turns) (λ x known. let both : None ≡ Some x = sym a.unknown ∙ known in cc) end in
     subst (λ f. IsWindow sc.sizes sc.plan before st f (sc.plan.l - 1)) first
     (subst (λ k. IsWindow sc.sizes sc.plan before st (st.epoch + first_of sc.sizes sc.plan Biu st w) k) t.many is)
 
 -- ---- its close
 
-pub closing_is : (sc : Scenario) (hands : List HandIn) (ear : Ear) (n epoch : ℕ) (s : Shared) (st : NodeState) (slot q : ℕ) → (c : Setting sc hands n (moment sc hands n) s slot q) → st.epoch ≡ epoch
+pub closing_is : {sc hands : _} (ear : Ear) {n epoch s : _} (st : NodeState) {slot q : ℕ} → (c : Setting sc hands n (moment sc hands n) s slot q) → st.epoch ≡ epoch
     → closing sc ear st (epoch + (moment sc hands n).window * sc.plan.l) (sc.plan.l - 1) ≡ outcome_at sc hands ear n epoch st slot q
-closing_is sc hands ear n epoch s st slot q c epoch_is =
+closing_is {sc} {hands} ear {n} {epoch} st {slot} {q} c epoch_is =
     ap (λ x. close_window sc.sizes sc.plan Biu 16 st x (of_source (collected sc.sizes ear.heard first (sc.plan.l - 1 + 1)))) here
     ∙ ap (λ k. close_window sc.sizes sc.plan Biu 16 st own (of_source (collected sc.sizes ear.heard first k))) (let e : sc.plan.l - 1 + 1 ≡ sc.plan.l = omega (arith, some) in e)
     ∙ ap (λ f. close sc.sizes Biu 16 st slot (q + 1) f (sense_at sc hands ear n epoch st slot q)) (at.first_is Biu st)
@@ -85,7 +85,7 @@ closing_is sc hands ear n epoch s st slot q c epoch_is =
     first = epoch + (moment sc hands n).window * sc.plan.l
 
     below : (moment sc hands n).window < 3 * sync_slot_of sc.sizes
-    below = before-sync sc hands n s slot q c
+    below = before-sync c
 
     some : 1 ≤ sc.plan.l
     some = c.law.plan.l.0
@@ -94,7 +94,7 @@ closing_is sc hands ear n epoch s st slot q c epoch_is =
     ws = exact_windows sc (moment sc hands n) slot q c.below c.small c.at
 
     at : IsAt sc (moment sc hands n) slot (q + 1) (exact_windows sc (moment sc hands n) slot q c.below c.small c.at) ((moment sc hands n).window * sc.plan.l) sc.plan.l
-    at = exact_at sc (moment sc hands n) slot q ws c.below c.small c.at
+    at = exact_at q ws c.below c.small c.at
 
     own : Window
     own = record { slot = slot; stage = q + 1; first = ws.first Biu st; last = ws.last Biu st }
@@ -109,7 +109,7 @@ closing_is sc hands ear n epoch s st slot q c epoch_is =
 
     here : window_here sc.sizes sc.plan Biu st (epoch + (moment sc hands n).window * sc.plan.l + (sc.plan.l - 1)) ≡ own
     here =
-        ap (window_here sc.sizes sc.plan Biu st) (sym same) ∙ closes_there sc.sizes sc.plan st w (has_ticks sc c.law) (omega (arith, below)) t.some ∙ ws.are Biu st
+        ap (window_here sc.sizes sc.plan Biu st) (sym same) ∙ closes_there sc.sizes st w (has_ticks c.law) (omega (arith, below)) t.some ∙ ws.are Biu st
 
 -- a stage below the sync slot keeps no middle
 pub exact_keeps : (sizes : Sizes) (plan : Plan) (st : NodeState) (slot stage : ℕ) (sense : ℕ → Sense) → new_epoch_of plan Biu (close_exact sizes Biu 16 st slot stage sense).state ≡ new_epoch_of plan Biu st
@@ -142,35 +142,35 @@ pub record GoesThrough (sc : Scenario) (hands : List HandIn) (ear : Ear) (n epoc
   pub unknown : new_epoch_of sc.plan Biu (outcome_at sc hands ear n epoch st slot q).state ≡ None
 
 -- `IsWatched` holds in the window
-pub watched : (sc : Scenario) (hands : List HandIn) (ear : Ear) (n epoch low : ℕ) (s : Shared) (slot q : ℕ) (before st : NodeState) → Abides sc hands ear n epoch low s before st
-    → (c : Setting sc hands n (moment sc hands n) s slot q) → (seen : ℕ → JudgedStage → Option (ℕ → See)) → IsPremise sc hands ear n epoch st slot q seen
+pub watched : {sc hands ear n epoch low s slot q before st : _} → Abides sc hands ear n epoch low s before st
+    → (c : Setting sc hands n (moment sc hands n) s slot q) → {seen : _} → IsPremise sc hands ear n epoch st slot q seen
     → epoch + (moment sc hands n).window * sc.plan.l + sc.plan.l ≤ ear.ticks
     → IsWatched sc (moment sc hands n) slot q st (sense_at sc hands ear n epoch st slot q) seen
-watched sc hands ear n epoch low s slot q before st a c seen p in_time = record {
+watched {st} a c p in_time = record {
   most = p.most;
   tracks = a.tracks;
-  senses = senses_exact sc hands ear n epoch low s slot q a.beside c st (held sc hands n (moment sc hands n) s slot q c st a.tracks).frame in_time;
+  senses = senses_exact a.beside c st (held c a.tracks).frame in_time;
   none = p.none;
   saw = p.saw;
 }
 
-pub goes_through : (sc : Scenario) (hands : List HandIn) (ear : Ear) (n epoch low : ℕ) (s : Shared) (slot q : ℕ) (before st : NodeState) → Abides sc hands ear n epoch low s before st
-    → (c : Setting sc hands n (moment sc hands n) s slot q) → (seen : ℕ → JudgedStage → Option (ℕ → See)) → IsPremise sc hands ear n epoch st slot q seen
+pub goes_through : {sc hands ear n epoch low s slot q before st : _} → Abides sc hands ear n epoch low s before st
+    → (c : Setting sc hands n (moment sc hands n) s slot q) → {seen : _} → IsPremise sc hands ear n epoch st slot q seen
     → epoch + (moment sc hands n).window * sc.plan.l + sc.plan.l ≤ ear.ticks
     → GoesThrough sc hands ear n epoch before st slot q
-goes_through sc hands ear n epoch low s slot q before st a c seen p in_time =
+goes_through {sc} {hands} {ear} {n} {epoch} {slot} {q} {before} {st} a c p in_time =
     let first : ℕ = epoch + (moment sc hands n).window * sc.plan.l in
-    let below : (moment sc hands n).window < 3 * sync_slot_of sc.sizes = before-sync sc hands n s slot q c in
-    let x : ClosesWindow sc ear before st first (sc.plan.l - 1) = closes_window sc ear before st first (sc.plan.l - 1) (window_at sc hands ear n epoch low s before st a below in_time) a.stands in
-    let is : closing sc ear st first (sc.plan.l - 1) ≡ outcome_at sc hands ear n epoch st slot q = closing_is sc hands ear n epoch s st slot q c a.epoch_is in
+    let below : (moment sc hands n).window < 3 * sync_slot_of sc.sizes = before-sync c in
+    let x : ClosesWindow sc ear before st first (sc.plan.l - 1) = closes_window (window_at a below in_time) a.stands in
+    let is : closing sc ear st first (sc.plan.l - 1) ≡ outcome_at sc hands ear n epoch st slot q = closing_is ear st c a.epoch_is in
     record {
       core = x.core;
       here = x.here;
       state = x.state;
       closed = x.closed ∙ ap (λ o. Some o.closed) is;
       stands = subst (λ o. Stands sc ear o.state (suc (first + (sc.plan.l - 1)))) is x.stands;
-      tracks = tracks_after sc hands n (moment sc hands n) s slot q ((moment sc hands n).window * sc.plan.l) c st (sense_at sc hands ear n epoch st slot q) seen
-          (watched sc hands ear n epoch low s slot q before st a c seen p in_time);
+      tracks = tracks_after ((moment sc hands n).window * sc.plan.l) c
+          (watched a c p in_time);
       epoch_is = (close-stays sc.sizes Biu 16 st slot (q + 1) ((moment sc hands n).window * sc.plan.l) (sense_at sc hands ear n epoch st slot q)).epoch ∙ a.epoch_is;
       unknown = keeps_middle sc.sizes sc.plan st slot (q + 1) ((moment sc hands n).window * sc.plan.l) (sense_at sc hands ear n epoch st slot q) c.below ∙ a.unknown;
     }

@@ -5,7 +5,7 @@ use Rattle.rb_base.specs.{Nodes.Side, Nodes.Side.Biu, Sizes.{Sizes, sync_slot_of
 use Rattle.rb_base.proofs.Sets.{has_none}
 use Rattle.rb_rules.specs.{Conviction.turn, Goodness.{Scenario, is_good}, Lawful.IsLawful, Moments.{IsGoodBefore, IsRunning, before_slot, before_stage}, NodeState.NodeState, Ports.HandIn, Rounds.moment, SyncStage.new_epoch_of}
 use Rattle.rb_laws_agreement.proofs.{FrameBegins.frame_turns, Invariant.{IsGoodNode, Shared, slot_numbered}, Places.{IsPlaced, placed}}
-use Rattle.rb_listen.specs.{Lessons.first_of, Listening.first_core, declared.lesson.First.First, declared.search.Search.Search}
+use Rattle.rb_listen.specs.{Lessons.first_of, Listening.first_core, declared.lesson.First.First}
 use Rattle.rb_laws_listener_near.specs.Holding.{HoldAlike}
 use Rattle.rb_laws_listener_learns.specs.{Deciding.DecidesBy, Ears.{Ear, HearsTheRun, IsEar}, Learned.HasLearned, Receivers.IsCalm, Waiting.WaitsFor}
 use Rattle.rb_laws_listener_learns.proofs.Waits.{waits-for}
@@ -35,10 +35,10 @@ pub record FirstBegins (sc : Scenario) (hands : List HandIn) (ear : Ear) (learne
   pub frame_is : (moment sc hands (moment_before sc (learned + 1) 0 1)).frame ≡ learned + 1
   pub begins : BeginsFirst sc hands ear (moment_before sc (learned + 1) 0 1) first.epoch low shared (first_state sc first)
 
-pub first_begins : (sc : Scenario) (hands : List HandIn) → IsLawful sc → (ear : Ear) → IsEar sc ear → HearsTheRun sc hands ear → (learned tick : ℕ) (s : Search) → DecidesBy sc hands ear learned tick s
-    → IsCalm sc hands ear learned s.lesson.records learned (sync_slot_of sc.sizes) → (first : First) → first_of sc.sizes sc.plan s.lesson ≡ Some first
+pub first_begins : {sc hands : _} → IsLawful sc → {ear : _} → IsEar sc ear → HearsTheRun sc hands ear → {learned tick s : _} → DecidesBy sc hands ear learned tick s
+    → IsCalm sc hands ear learned s.lesson.records learned (sync_slot_of sc.sizes) → {first : _} → first_of sc.sizes sc.plan s.lesson ≡ Some first
     → HasLearned sc hands ear learned tick s.lesson.records first → FirstBegins sc hands ear learned first
-first_begins sc hands law ear is run learned tick s decides calm first found l = record {
+first_begins {sc} {hands} law {ear} is run {learned} {tick} {s} decides calm {first} found l = record {
   low = b.0;
   shared = b.1.0;
   near = near;
@@ -57,19 +57,19 @@ first_begins sc hands law ear is run learned tick s decides calm first found l =
     w = waits-for sc hands law ear is run learned tick s decides first found l.ahead
 
     near : BeginsNear sc hands ear (learned + 1) first.epoch
-    near = first_near sc hands law ear is run learned tick s decides calm first l
+    near = first_near law is run decides calm l
 
     next : suc learned ≡ learned + 1
     next = omega arith
 
     running : IsRunning (before_stage sc hands (learned + 1) 0 1)
-    running = subst (λ f. IsRunning (before_stage sc hands f 0 1)) next (frame_turns sc hands law learned calm.complete).running
+    running = subst (λ f. IsRunning (before_stage sc hands f 0 1)) next (frame_turns law calm.complete).running
 
     p : IsPlaced sc hands (learned + 1) 0 1
-    p = placed sc hands law (learned + 1) 0 1 (omega arith) (omega arith) (omega arith) running
+    p = placed hands law (learned + 1) 0 1 (omega arith) (omega arith) (omega arith) running
 
     b : (low : ℕ) × ((s : Shared) × Beside sc hands ear (moment_before sc (learned + 1) 0 1) first.epoch low s)
-    b = beside_at sc hands law ear is run (learned + 1) first.epoch near 0 1 (omega (arith, law.sizes.some_biu)) (omega arith) (omega arith) running
+    b = beside_at law is run near 0 1 (omega (arith, law.sizes.some_biu)) (omega arith) (omega arith) running
 
     before : (me : Side) (i : ℕ) (st : NodeState) → IsGoodNode sc (before_slot sc hands (learned + 1) 0) me i st → IsGoodBefore sc hands (learned + 1) 0 me i st
     before me i st node =
@@ -82,7 +82,7 @@ first_begins sc hands law ear is run learned tick s decides calm first found l =
     like : (i : ℕ) (o : NodeState) → IsGoodNode sc (before_slot sc hands (learned + 1) 0) Biu i o → HoldAlike (first_state sc first) o
     like i o node =
         let h : IsGoodBefore sc hands (learned + 1) 0 Biu i o = before Biu i o node in
-        let begun : HasBegun sc hands learned Biu i o = has_begun sc hands law learned calm.complete Biu i o (subst (λ f. IsGoodBefore sc hands f 0 Biu i o) (sym next) h) in
+        let begun : HasBegun sc hands learned Biu i o = has_begun law calm.complete (subst (λ f. IsGoodBefore sc hands f 0 Biu i o) (sym next) h) in
         record {
           frame = l.frame ∙ sym p.frame_is ∙ sym (p.agree.nodes Biu i o node).frame;
           near = sym (l.trusted_next.biu Biu i o h);

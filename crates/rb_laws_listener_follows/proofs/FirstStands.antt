@@ -4,7 +4,7 @@ use Rattle.std.proofs.Common.{◌≡◌, ℕ, suc, ◌+◌, ◌/◌, ◌%◌, �
 use Rattle.rb_base.specs.Sizes.{sync_slot_of}
 use Rattle.rb_rules.specs.{Goodness.Scenario, Lawful.IsLawful, Moments.IsRunning, Ports.HandIn, Rounds.moment}
 use Rattle.rb_laws_agreement.proofs.Settings.{stages_with}
-use Rattle.rb_listen.specs.{Lessons.first_of, declared.lesson.First.First, declared.search.Search.Search}
+use Rattle.rb_listen.specs.{Lessons.first_of, declared.lesson.First.First}
 use Rattle.rb_laws_listener_near.specs.Judged.{verdict_with}
 use Rattle.rb_laws_listener_learns.specs.{Deciding.DecidesBy, Ears.{Ear, HearsTheRun, IsEar}, Learned.HasLearned, Receivers.{HoldsTo, IsCalm}}
 use Rattle.rb_laws_listener_learns.proofs.{FrameStages.{IsAtWindow, IsStepped, at-window, first_of_frame, stepped}, Waits.waits-for}
@@ -16,12 +16,12 @@ pub record FirstStands (sc : Scenario) (hands : List HandIn) (ear : Ear) (learne
   pub window : PassesWindow sc hands ear (moment_before sc (learned + 1) 0 1) first.epoch b.low (first_state sc first) (seen_following sc ear (suc learned))
   pub stands : StandsAt sc hands ear (suc learned) 1 first.epoch b.low
 
-pub first_stands : (sc : Scenario) (hands : List HandIn) → IsLawful sc → (ear : Ear) → IsEar sc ear → HearsTheRun sc hands ear → (learned tick : ℕ) (s : Search) → DecidesBy sc hands ear learned tick s
-    → IsCalm sc hands ear learned s.lesson.records learned (sync_slot_of sc.sizes) → (first : First) → first_of sc.sizes sc.plan s.lesson ≡ Some first
+pub first_stands : {sc hands : _} → IsLawful sc → {ear : _} → IsEar sc ear → HearsTheRun sc hands ear → {learned tick s : _} → DecidesBy sc hands ear learned tick s
+    → IsCalm sc hands ear learned s.lesson.records learned (sync_slot_of sc.sizes) → {first : _} → first_of sc.sizes sc.plan s.lesson ≡ Some first
     → HasLearned sc hands ear learned tick s.lesson.records first → (b : FirstBegins sc hands ear learned first)
-    → (last : ℕ) → HoldsTo sc hands ear learned s.lesson.records last → suc (moment_before sc (learned + 1) 0 1) ≤ last → IsRunning (moment sc hands (suc (moment_before sc (learned + 1) 0 1)))
+    → {last : ℕ} → HoldsTo sc hands ear learned s.lesson.records last → suc (moment_before sc (learned + 1) 0 1) ≤ last → IsRunning (moment sc hands (suc (moment_before sc (learned + 1) 0 1)))
     → first.epoch + sc.plan.l ≤ ear.ticks → FirstStands sc hands ear learned first b
-first_stands sc hands law ear is run learned tick s decides calm first found l b last holds le running in_time = record {
+first_stands {sc} {hands} law {ear} is run {learned} {tick} {s} decides calm {first} found l b holds le running in_time = record {
   window = w;
   stands = record {
     shared = w.shared;
@@ -29,7 +29,7 @@ first_stands sc hands law ear is run learned tick s decides calm first found l b
     st = (outcome_first sc ear first.epoch (first_state sc first)).state;
     abides = subst (λ k. Abides sc hands ear k first.epoch b.low w.shared (outcome_first sc ear first.epoch (first_state sc first)).state (outcome_first sc ear first.epoch (first_state sc first)).state) place w.abides;
     at = at;
-    none = w.none (suc learned) frame (none_first sc ear tick s first decides.searching (waits-for sc hands law ear is run learned tick s decides first found l.ahead) (omega (arith, in_time, law.plan.l.0)) (suc learned));
+    none = w.none (suc learned) frame (none_first s decides.searching (waits-for sc hands law ear is run learned tick s decides first found l.ahead) (omega (arith, in_time, law.plan.l.0)) (suc learned));
     sets = λ none. absurd (omega (arith, none));
   };
 }
@@ -44,7 +44,7 @@ first_stands sc hands law ear is run learned tick s decides calm first found l b
     place = ap (λ f. suc (moment_before sc f 0 1)) next ∙ (let e : suc (first_of_frame sc (suc learned)) ≡ 1 + first_of_frame sc (suc learned) = omega arith in e)
 
     at : IsAtWindow sc hands (suc learned) 1
-    at = at-window sc hands law learned calm.complete 1 (omega (arith, law.sizes.some_biu)) (subst (λ k. IsRunning (moment sc hands k)) place running)
+    at = at-window law calm.complete 1 (omega (arith, law.sizes.some_biu)) (subst (λ k. IsRunning (moment sc hands k)) place running)
 
     window_is : (moment sc hands (moment_before sc (learned + 1) 0 1)).window ≡ 0
     window_is = b.begins.window
@@ -63,8 +63,8 @@ first_stands sc hands law ear is run learned tick s decides calm first found l b
     judged : verdict_with (seen_following sc ear (suc learned)) (stages_with sc (moment sc hands (moment_before sc (learned + 1) 0 1)) 0 1) ≡ None
     judged =
         ap (verdict_with (seen_following sc ear (suc learned))) stages
-        ∙ holds_following sc hands ear learned s.lesson.records last holds (suc n) (suc learned) le (ap (λ k. (moment sc hands k).frame) place ∙ at.frame_is) (omega arith)
+        ∙ holds_following sc hands ear s.lesson.records holds (suc n) le (ap (λ k. (moment sc hands k).frame) place ∙ at.frame_is) (omega arith)
         (let v : (moment sc hands (suc n)).window ≡ 1 = ap (λ k. (moment sc hands k).window) place ∙ at.window_is in omega (arith, v))
 
     w : PassesWindow sc hands ear (moment_before sc (learned + 1) 0 1) first.epoch b.low (first_state sc first) (seen_following sc ear (suc learned))
-    w = passes_window sc hands ear n first.epoch b.low b.shared (first_state sc first) b.begins running (seen_following sc ear (suc learned)) judged in_time
+    w = passes_window b.begins running (seen_following sc ear (suc learned)) judged in_time

@@ -76,8 +76,8 @@ goes_on_first sizes plan c below same quiet =
 -- The other ticks of the window.
 
 -- a window without its first tick is a window of one tick less
-later_window : (sizes : Sizes) (plan : Plan) (st : NodeState) (first n : ℕ) → 1 ≤ n → IsWindow sizes plan st st first n → IsWindow sizes plan st st (suc first) (n - 1)
-later_window sizes plan st first n some w = record {
+later_window : {sizes plan st first n : _} → 1 ≤ n → IsWindow sizes plan st st first n → IsWindow sizes plan st st (suc first) (n - 1)
+later_window {sizes} {plan} {st} {first} {n} some w = record {
   turns = w.stays (suc first) (omega arith) (omega (arith, some));
   stays = λ k from to. w.stays k (omega (arith, from)) (omega (arith, to, some));
   quiet = λ k from to. w.quiet k (omega (arith, from)) (omega (arith, to, some));
@@ -125,11 +125,11 @@ keeps_middle sizes plan st first sense below =
 
 -- The window.
 
-pub passes_window : (sc : Scenario) (hands : List HandIn) (ear : Ear) (n epoch low : ℕ) (s : Shared) (st : NodeState) → BeginsFirst sc hands ear n epoch low s st
+pub passes_window : {sc hands ear n epoch low s st : _} → BeginsFirst sc hands ear n epoch low s st
     → IsRunning (moment sc hands (suc n)) → (seen : ℕ → JudgedStage → Option (ℕ → See)) → verdict_with seen (stages_with sc (moment sc hands n) 0 1) ≡ None → epoch + sc.plan.l ≤ ear.ticks
     → PassesWindow sc hands ear n epoch low st seen
 unfolding after_window
-passes_window sc hands ear n epoch low s st x running seen none in_time = record {
+passes_window {sc} {hands} {ear} {n} {epoch} {low} {s} {st} x running seen none in_time = record {
   core = closes.core;
   here = subst (λ k. listening_at sc ear k ≡ now.Following closes.core) end closes.here;
   closed = closes.closed ∙ ap (λ o. Some o.closed) is;
@@ -143,7 +143,7 @@ passes_window sc hands ear n epoch low s st x running seen none in_time = record
       running = running;
       agree = agreed.agree;
       near = subst (λ m. Synchronous sc m agreed.shared low) on.next_is
-          (near_exact sc hands n (moment sc hands n) s agreed.shared low x.beside.agree x.beside.near.begun (omega (arith, x.window, some_slot)));
+          (near_exact agreed.shared x.beside.agree x.beside.near.begun (omega (arith, x.window, some_slot)));
       began = x.beside.began;
       past = x.beside.past;
     };
@@ -152,11 +152,11 @@ passes_window sc hands ear n epoch low s st x running seen none in_time = record
     epoch_is = (close-stays sc.sizes Biu 16 st 0 1 0 (sense_first sc ear epoch st)).epoch ∙ x.epoch_is;
     unknown = unknown;
     tracks = subst (λ m. Tracks sc m (outcome_first sc ear epoch st).state) on.next_is
-        (tracks_after sc hands n (moment sc hands n) s 0 0 0 c st (sense_first sc ear epoch st) seen watched);
+        (tracks_after 0 c watched);
   };
   none = λ frame frame_is none.
       subst (NoneSeen sc ear frame 1) later_tick
-      (sees_window sc ear st st (suc epoch) (sc.plan.l - 1 - 1) frame 0 later stands closes none
+      (sees_window later stands closes none
       (ap (λ o. o.closed.place) is ∙ place_closed sc.sizes st 0 1 0 (sense_first sc ear epoch st) some_slot ∙ ap (λ f. record { frame = f; slot = 0; stage = 1 }) frame_is)).later;
   watched = watched;
 }
@@ -168,7 +168,7 @@ passes_window sc hands ear n epoch low s st x running seen none in_time = record
     some_slot = omega (arith, x.beside.law.sizes.some_biu)
 
     fit : plan_fits sc
-    fit = lawful_fits sc x.beside.law
+    fit = lawful_fits x.beside.law
 
     two : 2 ≤ sc.plan.l
     two = omega (arith, fit.in_l, x.beside.law.plan.h.0)
@@ -177,10 +177,10 @@ passes_window sc hands ear n epoch low s st x running seen none in_time = record
     on = goes_on sc hands n (omega (arith, x.window)) running
 
     agreed : IsAgreed sc hands (suc n)
-    agreed = agreement sc hands x.beside.law (suc n) running
+    agreed = agreement hands x.beside.law (suc n) running
 
     c : Setting sc hands n (moment sc hands n) s 0 0
-    c = setting_at sc hands ear n epoch low s 0 0 x.beside some_slot (omega arith) (omega (arith, x.window)) running
+    c = setting_at 0 0 x.beside some_slot (omega arith) (omega (arith, x.window)) running
 
     below : (moment sc hands n).window < 3 * sync_slot_of sc.sizes
     below = omega (arith, x.window, some_slot)
@@ -210,7 +210,7 @@ passes_window sc hands ear n epoch low s st x running seen none in_time = record
     whole =
         subst (λ f. IsWindow sc.sizes sc.plan st st f (sc.plan.l - 1)) begin
         (subst (λ k. IsWindow sc.sizes sc.plan st st (st.epoch + first_of sc.sizes sc.plan Biu st (moment sc hands n).window) k) many
-        (is_window sc.sizes sc.plan st st w (has_ticks sc x.beside.law) (omega (arith, below)) some
+        (is_window sc.sizes st w (has_ticks x.beside.law) (omega (arith, below)) some
         (no-next sc.sizes sc.plan Biu st (st.epoch + first_of sc.sizes sc.plan Biu st (moment sc hands n).window) x.unknown)
         (λ k known. let both : None ≡ Some k = sym x.unknown ∙ known in cc) (omega (arith, x.epoch_is, last_is, in_time, x.beside.is.ticks, two))))
 
@@ -229,10 +229,10 @@ passes_window sc hands ear n epoch low s st x running seen none in_time = record
     }
 
     later : IsWindow sc.sizes sc.plan st st (suc epoch) (sc.plan.l - 1 - 1)
-    later = later_window sc.sizes sc.plan st epoch (sc.plan.l - 1) (omega (arith, two)) whole
+    later = later_window (omega (arith, two)) whole
 
     closes : ClosesWindow sc ear st st (suc epoch) (sc.plan.l - 1 - 1)
-    closes = closes_window sc ear st st (suc epoch) (sc.plan.l - 1 - 1) later stands
+    closes = closes_window later stands
 
     later_tick : suc (suc epoch + (sc.plan.l - 1 - 1)) ≡ epoch + 1 * sc.plan.l
     later_tick = omega (arith, two)
@@ -257,7 +257,7 @@ passes_window sc hands ear n epoch low s st x running seen none in_time = record
     ws = exact_windows sc (moment sc hands n) 0 0 c.below c.small c.at
 
     at : IsAt sc (moment sc hands n) 0 1 (exact_windows sc (moment sc hands n) 0 0 c.below c.small c.at) ((moment sc hands n).window * sc.plan.l) sc.plan.l
-    at = exact_at sc (moment sc hands n) 0 0 ws c.below c.small c.at
+    at = exact_at 0 ws c.below c.small c.at
 
     own : Window
     own = record { slot = 0; stage = 1; first = ws.first Biu st; last = ws.last Biu st }
@@ -269,7 +269,7 @@ passes_window sc hands ear n epoch low s st x running seen none in_time = record
 
     here : window_here sc.sizes sc.plan Biu st (suc epoch + (sc.plan.l - 1 - 1)) ≡ own
     here =
-        ap (window_here sc.sizes sc.plan Biu st) (sym place) ∙ closes_there sc.sizes sc.plan st w (has_ticks sc x.beside.law) (omega (arith, below)) some ∙ ws.are Biu st
+        ap (window_here sc.sizes sc.plan Biu st) (sym place) ∙ closes_there sc.sizes st w (has_ticks x.beside.law) (omega (arith, below)) some ∙ ws.are Biu st
 
     is : closing sc ear st (suc epoch) (sc.plan.l - 1 - 1) ≡ outcome_first sc ear epoch st
     is =
@@ -283,17 +283,16 @@ passes_window sc hands ear n epoch low s st x running seen none in_time = record
         none_collected sc.sizes ear.heard (suc epoch) (sc.plan.l - 1) j (λ i lt.
         none_with_stamp sc.sizes (suc epoch + i) (ear.heard (suc epoch + i)) j (λ nth d is from.
         let o : IsOwn sc hands ear n d =
-        only_own sc hands ear n epoch low s x.beside below d source (subst (λ k. IsGoodNode sc (moment sc hands n) Rmu k source) (sym from) there)
-        (subst (λ k. is_good sc Rmu k (moment sc hands n).frame (slot_numbered sc.sizes ((moment sc hands n).window + 1)) ≡ true) (sym from) stays)
-        (suc epoch + i) (omega (arith, lt, in_time)) (record { nth = nth; there = is }) (omega (arith, zero_ticks), omega (arith, lt, zero_ticks)) in
+        only_own x.beside below (subst (λ k. IsGoodNode sc (moment sc hands n) Rmu k source) (sym from) there)
+        (subst (λ k. is_good sc Rmu k (moment sc hands n).frame (slot_numbered sc.sizes ((moment sc hands n).window + 1)) ≡ true) (sym from) stays) (omega (arith, lt, in_time)) (record { nth = nth; there = is }) (omega (arith, zero_ticks), omega (arith, lt, zero_ticks)) in
         let sent : SendsIn sc hands n j o.good.sending = subst (λ k. SendsIn sc hands n k o.good.sending) from (subst (λ k. SendsIn sc hands k d.from o.good.sending) o.here o.good.sent) in
         let both : None ≡ Some o.good.sending =
-        sym (sending-none sc.sizes sc.plan x.beside.law.sizes.some_biu j sent.state (word_at sc (moment sc hands n) 0 j)) ∙ sends-at sc hands n j o.good.sending sent 0 1 ws in
+        sym (sending-none sc.sizes sc.plan x.beside.law.sizes.some_biu j sent.state (word_at sc (moment sc hands n) 0 j)) ∙ sends-at sent ws in
         cc))
 
     watched : IsWatched sc (moment sc hands n) 0 0 st (sense_first sc ear epoch st) seen
     watched = record {
-      most = most_stay sc hands ear x.beside.law x.beside.run n (omega (arith, x.window)) running;
+      most = most_stay x.beside.law x.beside.run n (omega (arith, x.window)) running;
       tracks = x.tracks;
       senses = λ j source there stays. silent j source there stays (says sc.sizes Rmu j source 0 1 (word_at sc (moment sc hands n) 0 j))
           (says-none sc.sizes x.beside.law.sizes.some_biu j source (word_at sc (moment sc hands n) 0 j));

@@ -5,7 +5,6 @@ use Rattle.rb_rules.specs.{declared.record.Epoch.Epoch, declared.sense.Sense.Sen
 use Rattle.rb_rules.proofs.{Drift.times_rise_to, Middles.IsBetween, Stamps.stamp_of-is}
 use Rattle.rb_laws_agreement.proofs.{FrameBegins.{IsTurn, frame_turns}, Invariant.IsGoodNode, Places.running_earlier}
 use Rattle.rb_laws_synchrony.proofs.{PlanNumbers.drift_of, StageCalls.clock_now, StageMiddles.tick_of, Synchronous.at_offset, Synchrony.{IsSynchronous, synchrony}, Times.{Steady, lawful_fits, plan_fits}}
-use Rattle.rb_listen.specs.{declared.lesson.First.First, declared.search.Search.Search}
 use Rattle.rb_laws_listener_learns.specs.{Ears.{Ear, IsEar, told_at}, Receivers.HoldsTo}
 use Rattle.rb_laws_listener_learns.proofs.{Apart.WasAt, FrameStages.{IsAtWindow, at-window, first_of_frame}, Together.steady-ear}
 use Rattle.rb_laws_listener_follows.specs.Following.{TellsFrame}
@@ -63,14 +62,14 @@ record TickAt (sc : Scenario) (ear : Ear) (low : ℕ) : Type 0 where
 long_p : (p u d c e rest : ℕ) → 2 * e + 2 * (u + d) + rest + c * (u + d) ≤ p + c * u → u + d ≤ p
 long_p p u d c e rest h = let m : c * (u + d) ≡ c * u + c * d = omega arith in omega (arith, h, m)
 
-tick_at : (sc : Scenario) → IsLawful sc → (ear : Ear) → IsEar sc ear → (low : ℕ) → time_of ear.clock 0 ≤ low + sc.plan.p → TickAt sc ear low
-tick_at sc law ear is low start = go (stamp_of ear.clock low) (stamp_of-is ear.clock clock.moves low)
+tick_at : {sc : _} → IsLawful sc → {ear : _} → IsEar sc ear → (low : ℕ) → time_of ear.clock 0 ≤ low + sc.plan.p → TickAt sc ear low
+tick_at {sc} law {ear} is low start = go (stamp_of ear.clock low) (stamp_of-is ear.clock clock.moves low)
   where
     clock : Steady (shortest_of sc.plan) (drift_of sc.plan) ear.clock
-    clock = steady-ear sc law ear is
+    clock = steady-ear law is
 
     fit : plan_fits sc
-    fit = lawful_fits sc law
+    fit = lawful_fits law
 
     long : shortest_of sc.plan + drift_of sc.plan ≤ sc.plan.p
     long = long_p sc.plan.p (shortest_of sc.plan) (drift_of sc.plan) sc.plan.c _ _ fit.next_cc
@@ -84,23 +83,23 @@ record NextBegun (sc : Scenario) (hands : List HandIn) (f : ℕ) : Type 0 where
   pub running : IsRunning (moment sc hands (0 + first_of_frame sc (suc (suc f))))
   pub at : IsAtWindow sc hands (suc (suc f)) 0
 
-next_begun : (sc : Scenario) (hands : List HandIn) → IsLawful sc → (f : ℕ) → IsComplete sc hands (suc f) (sync_slot_of sc.sizes) → NextBegun sc hands f
-next_begun sc hands law f complete =
-    let t : IsTurn sc hands (suc f) = frame_turns sc hands law (suc f) complete in
+next_begun : {sc hands : _} → IsLawful sc → (f : ℕ) → IsComplete sc hands (suc f) (sync_slot_of sc.sizes) → NextBegun sc hands f
+next_begun {sc} {hands} law f complete =
+    let t : IsTurn sc hands (suc f) = frame_turns law complete in
     let e : suc (suc f) * (windows_in sc.sizes + 1) + 3 * 0 + 1 - 1 ≡ 0 + first_of_frame sc (suc (suc f)) = omega arith in
     let running : IsRunning (moment sc hands (0 + first_of_frame sc (suc (suc f)))) = subst (λ k. IsRunning (moment sc hands k)) e t.running in
-    record { running = running; at = at-window sc hands law (suc f) complete 0 (omega arith) running }
+    record { running = running; at = at-window law complete 0 (omega arith) running }
 
 -- ---- a frame more
 
-pub followed_next : (sc : Scenario) (hands : List HandIn) → IsLawful sc → (ear : Ear) → IsEar sc ear → (learned : ℕ) (records : List Sense) (tick : ℕ) (s : Search) (first : First) → WaitsFirst sc ear tick s first → first.frame ≡ suc learned
-    → (f last : ℕ) → IsHeldTo sc hands ear learned records f last
+pub followed_next : {sc hands : _} → IsLawful sc → {ear : _} → IsEar sc ear → {learned records tick s first : _} → WaitsFirst sc ear tick s first → first.frame ≡ suc learned
+    → {f last : ℕ} → IsHeldTo sc hands ear learned records f last
     → IsComplete sc hands (suc f) (sync_slot_of sc.sizes) → suc (suc (sync_moment sc (suc f))) ≤ last → IsFollowed sc hands ear (suc f) → IsBegun sc hands ear (suc (suc f))
-followed_next sc hands law ear is learned records tick s first w first_is f last h complete le x =
+followed_next {sc} {hands} law {ear} is w first_is {f} h complete le x =
     elim (cases_lt ear.ticks (x.epoch + (f0_of sc.sizes sc.plan + sc.plan.l) + sc.plan.v)) [ inl over ↦ late over | inr enough ↦ goes_on enough ]
   where
     begun : NextBegun sc hands f
-    begun = next_begun sc hands law f complete
+    begun = next_begun law f complete
 
     some : 1 ≤ 3 * sync_slot_of sc.sizes
     some = omega (arith, law.sizes.some_biu)
@@ -110,12 +109,12 @@ followed_next sc hands law ear is learned records tick s first w first_is f last
 
     tells_later : (k : ℕ) (e : Epoch) → k < ear.ticks → (told_at sc ear k).epoch ≡ Some e → e.frame ≡ suc (suc f) → TellsAfter sc ear x.epoch k
     tells_later k e in_time told is =
-        tells_after sc ear tick s first w (suc f) x.epoch (omega (arith, first_is, h.later)) x.epochs.only k e in_time told (is ∙ (let e : suc (suc f) ≡ suc f + 1 = omega arith in e))
+        tells_after w (suc f) x.epoch (omega (arith, first_is, h.later)) x.epochs.only k in_time told (is ∙ (let e : suc (suc f) ≡ suc f + 1 = omega arith in e))
 
     goes_on : x.epoch + (f0_of sc.sizes sc.plan + sc.plan.l) + sc.plan.v ≤ ear.ticks → IsBegun sc hands ear (suc (suc f))
     goes_on enough =
         let next : NextFrame sc hands ear (suc f) x.epoch =
-        next_frame_of sc hands ear learned records f last x.from x.epoch x.low h (x.stands (omega (arith, one_l, enough))) (omega (arith, x.few, some)) complete le enough in
+        next_frame_of h (x.stands (omega (arith, one_l, enough))) (omega (arith, x.few, some)) complete le enough in
         let e : suc (suc f) ≡ suc f + 1 = omega arith in
         record {
           followed = record {
@@ -126,7 +125,7 @@ followed_next sc hands law ear is learned records tick s first w first_is f last
             begin = λ me i st node. next.begins.good (0 + first_of_frame sc (suc (suc f))) (begun.at.frame_is ∙ e) begun.at.window_is begun.running me i st node;
             listener = next.begins.listener;
             epochs = record {
-              tells = λ me i b good in_time. tells_at sc hands ear (suc f) next.next_epoch next.low (next.stands (omega (arith, in_time))) in_time me i b good;
+              tells = λ me i b good in_time. tells_at (suc f) (next.stands (omega (arith, in_time))) in_time good;
               only = λ k e in_time told is.
                   let after : TellsAfter sc ear x.epoch k = tells_later k e in_time told is in
                   let below : x.epoch + second_end sc.sizes sc.plan < 2 ^ 31 = omega (arith, after.far, in_time, w.ticks) in
@@ -158,16 +157,16 @@ followed_next sc hands law ear is learned records tick s first w first_is f last
     }
       where
         fit : plan_fits sc
-        fit = lawful_fits sc law
+        fit = lawful_fits law
 
         clock : Steady (shortest_of sc.plan) (drift_of sc.plan) ear.clock
-        clock = steady-ear sc law ear is
+        clock = steady-ear law is
 
         rest : ℕ
         rest = f0_of sc.sizes sc.plan + sc.plan.l + sc.plan.v + sc.plan.z
 
         sync : IsSynchronous sc hands (0 + first_of_frame sc (suc (suc f)))
-        sync = synchrony sc hands law (0 + first_of_frame sc (suc (suc f))) begun.running
+        sync = synchrony hands law (0 + first_of_frame sc (suc (suc f))) begun.running
 
         start : time_of ear.clock 0 ≤ x.low + (f0_of sc.sizes sc.plan + sc.plan.l + sc.plan.v + sc.plan.z) * shortest_of sc.plan + sc.plan.p
         start = omega (arith, times_rise_to ear.clock 0 x.epoch (omega arith), x.listener.most)
@@ -176,23 +175,22 @@ followed_next sc hands law ear is learned records tick s first w first_is f last
         bound = later_of sync.low (x.low + rest * shortest_of sc.plan) sc.plan.p (time_of ear.clock 0)
 
         found : TickAt sc ear bound.low
-        found = tick_at sc law ear is bound.low (bound.far start)
+        found = tick_at law is bound.low (bound.far start)
 
         before : first_of_frame sc (suc f) + 0 ≤ 0 + first_of_frame sc (suc (suc f))
         before = let m : suc (suc f) * (windows_in sc.sizes + 1) ≡ suc f * (windows_in sc.sizes + 1) + (windows_in sc.sizes + 1) = omega arith in omega (arith, m)
 
         frame_now : (moment sc hands (0 + first_of_frame sc (suc f))).frame ≡ suc f
         frame_now =
-            (at-window sc hands law f h.complete 0 (omega arith) (running_earlier sc hands (0 + first_of_frame sc (suc f)) (0 + first_of_frame sc (suc (suc f))) (omega (arith, before)) begun.running)).frame_is
+            (at-window law h.complete 0 (omega arith) (running_earlier sc hands (0 + first_of_frame sc (suc f)) (0 + first_of_frame sc (suc (suc f))) (omega (arith, before)) begun.running)).frame_is
 
         node_late : (me : Side) (i : ℕ) (st : NodeState) → IsGoodNode sc (moment sc hands (0 + first_of_frame sc (suc (suc f)))) me i st
             → x.low + (f0_of sc.sizes sc.plan + sc.plan.l + sc.plan.v + sc.plan.z) * shortest_of sc.plan ≤ time_of (clock_of sc me i) st.epoch
         node_late me i st node =
             let was : WasAt sc hands (0 + first_of_frame sc (suc f)) (moment sc hands (0 + first_of_frame sc (suc (suc f)))) me i st =
-            was_at sc hands law (0 + first_of_frame sc (suc f)) (0 + first_of_frame sc (suc (suc f))) (omega (arith, before)) begun.running me i st node in
+            was_at hands law (0 + first_of_frame sc (suc f)) (0 + first_of_frame sc (suc (suc f))) (omega (arith, before)) begun.running node in
             let at : IsBetween (x.low + rest * shortest_of sc.plan) (x.low + sc.plan.p + rest * tick_of sc.plan) (time_of (clock_of sc me i) (was.st.epoch + rest)) =
-            at_offset (shortest_of sc.plan) (drift_of sc.plan) (clock_of sc me i) (clock_now sc law (moment sc hands (0 + first_of_frame sc (suc f))) me i was.st was.was) x.low sc.plan.p was.st.epoch rest
-            (was.st.epoch + rest) refl (x.begin me i was.st was.was) in
+            at_offset (clock_now law was.was) sc.plan.p was.st.epoch rest refl (x.begin me i was.st was.was) in
             omega (
               arith,
               at.least,
@@ -204,7 +202,7 @@ followed_next sc hands law ear is learned records tick s first w first_is f last
         no_tick ticks =
             let o : ℕ = f0_of sc.sizes sc.plan + sc.plan.l + sc.plan.v in
             let at : IsBetween (x.low + o * shortest_of sc.plan) (x.low + sc.plan.p + o * tick_of sc.plan) (time_of ear.clock (x.epoch + o)) =
-            at_offset (shortest_of sc.plan) (drift_of sc.plan) ear.clock clock x.low sc.plan.p x.epoch o (x.epoch + o) refl x.listener in
+            at_offset clock sc.plan.p x.epoch o refl x.listener in
             too_late x.low sc.plan.p (f0_of sc.sizes sc.plan) sc.plan.h sc.plan.l sc.plan.v sc.plan.z (shortest_of sc.plan) (drift_of sc.plan) sc.plan.dmax (time_of ear.clock found.tick)
             (time_of ear.clock (x.epoch + o)) fit.some fit.after_3 at.most (omega (arith, bound.second, found.between.least))
             (times_rise_to ear.clock found.tick (x.epoch + o) (omega (arith, ticks, over)))
@@ -217,36 +215,36 @@ frame_before sc hands d learned complete =
     running_earlier sc hands ((d + learned) * (windows_in sc.sizes + 1) + 3 * sync_slot_of sc.sizes + 4 - 1) ((suc d + learned) * (windows_in sc.sizes + 1) + 3 * sync_slot_of sc.sizes + 4 - 1) (omega (arith, e)) complete
 
 -- a listener that follows a frame follows the next one
-followed_step : (sc : Scenario) (hands : List HandIn) → IsLawful sc → (ear : Ear) → IsEar sc ear → (learned : ℕ) (records : List Sense) (tick : ℕ) (s : Search) (first : First)
-    → WaitsFirst sc ear tick s first → first.frame ≡ suc learned → (last : ℕ) → HoldsTo sc hands ear learned records last → (d : ℕ) → IsComplete sc hands (suc d + learned) (sync_slot_of sc.sizes) → suc (suc d + learned) * (windows_in sc.sizes + 1) ≤ last
+followed_step : {sc hands : _} → IsLawful sc → {ear : _} → IsEar sc ear → {learned : ℕ} (records : List Sense) {tick s first : _}
+    → WaitsFirst sc ear tick s first → first.frame ≡ suc learned → {last : ℕ} → HoldsTo sc hands ear learned records last → (d : ℕ) → IsComplete sc hands (suc d + learned) (sync_slot_of sc.sizes) → suc (suc d + learned) * (windows_in sc.sizes + 1) ≤ last
     → IsFollowed sc hands ear (suc (d + learned)) → IsBegun sc hands ear (suc (suc d + learned))
-followed_step sc hands law ear is learned records tick s first w first_is last holds d complete le x =
+followed_step {sc} {hands} law {ear} is {learned} records w first_is {last} holds d complete le x =
     let g : suc (d + learned) ≡ suc d + learned = omega arith in
     let here : IsComplete sc hands (suc (d + learned)) (sync_slot_of sc.sizes) = subst (λ k. IsComplete sc hands k (sync_slot_of sc.sizes)) (sym g) complete in
     let bound : suc (suc (d + learned)) * (windows_in sc.sizes + 1) ≤ last = subst (λ k. suc k * (windows_in sc.sizes + 1) ≤ last) (sym g) le in
     let more : suc (suc (d + learned)) * (windows_in sc.sizes + 1) ≡ suc (d + learned) * (windows_in sc.sizes + 1) + (windows_in sc.sizes + 1) = omega arith in
     subst (λ k. IsBegun sc hands ear (suc k)) g
-    (followed_next sc hands law ear is learned records tick s first w first_is (d + learned) last (record { holds = holds; later = omega arith; complete = frame_before sc hands d learned complete }) here (omega (arith, more, bound)) x)
+    (followed_next law is w first_is (record { holds = holds; later = omega arith; complete = frame_before sc hands d learned complete }) here (omega (arith, more, bound)) x)
 
 -- the listener follows each frame after the learned one that is reached before the first breach of
 -- the premise with it
-pub followed_at : (sc : Scenario) (hands : List HandIn) → IsLawful sc → (ear : Ear) → IsEar sc ear → (learned : ℕ) (records : List Sense) (tick : ℕ) (s : Search) (first : First)
-    → WaitsFirst sc ear tick s first → first.frame ≡ suc learned → (last : ℕ) → HoldsTo sc hands ear learned records last
+pub followed_at : {sc hands : _} → IsLawful sc → {ear : _} → IsEar sc ear → {learned : ℕ} (records : List Sense) {tick s first : _}
+    → WaitsFirst sc ear tick s first → first.frame ≡ suc learned → {last : ℕ} → HoldsTo sc hands ear learned records last
     → IsFollowed sc hands ear (suc learned) → (d : ℕ) → IsComplete sc hands (d + learned) (sync_slot_of sc.sizes) → suc (d + learned) * (windows_in sc.sizes + 1) ≤ last
     → IsFollowed sc hands ear (suc (d + learned))
-followed_at sc hands law ear is learned records tick s first w first_is last holds begun zero complete le =
+followed_at {sc} {hands} law {ear} is {learned} records w first_is holds begun zero complete le =
     let e : learned ≡ 0 + learned = omega arith in subst (λ k. IsFollowed sc hands ear (suc k)) e begun
-followed_at sc hands law ear is learned records tick s first w first_is last holds begun (suc d) complete le =
+followed_at {sc} {hands} law is {learned} records w first_is holds begun (suc d) complete le =
     let more : suc (suc d + learned) * (windows_in sc.sizes + 1) ≡ suc (d + learned) * (windows_in sc.sizes + 1) + (windows_in sc.sizes + 1) = omega arith in
-    (followed_step sc hands law ear is learned records tick s first w first_is last holds d complete le
-    (followed_at sc hands law ear is learned records tick s first w first_is last holds begun d (frame_before sc hands d learned complete) (omega (arith, more, le)))).followed
+    (followed_step law is records w first_is holds d complete le
+    (followed_at law is records w first_is holds begun d (frame_before sc hands d learned complete) (omega (arith, more, le)))).followed
 
 -- the listener follows each frame after its first one from the first window on
-pub begun_at : (sc : Scenario) (hands : List HandIn) → IsLawful sc → (ear : Ear) → IsEar sc ear → (learned : ℕ) (records : List Sense) (tick : ℕ) (s : Search) (first : First)
-    → WaitsFirst sc ear tick s first → first.frame ≡ suc learned → (last : ℕ) → HoldsTo sc hands ear learned records last
+pub begun_at : {sc hands : _} → IsLawful sc → {ear : _} → IsEar sc ear → {learned : ℕ} (records : List Sense) {tick s first : _}
+    → WaitsFirst sc ear tick s first → first.frame ≡ suc learned → {last : ℕ} → HoldsTo sc hands ear learned records last
     → IsFollowed sc hands ear (suc learned) → (d : ℕ) → IsComplete sc hands (suc d + learned) (sync_slot_of sc.sizes) → suc (suc d + learned) * (windows_in sc.sizes + 1) ≤ last
     → IsBegun sc hands ear (suc (suc d + learned))
-begun_at sc hands law ear is learned records tick s first w first_is last holds begun d complete le =
+begun_at {sc} {hands} law is {learned} records w first_is holds begun d complete le =
     let more : suc (suc d + learned) * (windows_in sc.sizes + 1) ≡ suc (d + learned) * (windows_in sc.sizes + 1) + (windows_in sc.sizes + 1) = omega arith in
-    followed_step sc hands law ear is learned records tick s first w first_is last holds d complete le
-    (followed_at sc hands law ear is learned records tick s first w first_is last holds begun d (frame_before sc hands d learned complete) (omega (arith, more, le)))
+    followed_step law is records w first_is holds d complete le
+    (followed_at law is records w first_is holds begun d (frame_before sc hands d learned complete) (omega (arith, more, le)))

@@ -74,10 +74,10 @@ unfolding heed
 heeds_core sc ear k c is = ap (heed sc.sizes sc.plan) is
 
 -- a follower acts at a tick by its state there
-pub acts_by : (sizes : Sizes) (plan : Plan) (c : Core) (st : NodeState) → c.had < 2 ^ 31 → state_at sizes plan Biu c.state c.had ≡ st
+pub acts_by : (sizes : Sizes) (plan : Plan) (c : Core) {st : _} → c.had < 2 ^ 31 → state_at sizes plan Biu c.state c.had ≡ st
     → follow sizes plan c ≡ act_on sizes plan Biu 16 c st None st
 unfolding follow
-acts_by sizes plan c st below is =
+acts_by sizes plan c below is =
     ap (λ b. elim b as (λ _. Act) [
       | true ↦ record { core = c; epoch = None; message = None; closed = None }
       | false ↦ act_on sizes plan Biu 16 c (state_at sizes plan Biu c.state c.had) None (state_at sizes plan Biu c.state c.had)
@@ -142,51 +142,51 @@ core_in sizes ear before st first i k = record { state = state_before before st 
 pub record Stands (sc : Scenario) (ear : Ear) (before : NodeState) (first : ℕ) : Type 0 where
   pub here : listening_at sc ear first ≡ hears sc (ear.heard first) (now.Following (record { state = before; had = first; inbox = [] }))
 
-pub state-in : (sizes : Sizes) (plan : Plan) (before st : NodeState) (first n i k : ℕ) → IsWindow sizes plan before st first n → k ≡ first + i → i ≤ n
+pub state-in : {sizes plan before st first n : _} (i : ℕ) {k : ℕ} → IsWindow sizes plan before st first n → k ≡ first + i → i ≤ n
     → state_at sizes plan Biu (state_before before st i) k ≡ st
-state-in sizes plan before st first n zero k w e le = subst (λ k. state_at sizes plan Biu before k ≡ st) (let f : first ≡ k = omega arith in f) w.turns
-state-in sizes plan before st first n (suc i) k w e le = w.stays k (omega arith) (omega arith)
+state-in {sizes} {plan} {before} {st} {first} zero {k} w e le = subst (λ k. state_at sizes plan Biu before k ≡ st) (let f : first ≡ k = omega arith in f) w.turns
+state-in (suc i) {k} w e le = w.stays k (omega arith) (omega arith)
 
-collected-one : (sizes : Sizes) (heard : ℕ → List Coming) (first k : ℕ) → k ≡ first → arrivals sizes k (heard k) ≡ collected sizes heard first (0 + 1)
+collected-one : (sizes : Sizes) (heard : ℕ → List Coming) {first k : ℕ} → k ≡ first → arrivals sizes k (heard k) ≡ collected sizes heard first (0 + 1)
 unfolding collected
-collected-one sizes heard first k e = ap (λ t. arrivals sizes t (heard t)) (let f : k ≡ first + 0 = omega arith in f)
+collected-one sizes heard {first} {k} e = ap (λ t. arrivals sizes t (heard t)) (let f : k ≡ first + 0 = omega arith in f)
 
-collected-more : (sizes : Sizes) (heard : ℕ → List Coming) (first i k : ℕ) → k ≡ first + (i + 1)
+collected-more : (sizes : Sizes) (heard : ℕ → List Coming) (first i : ℕ) {k : ℕ} → k ≡ first + (i + 1)
     → collected sizes heard first (i + 1) ++ arrivals sizes k (heard k) ≡ collected sizes heard first (suc i + 1)
 unfolding collected
-collected-more sizes heard first i k e =
+collected-more sizes heard first i e =
     ap (λ t. collected sizes heard first (i + 1) ++ arrivals sizes t (heard t)) e
     ∙ ap (collected sizes heard first) (let f : suc (i + 1) ≡ suc i + 1 = omega arith in f)
 
 -- the listener goes on from one tick of its window to the next
-follows_next : (sc : Scenario) (ear : Ear) (before st : NodeState) (first n i : ℕ) → IsWindow sc.sizes sc.plan before st first n → suc i ≤ n
+follows_next : (sc : Scenario) (ear : Ear) {before st first n : _} (i : ℕ) → IsWindow sc.sizes sc.plan before st first n → suc i ≤ n
     → listening_at sc ear (first + i) ≡ now.Following (core_in sc.sizes ear before st first i (first + i))
     → listening_at sc ear (suc (first + i)) ≡ now.Following (core_in sc.sizes ear before st first (suc i) (suc (first + i)))
-follows_next sc ear before st first n i w le was =
+follows_next sc ear {before} {st} {first} i w le was =
     let c : Core = core_in sc.sizes ear before st first i (first + i) in
     let below : suc (first + i) < 2 ^ 31 = omega (arith, w.in_time) in
     let core : (follow sc.sizes sc.plan c).core ≡ record { state = st; had = suc (first + i); inbox = collected sc.sizes ear.heard first (i + 1) } =
-    ap (λ a. a.core) (acts_by sc.sizes sc.plan c st (omega arith) (state-in sc.sizes sc.plan before st first n i (first + i) w refl (omega arith)))
+    ap (λ a. a.core) (acts_by sc.sizes sc.plan c (omega arith) (state-in i w refl (omega arith)))
     ∙ goes_on sc.sizes sc.plan c st (w.quiet (first + i) (omega arith) (omega arith))
     ∙ ap (λ h. record { state = st; had = h; inbox = collected sc.sizes ear.heard first (i + 1) }) (let f : first + i + 1 ≡ suc (first + i) = omega arith in f) in
     ap (λ x. hears sc (ear.heard (suc (first + i))) x.listening) (heeds_core sc ear (first + i) c was)
     ∙ ap (λ d. hears sc (ear.heard (suc (first + i))) (now.Following d)) core
     ∙ hears_all sc (ear.heard (suc (first + i))) (record { state = st; had = suc (first + i); inbox = collected sc.sizes ear.heard first (i + 1) }) below
-    ∙ ap (λ l. now.Following (record { state = st; had = suc (first + i); inbox = l })) (collected-more sc.sizes ear.heard first i (suc (first + i)) (omega arith))
+    ∙ ap (λ l. now.Following (record { state = st; had = suc (first + i); inbox = l })) (collected-more sc.sizes ear.heard first i (omega arith))
 
-pub follows_window : (sc : Scenario) (ear : Ear) (before st : NodeState) (first n : ℕ) → IsWindow sc.sizes sc.plan before st first n → Stands sc ear before first
-    → (i k : ℕ) → k ≡ first + i → i ≤ n → listening_at sc ear k ≡ now.Following (core_in sc.sizes ear before st first i k)
-follows_window sc ear before st first n w s zero k e le =
+pub follows_window : {sc : Scenario} {ear : Ear} {before st : NodeState} {first n : ℕ} → IsWindow sc.sizes sc.plan before st first n → Stands sc ear before first
+    → (i : ℕ) {k : ℕ} → k ≡ first + i → i ≤ n → listening_at sc ear k ≡ now.Following (core_in sc.sizes ear before st first i k)
+follows_window {sc} {ear} {before} {st} {first} w s zero {k} e le =
     let same : k ≡ first = omega arith in
     let below : first < 2 ^ 31 = omega (arith, w.in_time) in
     let at_first : listening_at sc ear first ≡ now.Following (core_in sc.sizes ear before st first 0 first) =
     s.here ∙ hears_all sc (ear.heard first) (record { state = before; had = first; inbox = [] }) below
-    ∙ ap (λ l. now.Following (record { state = before; had = first; inbox = l })) (collected-one sc.sizes ear.heard first first refl) in
+    ∙ ap (λ l. now.Following (record { state = before; had = first; inbox = l })) (collected-one sc.sizes ear.heard refl) in
     subst (λ k. listening_at sc ear k ≡ now.Following (core_in sc.sizes ear before st first 0 k)) (sym same) at_first
-follows_window sc ear before st first n w s (suc i) k e le =
+follows_window {sc} {ear} {before} {st} {first} w s (suc i) {k} e le =
     let next : suc (first + i) ≡ k = omega arith in
     subst (λ k. listening_at sc ear k ≡ now.Following (core_in sc.sizes ear before st first (suc i) k)) next
-    (follows_next sc ear before st first n i w le (follows_window sc ear before st first n w s i (first + i) refl (omega arith)))
+    (follows_next sc ear i w le (follows_window w s i refl (omega arith)))
 
 -- With the last tick of a window a listener closes it on all that came in it.
 
@@ -201,9 +201,9 @@ pub record ClosesWindow (sc : Scenario) (ear : Ear) (before st : NodeState) (fir
   pub closed : (follow sc.sizes sc.plan core).closed ≡ Some (closing sc ear st first n).closed
   pub stands : Stands sc ear (closing sc ear st first n).state (suc (first + n))
 
-pub closes_window : (sc : Scenario) (ear : Ear) (before st : NodeState) (first n : ℕ) → IsWindow sc.sizes sc.plan before st first n → Stands sc ear before first
+pub closes_window : {sc : Scenario} {ear : Ear} {before st : NodeState} {first n : ℕ} → IsWindow sc.sizes sc.plan before st first n → Stands sc ear before first
     → ClosesWindow sc ear before st first n
-closes_window sc ear before st first n w s = record {
+closes_window {sc} {ear} {before} {st} {first} {n} w s = record {
   core = c;
   here = is;
   state = refl;
@@ -223,10 +223,10 @@ closes_window sc ear before st first n w s = record {
     c = core_in sc.sizes ear before st first n (first + n)
 
     is : listening_at sc ear (first + n) ≡ now.Following (core_in sc.sizes ear before st first n (first + n))
-    is = follows_window sc ear before st first n w s n (first + n) refl (omega arith)
+    is = follows_window w s n refl (omega arith)
 
     act : follow sc.sizes sc.plan (core_in sc.sizes ear before st first n (first + n)) ≡ act_on sc.sizes sc.plan Biu 16 (core_in sc.sizes ear before st first n (first + n)) st None st
-    act = acts_by sc.sizes sc.plan c st w.in_time (state-in sc.sizes sc.plan before st first n n (first + n) w refl (omega arith))
+    act = acts_by sc.sizes sc.plan c w.in_time (state-in n w refl (omega arith))
 
     ends : IsClosing sc.sizes sc.plan (core_in sc.sizes ear before st first n (first + n)) st (act_on sc.sizes sc.plan Biu 16 (core_in sc.sizes ear before st first n (first + n)) st None st)
     ends = closes_it sc.sizes sc.plan c st w.last

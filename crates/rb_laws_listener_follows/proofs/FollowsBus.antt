@@ -25,43 +25,43 @@ record Learns (sc : Scenario) (hands : List HandIn) (ear : Ear) (learned tick : 
   pub waits : WaitsFirst sc ear tick s first
 
 -- the listener tells the frame after the learned one
-first_tells : (sc : Scenario) (hands : List HandIn) (ear : Ear) (learned tick : ℕ) (s : Search) (l : Learns sc hands ear learned tick s) → TellsFrame sc hands ear (suc learned) l.first.epoch
-first_tells sc hands ear learned tick s l = record {
+first_tells : {sc hands ear learned tick s : _} (l : Learns sc hands ear learned tick s) → TellsFrame sc hands ear (suc learned) l.first.epoch
+first_tells {sc} {hands} {ear} {learned} l = record {
   tells = λ me i b good in_time.
       let here : IsGoodBefore sc hands (learned + 1) 0 me i b = subst (λ f. IsGoodBefore sc hands f 0 me i b) next good in
-      tells_frame sc ear (suc learned) l.first.epoch (first_state sc l.first) (first_told sc ear tick s l.first l.waits in_time) (l.learns.frame ∙ sym next) refl me b
+      tells_frame sc ear (first_state sc l.first) (first_told l.waits in_time) (l.learns.frame ∙ sym next) refl me b
       (sym (l.learns.trusted_next.biu me i b here)) (sym (l.learns.trusted_next.rmu me i b here));
-  only = λ k e in_time told is. first_once sc ear tick s l.first l.waits k e in_time told (is ∙ sym (l.learns.frame ∙ sym next));
+  only = λ k e in_time told is. first_once l.waits k in_time told (is ∙ sym (l.learns.frame ∙ sym next));
 }
   where
     next : suc learned ≡ learned + 1
     next = omega arith
 
 -- the listener tells nothing of frames up to the learned one
-later_tells : (sc : Scenario) (hands : List HandIn) (ear : Ear) (learned tick : ℕ) (s : Search) (l : Learns sc hands ear learned tick s) → TellsLater sc ear learned
-later_tells sc hands ear learned tick s l = record {
-  epochs = λ k e in_time told. let m : l.first.frame ≤ e.frame = none_earlier sc ear tick s l.first l.waits k e in_time told in omega (arith, m, l.learns.frame);
-  deliveries = λ k d in_time told. let m : l.first.frame ≤ d.frame = delivers_later sc ear tick s l.first l.waits k d in_time told in omega (arith, m, l.learns.frame);
+later_tells : {sc hands ear learned tick s : _} (l : Learns sc hands ear learned tick s) → TellsLater sc ear learned
+later_tells l = record {
+  epochs = λ k e in_time told. let m : l.first.frame ≤ e.frame = none_earlier l.waits k in_time told in omega (arith, m, l.learns.frame);
+  deliveries = λ k d in_time told. let m : l.first.frame ≤ d.frame = delivers_later l.waits k in_time told in omega (arith, m, l.learns.frame);
 }
 
 -- the listener goes through the first window of its first frame
-first_at : (sc : Scenario) (hands : List HandIn) (ear : Ear) (learned tick : ℕ) (s : Search) (l : Learns sc hands ear learned tick s) → (last : ℕ) → HoldsTo sc hands ear learned s.lesson.records last
+first_at : {sc hands ear learned tick s : _} (l : Learns sc hands ear learned tick s) → {last : ℕ} → HoldsTo sc hands ear learned s.lesson.records last
     → suc (moment_before sc (learned + 1) 0 1) ≤ last → IsRunning (moment sc hands (suc (moment_before sc (learned + 1) 0 1))) → l.first.epoch + sc.plan.l ≤ ear.ticks
     → FirstStands sc hands ear learned l.first l.begins
-first_at sc hands ear learned tick s l last holds le running in_time =
-    first_stands sc hands l.law ear l.is l.run learned tick s l.decides l.calm l.first l.found l.learns l.begins last holds le running in_time
+first_at l holds le running in_time =
+    first_stands l.law l.is l.run l.decides l.calm l.found l.learns l.begins holds le running in_time
 
-first_followed : (sc : Scenario) (hands : List HandIn) (ear : Ear) (learned tick : ℕ) (s : Search) (l : Learns sc hands ear learned tick s) → (last : ℕ) → HoldsTo sc hands ear learned s.lesson.records last
+first_followed : {sc hands ear learned tick s : _} (l : Learns sc hands ear learned tick s) → {last : ℕ} → HoldsTo sc hands ear learned s.lesson.records last
     → suc (moment_before sc (learned + 1) 0 1) ≤ last → IsRunning (moment sc hands (suc (moment_before sc (learned + 1) 0 1))) → IsFollowed sc hands ear (suc learned)
-first_followed sc hands ear learned tick s l last holds le running = record {
+first_followed {sc} {hands} {learned} l holds le running = record {
   epoch = l.first.epoch;
   low = l.begins.low;
   from = 1;
   few = omega arith;
   begin = λ me i st node. l.begins.begins.beside.near.begun me i st (subst (λ k. IsGoodNode sc (moment sc hands k) me i st) place node);
   listener = l.begins.begins.beside.began;
-  epochs = first_tells sc hands ear learned tick s l;
-  stands = λ in_time. (first_at sc hands ear learned tick s l last holds le running (omega (arith, in_time))).stands;
+  epochs = first_tells l;
+  stands = λ in_time. (first_at l holds le running (omega (arith, in_time))).stands;
 }
   where
     place : 0 + first_of_frame sc (suc learned) ≡ moment_before sc (learned + 1) 0 1
@@ -74,8 +74,8 @@ record InFirst (sc : Scenario) (hands : List HandIn) (ear : Ear) (learned slot :
   pub le : suc (moment_before sc (learned + 1) 0 1) ≤ last
   pub running : IsRunning (moment sc hands (suc (moment_before sc (learned + 1) 0 1)))
 
-in_first : (sc : Scenario) (hands : List HandIn) (ear : Ear) (learned slot : ℕ) (records : List Sense) → IsCalm sc hands ear learned records (suc learned) slot → InFirst sc hands ear learned slot records
-in_first sc hands ear learned slot records calm =
+in_first : {sc hands ear learned slot records : _} → IsCalm sc hands ear learned records (suc learned) slot → InFirst sc hands ear learned slot records
+in_first {sc} {hands} {learned} {slot} calm =
     let next : suc learned ≡ learned + 1 = omega arith in
     let rows : (learned + 1) * (windows_in sc.sizes + 1) ≡ suc learned * (windows_in sc.sizes + 1) = ap (λ f. f * (windows_in sc.sizes + 1)) (sym next) in
     record {
@@ -86,12 +86,12 @@ in_first sc hands ear learned slot records calm =
     }
 
 -- the listener closes the windows of its first frame
-closes_in_first : (sc : Scenario) (hands : List HandIn) (stands : StandsFor sc hands) (ear : Ear) (learned tick : ℕ) (s : Search) (l : Learns sc hands ear learned tick s)
+closes_in_first : {sc hands : _} (stands : StandsFor sc hands) {ear learned tick s : _} (l : Learns sc hands ear learned tick s)
     → (n : ℕ) (w : Window) → slice_get (windows_of_frame sc.sizes sc.plan) n ≡ Some w → IsCalm sc hands ear learned s.lesson.records (suc learned) w.slot → l.first.epoch + w.last < ear.ticks
     → ClosesAt sc stands.bus ear (suc learned) w.slot w.stage (l.first.epoch + w.last)
-closes_in_first sc hands stands ear learned tick s l zero w is calm in_time =
-    let first : InFirst sc hands ear learned w.slot s.lesson.records = in_first sc hands ear learned w.slot s.lesson.records calm in
-    let e : w ≡ exact_window sc.plan 0 = exact_is sc (first_state sc l.first) 0 w is (omega (arith, l.law.sizes.some_biu)) in
+closes_in_first {sc} {hands} stands {ear} {learned} {s} l zero w is calm in_time =
+    let first : InFirst sc hands ear learned w.slot s.lesson.records = in_first calm in
+    let e : w ≡ exact_window sc.plan 0 = exact_is sc (first_state sc l.first) 0 is (omega (arith, l.law.sizes.some_biu)) in
     let slots : w.slot ≡ 0 / 3 = ap (λ (y : Window). y.slot) e in
     let stages : w.stage ≡ 0 % 3 + 1 = ap (λ (y : Window). y.stage) e in
     let lasts : w.last ≡ 0 * sc.plan.l + sc.plan.l - 1 = ap (λ (y : Window). y.last) e in
@@ -101,48 +101,48 @@ closes_in_first sc hands stands ear learned tick s l zero w is calm in_time =
     subst (λ k. ClosesAt sc stands.bus ear (suc learned) w.slot w.stage k) end
     (subst (λ k. ClosesAt sc stands.bus ear (suc learned) w.slot k (l.first.epoch + (sc.plan.l - 1))) stage
     (subst (λ k. ClosesAt sc stands.bus ear (suc learned) k 1 (l.first.epoch + (sc.plan.l - 1))) slot
-    (closes_begun sc hands l.law stands ear learned l.first l.begins (first_at sc hands ear learned tick s l first.last first.holds first.le first.running (omega (arith, lasts, in_time, l.law.plan.l.0)))
+    (closes_begun l.law stands (first_at l first.holds first.le first.running (omega (arith, lasts, in_time, l.law.plan.l.0)))
     (l.learns.frame ∙ (let next : learned + 1 ≡ suc learned = omega arith in next)) (subst (λ k. IsComplete sc hands (suc learned) k) (sym slot) calm.complete))))
-closes_in_first sc hands stands ear learned tick s l (suc n) w is calm in_time =
-    let first : InFirst sc hands ear learned w.slot s.lesson.records = in_first sc hands ear learned w.slot s.lesson.records calm in
-    closes_from sc hands stands ear learned s.lesson.records learned 1 l.first.epoch l.begins.low (omega arith) l.calm.complete
-    (record { law = l.law; few = omega arith; stands = λ ticks. (first_at sc hands ear learned tick s l first.last first.holds first.le first.running (omega (arith, ticks))).stands })
-    (first_state sc l.first) (suc n) w (omega arith) is calm in_time
+closes_in_first {sc} {hands} stands {ear} {learned} {s} l (suc n) w is calm in_time =
+    let first : InFirst sc hands ear learned w.slot s.lesson.records = in_first calm in
+    closes_from stands (omega arith) l.calm.complete
+    (record { law = l.law; few = omega arith; stands = λ ticks. (first_at l first.holds first.le first.running (omega (arith, ticks))).stands })
+    (first_state sc l.first) (suc n) (omega arith) is calm in_time
 
 -- the listener follows its first frame
-follows_first : (sc : Scenario) (hands : List HandIn) (stands : StandsFor sc hands) (ear : Ear) (learned tick : ℕ) (s : Search) (l : Learns sc hands ear learned tick s)
+follows_first : {sc hands : _} (stands : StandsFor sc hands) {ear learned tick s : _} (l : Learns sc hands ear learned tick s)
     → FollowsFrame sc hands stands.bus ear learned s.lesson.records (suc learned) l.first.epoch
-follows_first sc hands stands ear learned tick s l = record {
+follows_first {sc} {hands} stands {learned} l = record {
   near = λ me i st h. l.begins.near.near me i st (subst (λ f. IsGoodBefore sc hands f 0 me i st) next h);
-  epochs = first_tells sc hands ear learned tick s l;
-  later = later_tells sc hands ear learned tick s l;
-  deliveries = delivers_once sc ear tick s l.first l.waits (suc learned) l.first.epoch (first_tells sc hands ear learned tick s l).only;
-  closes = closes_in_first sc hands stands ear learned tick s l;
-  only = closes_only sc ear tick s l.first l.waits (suc learned) l.first.epoch (first_tells sc hands ear learned tick s l).only;
+  epochs = first_tells l;
+  later = later_tells l;
+  deliveries = delivers_once l.waits l.first.epoch (first_tells l).only;
+  closes = closes_in_first stands l;
+  only = closes_only l.waits l.first.epoch (first_tells l).only;
 }
   where
     next : suc learned ≡ learned + 1
     next = omega arith
 
 -- the listener follows each later frame
-follows_later : (sc : Scenario) (hands : List HandIn) (stands : StandsFor sc hands) (ear : Ear) (learned tick : ℕ) (s : Search) (l : Learns sc hands ear learned tick s) → (d : ℕ)
+follows_later : {sc hands : _} (stands : StandsFor sc hands) {ear learned tick s : _} (l : Learns sc hands ear learned tick s) → (d : ℕ)
     → IsReachedWell sc hands ear learned s.lesson.records (suc (suc d + learned)) → (begin : ℕ) × FollowsFrame sc hands stands.bus ear learned s.lesson.records (suc (suc d + learned)) begin
-follows_later sc hands stands ear learned tick s l d reached = (
+follows_later {sc} {hands} stands {ear} {learned} {s} l d reached = (
   x.epoch,
   record {
     near = λ me i st h.
         let node : IsGoodNode sc (moment sc hands (0 + first_of_frame sc (suc (suc d + learned)))) me i st =
-        subst (λ k. IsGoodNode sc (moment sc hands k) me i st) zero_is (good_before_slot sc hands (suc (suc d + learned)) 0 (omega arith) p me i st h) in
+        subst (λ k. IsGoodNode sc (moment sc hands k) me i st) zero_is (good_before_slot (omega arith) p h) in
         let e : st.epoch ≡ st.epoch + 0 = omega arith in
         subst (λ k. LieWithin sc.plan.p (time_of ear.clock x.epoch) (time_of (clock_of sc me i) k)) e
-        (within x.low sc.plan.p (time_of ear.clock x.epoch) (time_of (clock_of sc me i) st.epoch) x.listener (x.begin me i st node));
+        (within sc.plan.p x.listener (x.begin me i st node));
     epochs = x.epochs;
-    later = later_tells sc hands ear learned tick s l;
-    deliveries = delivers_once sc ear tick s l.first l.waits (suc (suc d + learned)) x.epoch x.epochs.only;
+    later = later_tells l;
+    deliveries = delivers_once l.waits x.epoch x.epochs.only;
     closes = λ n w is calm in_time.
-        closes_from sc hands stands ear learned s.lesson.records (suc d + learned) x.from x.epoch x.low (omega arith) reached.reached (record { law = l.law; few = x.few; stands = x.stands })
-        (first_state sc l.first) n w (omega (arith, g.whole)) is calm in_time;
-    only = closes_only sc ear tick s l.first l.waits (suc (suc d + learned)) x.epoch x.epochs.only;
+        closes_from stands (omega arith) reached.reached (record { law = l.law; few = x.few; stands = x.stands })
+        (first_state sc l.first) n (omega (arith, g.whole)) is calm in_time;
+    only = closes_only l.waits x.epoch x.epochs.only;
   },
 )
   where
@@ -160,16 +160,16 @@ follows_later sc hands stands ear learned tick s l d reached = (
         running_earlier sc hands (suc (moment_before sc (learned + 1) 0 1)) ((suc d + learned) * (windows_in sc.sizes + 1) + 3 * sync_slot_of sc.sizes + 4 - 1) (omega (arith, less, rows, more)) reached.reached
 
     first : IsFollowed sc hands ear (suc learned)
-    first = first_followed sc hands ear learned tick s l (suc (suc d + learned) * (windows_in sc.sizes + 1)) reached.holds (omega (arith, less, rows)) running
+    first = first_followed l reached.holds (omega (arith, less, rows)) running
 
     g : IsBegun sc hands ear (suc (suc d + learned))
-    g = begun_at sc hands l.law ear l.is learned s.lesson.records tick s l.first l.waits (l.learns.frame ∙ (let e : learned + 1 ≡ suc learned = omega arith in e)) (suc (suc d + learned) * (windows_in sc.sizes + 1)) reached.holds first d reached.reached (omega arith)
+    g = begun_at l.law l.is s.lesson.records l.waits (l.learns.frame ∙ (let e : learned + 1 ≡ suc learned = omega arith in e)) reached.holds first d reached.reached (omega arith)
 
     x : IsFollowed sc hands ear (suc (suc d + learned))
     x = g.followed
 
     p : IsPlaced sc hands (suc (suc d + learned)) 0 1
-    p = placed sc hands l.law (suc (suc d + learned)) 0 1 (omega arith) (omega arith) (omega arith) (frame_turns sc hands l.law (suc d + learned) reached.reached).running
+    p = placed hands l.law (suc (suc d + learned)) 0 1 (omega arith) (omega arith) (omega arith) (frame_turns l.law reached.reached).running
 
     zero_is : first_of_frame sc (suc (suc d + learned)) ≡ 0 + first_of_frame sc (suc (suc d + learned))
     zero_is = omega arith
@@ -186,7 +186,7 @@ follows_bus sc hands law stands ear is run learned tick s decides calm frame lat
       first = f.0;
       found = f.1.0;
       learns = f.1.1;
-      begins = first_begins sc hands law ear is run learned tick s decides calm f.0 f.1.0 f.1.1;
+      begins = first_begins law is run decides calm f.1.0 f.1.1;
       waits = record {
         searching = decides.searching;
         waits = waits-for sc hands law ear is run learned tick s decides f.0 f.1.0 f.1.1.ahead;
@@ -199,19 +199,19 @@ follows_bus sc hands law stands ear is run learned tick s decides calm frame lat
       | inl more ↦
           let e : suc (suc (frame - suc (suc learned)) + learned) ≡ frame = omega (arith, more) in
           subst (λ g. (begin : ℕ) × FollowsFrame sc hands stands.bus ear learned s.lesson.records g begin) e
-          (follows_later sc hands stands ear learned tick s l (frame - suc (suc learned)) (subst (IsReachedWell sc hands ear learned s.lesson.records) (sym e) reached))
+          (follows_later stands l (frame - suc (suc learned)) (subst (IsReachedWell sc hands ear learned s.lesson.records) (sym e) reached))
       | inr le ↦
           let e : suc learned ≡ frame = omega (arith, le, later) in
-          subst (λ g. (begin : ℕ) × FollowsFrame sc hands stands.bus ear learned s.lesson.records g begin) e (l.first.epoch, follows_first sc hands stands ear learned tick s l)
+          subst (λ g. (begin : ℕ) × FollowsFrame sc hands stands.bus ear learned s.lesson.records g begin) e (l.first.epoch, follows_first stands l)
     ]
 
 -- From what it hears.
 
 -- the learned frame ends before each later one begins
-calm_before : (sc : Scenario) (hands : List HandIn) (ear : Ear) (learned later : ℕ) (records : List Sense) → learned < later → IsReachedWell sc hands ear learned records later
+calm_before : {sc hands ear learned : _} (later : ℕ) {records : _} → learned < later → IsReachedWell sc hands ear learned records later
     → IsCalm sc hands ear learned records learned (sync_slot_of sc.sizes)
-calm_before sc hands ear learned zero records less reached = absurd (omega (arith, less))
-calm_before sc hands ear learned (suc later) records less reached =
+calm_before zero less reached = absurd (omega (arith, less))
+calm_before {sc} {hands} {learned} (suc later) less reached =
     let le : learned * (windows_in sc.sizes + 1) ≤ later * (windows_in sc.sizes + 1) = mul-le-mul_right (windows_in sc.sizes + 1) (omega (arith, less)) in
     let row : suc later * (windows_in sc.sizes + 1) ≡ later * (windows_in sc.sizes + 1) + (windows_in sc.sizes + 1) = omega arith in
     record {
@@ -226,5 +226,5 @@ listeners_follow sc hands law stands ear is run frame after called last by in_ti
     let d : HasDecided sc hands ear (frame + 1) (last + reach_of sc.plan) = listeners-decide sc hands law ear is run frame after called last by in_time in (
       d,
       λ later less reached.
-          follows_bus sc hands law stands ear is run d.learned d.tick d.search d.decides (calm_before sc hands ear d.learned later d.search.lesson.records less reached) later less reached,
+          follows_bus sc hands law stands ear is run d.learned d.tick d.search d.decides (calm_before later less reached) later less reached,
     )

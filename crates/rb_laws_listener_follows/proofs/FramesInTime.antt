@@ -19,8 +19,8 @@ pub record HasLow (sc : Scenario) (hands : List HandIn) (ear : Ear) (frame epoch
   pub good : (me : Side) (i : ℕ) (st : NodeState) → IsGoodBefore sc hands frame 0 me i st → IsBetween low (low + sc.plan.p) (time_in_frame sc me i st 0)
   pub listener : IsBetween low (low + sc.plan.p) (time_of ear.clock epoch)
 
-has_low : (sc : Scenario) (hands : List HandIn) → IsLawful sc → (ear : Ear) (frame epoch : ℕ) → IsReached sc hands frame → BeginsNear sc hands ear frame epoch → HasLow sc hands ear frame epoch
-has_low sc hands law ear frame epoch reached b = go (first_of (starts sc hands frame) 16)
+has_low : {sc hands : _} → IsLawful sc → {ear frame epoch : _} → IsReached sc hands frame → BeginsNear sc hands ear frame epoch → HasLow sc hands ear frame epoch
+has_low {sc} {hands} law {ear} {frame} {epoch} reached b = go (first_of (starts sc hands frame) 16)
   where
     small : (me : Side) (i : ℕ) (st : NodeState) → IsGoodBefore sc hands frame 0 me i st → i < 16
     small me i st h = good_below_16 sc law.sizes me i frame 0 h.good
@@ -28,14 +28,14 @@ has_low sc hands law ear frame epoch reached b = go (first_of (starts sc hands f
     go : IsFirstOf (starts sc hands frame) 16 ⊎ HaveNone (starts sc hands frame) 16 → HasLow sc hands ear frame epoch
     go (inr none) = record {
       low = time_of ear.clock epoch;
-      good = λ me i st h. absurd (none me i (time_in_frame sc me i st 0) (small me i st h) (starts-so sc hands frame me i st h));
+      good = λ me i st h. absurd (none me i (time_in_frame sc me i st 0) (small me i st h) (starts-so h));
       listener = record { least = omega arith; most = omega arith };
     }
     go (inl first) =
-        let a : Starts sc hands frame first.me first.i first.at = starts-there sc hands frame first.me first.i first.at first.is in
+        let a : Starts sc hands frame first.me first.i first.at = starts-there sc hands frame first.me first.i first.is in
         let near : LieWithin sc.plan.p (time_of ear.clock epoch) (time_in_frame sc first.me first.i a.st 0) = b.near first.me first.i a.st a.is in
         let least : (me : Side) (i : ℕ) (st : NodeState) → IsGoodBefore sc hands frame 0 me i st → first.at ≤ time_in_frame sc me i st 0 =
-        λ me i st h. first.least me i (time_in_frame sc me i st 0) (small me i st h) (starts-so sc hands frame me i st h) in
+        λ me i st h. first.least me i (time_in_frame sc me i st 0) (small me i st h) (starts-so h) in
         elim (cases_lt (time_of ear.clock epoch) first.at) [
           | inl less ↦ record {
             low = time_of ear.clock epoch;
@@ -63,10 +63,10 @@ reached_by sc hands (suc frame) slot stage some running =
     later : (frame s t stage : ℕ) → 1 ≤ stage → frame * (s + 4 + 1) + s + 4 - 1 ≤ suc frame * (s + 4 + 1) + t + stage - 1
     later frame s t stage some = let e : suc frame * (s + 4 + 1) ≡ frame * (s + 4 + 1) + (s + 4 + 1) = omega arith in omega (arith, e, some)
 
-pub beside_at : (sc : Scenario) (hands : List HandIn) → IsLawful sc → (ear : Ear) → IsEar sc ear → HearsTheRun sc hands ear → (frame epoch : ℕ) → BeginsNear sc hands ear frame epoch
+pub beside_at : {sc hands : _} → IsLawful sc → {ear : _} → IsEar sc ear → HearsTheRun sc hands ear → {frame epoch : ℕ} → BeginsNear sc hands ear frame epoch
     → (slot stage : ℕ) → slot < sync_slot_of sc.sizes → 1 ≤ stage → stage ≤ 3 → IsRunning (before_stage sc hands frame slot stage)
     → (low : ℕ) × ((s : Shared) × Beside sc hands ear (moment_before sc frame slot stage) epoch low s)
-beside_at sc hands law ear is run frame epoch b slot stage below some most running = (
+beside_at {sc} {hands} law {ear} is run {frame} {epoch} b slot stage below some most running = (
   h.low,
   (
     agreed.shared,
@@ -97,10 +97,10 @@ beside_at sc hands law ear is run frame epoch b slot stage below some most runni
     first = frame * (windows_in sc.sizes + 1) + 3 * 0 + 1 - 1
 
     p : IsPlaced sc hands frame slot stage
-    p = placed sc hands law frame slot stage (omega (arith, below)) some (omega (arith, most)) running
+    p = placed hands law frame slot stage (omega (arith, below)) some (omega (arith, most)) running
 
     agreed : IsAgreed sc hands (moment_before sc frame slot stage)
-    agreed = agreement sc hands law (moment_before sc frame slot stage) running
+    agreed = agreement hands law (moment_before sc frame slot stage) running
 
     earlier : frame * (windows_in sc.sizes + 1) + 3 * 0 + 1 - 1 ≤ frame * (windows_in sc.sizes + 1) + 3 * slot + stage - 1
     earlier = omega (arith, some)
@@ -109,16 +109,16 @@ beside_at sc hands law ear is run frame epoch b slot stage below some most runni
     began = running_earlier sc hands (frame * (windows_in sc.sizes + 1) + 3 * 0 + 1 - 1) (frame * (windows_in sc.sizes + 1) + 3 * slot + stage - 1) earlier running
 
     q : IsPlaced sc hands frame 0 1
-    q = placed sc hands law frame 0 1 (omega arith) (omega arith) (omega arith) began
+    q = placed hands law frame 0 1 (omega arith) (omega arith) (omega arith) began
 
     h : HasLow sc hands ear frame epoch
-    h = has_low sc hands law ear frame epoch (reached_by sc hands frame slot stage some running) b
+    h = has_low law (reached_by sc hands frame slot stage some running) b
 
     begun : (me : Side) (i : ℕ) (st : NodeState) → IsGoodNode sc (moment sc hands (moment_before sc frame slot stage)) me i st
         → IsBetween h.low (h.low + sc.plan.p) (time_of (clock_of sc me i) st.epoch)
     begun me i st node =
         let was : WasAt sc hands (frame * (windows_in sc.sizes + 1) + 3 * 0 + 1 - 1) (moment sc hands (frame * (windows_in sc.sizes + 1) + 3 * slot + stage - 1)) me i st =
-        was_at sc hands law (frame * (windows_in sc.sizes + 1) + 3 * 0 + 1 - 1) (frame * (windows_in sc.sizes + 1) + 3 * slot + stage - 1) earlier running me i st node in
+        was_at hands law (frame * (windows_in sc.sizes + 1) + 3 * 0 + 1 - 1) (frame * (windows_in sc.sizes + 1) + 3 * slot + stage - 1) earlier running node in
         let zero_slot : slot_numbered sc.sizes (before_slot sc hands frame 0).window ≡ 0 = omega (arith, q.window_is) in
         let good : IsGoodBefore sc hands frame 0 me i was.st = record {
           good = ap (is_good sc me i frame) (sym zero_slot) ∙ ap (λ f. is_good sc me i f (slot_numbered sc.sizes (before_slot sc hands frame 0).window)) (sym q.frame_is) ∙ was.was.good;
@@ -130,7 +130,7 @@ beside_at sc hands law ear is run frame epoch b slot stage below some most runni
 pub heard_in_time : RmusAreHeardInTime
 heard_in_time sc hands law ear is run frame epoch b slot stage below some most running = record {
   own = λ j x sent tick stamp.
-      let at = own_in_time sc hands ear n epoch beside.0 beside.1.0 beside.1.1 exact j x sent tick
+      let at = own_in_time beside.1.1 exact sent
       (subst (λ f. IsStamp ear.clock (coming_to sc ear j f x).time tick) (sym p.frame_is) stamp) in
       record { from = omega (arith, at.0, ticks); to = omega (arith, at.1, ticks) };
   only = λ c tick in_time heard at good.
@@ -138,9 +138,9 @@ heard_in_time sc hands law ear is run frame epoch b slot stage below some most r
       ap (λ f. is_good sc Rmu c.from f (slot_numbered sc.sizes ((moment sc hands n).window + 1))) p.frame_is ∙ ap (is_good sc Rmu c.from frame) next_slot ∙ good in
       let now : is_good_now sc (moment sc hands n) Rmu c.from ≡ true =
       good_earlier sc Rmu c.from (moment sc hands n).frame (slot_numbered sc.sizes (moment sc hands n).window) (slot_numbered sc.sizes ((moment sc hands n).window + 1)) (omega arith) later in
-      let there : Present (slice_get (of_kind Rmu (moment sc hands n).nodes) c.from) = good_state sc hands n (moment sc hands n) beside.1.0 beside.1.1.agree Rmu c.from now in
+      let there : Present (slice_get (of_kind Rmu (moment sc hands n).nodes) c.from) = good_state beside.1.1.agree Rmu c.from now in
       let o : IsOwn sc hands ear n c =
-      only_own sc hands ear n epoch beside.0 beside.1.0 beside.1.1 exact c there.value (record { there = there.is; good = now }) later tick in_time heard
+      only_own beside.1.1 exact (record { there = there.is; good = now }) later in_time heard
       (omega (arith, at.from, ticks), omega (arith, at.to, ticks)) in
       record {
         sending = o.good.sending;
@@ -153,10 +153,10 @@ heard_in_time sc hands law ear is run frame epoch b slot stage below some most r
     n = moment_before sc frame slot stage
 
     p : IsPlaced sc hands frame slot stage
-    p = placed sc hands law frame slot stage (omega (arith, below)) some (omega (arith, most)) running
+    p = placed hands law frame slot stage (omega (arith, below)) some (omega (arith, most)) running
 
     beside : (low : ℕ) × ((s : Shared) × Beside sc hands ear (moment_before sc frame slot stage) epoch low s)
-    beside = beside_at sc hands law ear is run frame epoch b slot stage below some most running
+    beside = beside_at law is run b slot stage below some most running
 
     exact : (moment sc hands (moment_before sc frame slot stage)).window < 3 * sync_slot_of sc.sizes
     exact = omega (arith, p.window_is, below, most)

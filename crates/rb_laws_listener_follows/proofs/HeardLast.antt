@@ -45,11 +45,11 @@ record BegunAt (sc : Scenario) (me : Side) (i later epoch : ℕ) : Type 0 where
   pub time : later ≤ time_of (clock_of sc me i) first
   pub least : first ≤ epoch
 
-begun_at : (sc : Scenario) (hands : List HandIn) (ear : Ear) (n epoch low : ℕ) (s : Shared) (next_epoch later : ℕ) → Beside sc hands ear n epoch low s → NextBegins sc hands ear (moment sc hands n).frame next_epoch later
-    → (q : ℕ) → IsRunning (moment sc hands q) → (moment sc hands n).frame < (moment sc hands q).frame → (me : Side) (i : ℕ) (st : NodeState) → IsGoodNode sc (moment sc hands q) me i st
+begun_at : {sc hands ear n epoch low s next_epoch later : _} → Beside sc hands ear n epoch low s → NextBegins sc hands ear (moment sc hands n).frame next_epoch later
+    → (q : ℕ) → IsRunning (moment sc hands q) → (moment sc hands n).frame < (moment sc hands q).frame → {me i st : _} → IsGoodNode sc (moment sc hands q) me i st
     → (extra : ℕ) → ((moment sc hands n).frame + 1 < (moment sc hands q).frame → extra ≤ tail_start_of sc.sizes sc.plan) → ((moment sc hands n).frame + 1 ≡ (moment sc hands q).frame → extra ≡ 0)
     → BegunAt sc me i later (st.epoch - extra) × (extra ≤ st.epoch)
-begun_at sc hands ear n epoch low s next_epoch later b next q running after me i st node extra far none =
+begun_at {sc} {hands} {n} {later} b next q running after {me} {i} {st} node extra far none =
     elim (cases_order ((moment sc hands n).frame + 1) (moment sc hands q).frame) [
       | inl same ↦
           let zero_it : extra ≡ 0 = none same in
@@ -64,7 +64,7 @@ begun_at sc hands ear n epoch low s next_epoch later b next q running after me i
     ]
   where
     other : IsAgreed sc hands q
-    other = agreement sc hands b.law q running
+    other = agreement hands b.law q running
 
     earlier : ((moment sc hands n).frame + 1) * (windows_in sc.sizes + 1) ≤ q
     earlier =
@@ -75,7 +75,7 @@ begun_at sc hands ear n epoch low s next_epoch later b next q running after me i
     running_first = running_earlier sc hands (((moment sc hands n).frame + 1) * (windows_in sc.sizes + 1)) q earlier running
 
     at_first : IsAgreed sc hands (((moment sc hands n).frame + 1) * (windows_in sc.sizes + 1))
-    at_first = agreement sc hands b.law (((moment sc hands n).frame + 1) * (windows_in sc.sizes + 1)) running_first
+    at_first = agreement hands b.law (((moment sc hands n).frame + 1) * (windows_in sc.sizes + 1)) running_first
 
     placing : (a f w g size : ℕ) → a ≡ f * size + w → a ≡ g * size → f * size + w ≡ g * size + 0
     placing a f w g size x y = omega (arith, x, y)
@@ -90,7 +90,7 @@ begun_at sc hands ear n epoch low s next_epoch later b next q running after me i
         (omega (arith, at_first.agree.window))
 
     was : WasAt sc hands (((moment sc hands n).frame + 1) * (windows_in sc.sizes + 1)) (moment sc hands q) me i st
-    was = was_at sc hands b.law (((moment sc hands n).frame + 1) * (windows_in sc.sizes + 1)) q earlier running me i st node
+    was = was_at hands b.law (((moment sc hands n).frame + 1) * (windows_in sc.sizes + 1)) q earlier running node
 
     begun : later ≤ time_of (clock_of sc me i) was.st.epoch
     begun = (next.good (((moment sc hands n).frame + 1) * (windows_in sc.sizes + 1)) p.0 p.1 running_first me i was.st was.was).least
@@ -102,28 +102,28 @@ pub record IsLate (sc : Scenario) (epoch next_epoch k : ℕ) : Type 0 where
   pub from : epoch + f0_of sc.sizes sc.plan + sc.plan.l + sc.plan.v ≤ k
   pub before : k < next_epoch
 
-not_yet : (sc : Scenario) (hands : List HandIn) (ear : Ear) (n epoch low : ℕ) (s : Shared) (next_epoch later k : ℕ) → Beside sc hands ear n epoch low s
+not_yet : {sc hands ear n epoch low s next_epoch later : _} (k : ℕ) → Beside sc hands ear n epoch low s
     → NextBegins sc hands ear (moment sc hands n).frame next_epoch later → k < next_epoch → time_of ear.clock k < later + sc.plan.p
-not_yet sc hands ear n epoch low s next_epoch later k b next before =
-    let fit : plan_fits sc = lawful_fits sc b.law in
-    let step : time_of ear.clock k + 1 * shortest_of sc.plan ≤ time_of ear.clock (k + 1) = (steady-ear sc b.law ear b.is).not_early k 1 in
+not_yet {sc} {ear} {next_epoch} k b next before =
+    let fit : plan_fits sc = lawful_fits b.law in
+    let step : time_of ear.clock k + 1 * shortest_of sc.plan ≤ time_of ear.clock (k + 1) = (steady-ear b.law b.is).not_early k 1 in
     let up : time_of ear.clock (k + 1) ≤ time_of ear.clock next_epoch = times_rise_to ear.clock (k + 1) next_epoch (omega (arith, before)) in
     omega (arith, step, up, next.listener.most, fit.some)
 
-pub nothing_late : (sc : Scenario) (hands : List HandIn) (ear : Ear) (n epoch low : ℕ) (s : Shared) (next_epoch later : ℕ) → Beside sc hands ear n epoch low s → 3 * sync_slot_of sc.sizes + 2 ≤ (moment sc hands n).window
+pub nothing_late : {sc : Scenario} {hands : List HandIn} {ear : Ear} {n epoch low : ℕ} {s : Shared} {next_epoch later : ℕ} → Beside sc hands ear n epoch low s → 3 * sync_slot_of sc.sizes + 2 ≤ (moment sc hands n).window
     → NextBegins sc hands ear (moment sc hands n).frame next_epoch later
     → ((j q : ℕ) (x : Sending) → SendsIn sc hands q j x → (moment sc hands q).frame ≡ (moment sc hands n).frame → (moment sc hands q).window ≡ 3 * sync_slot_of sc.sizes + 1
     → (k : ℕ) → IsStamp ear.clock (coming_to sc ear j (moment sc hands q).frame x).time k → k + 1 ≤ epoch + f0_of sc.sizes sc.plan + sc.plan.l + sc.plan.v)
-    → (c : Coming) (st : NodeState) → IsGoodNode sc (moment sc hands n) Rmu c.from st → is_good sc Rmu c.from ((moment sc hands n).frame + 1) 0 ≡ true
-    → (k : ℕ) → k < ear.ticks → IsHeard ear k c → IsLate sc epoch next_epoch k → ⊥
-nothing_late sc hands ear n epoch low s next_epoch later b at next second c st node good k in_time heard in_it =
+    → {c : Coming} {st : NodeState} → IsGoodNode sc (moment sc hands n) Rmu c.from st → is_good sc Rmu c.from ((moment sc hands n).frame + 1) 0 ≡ true
+    → {k : ℕ} → k < ear.ticks → IsHeard ear k c → IsLate sc epoch next_epoch k → ⊥
+nothing_late {sc} {hands} {ear} {n} {epoch} {later} b at next second {c} node good {k} in_time heard in_it =
     elim (b.run.only k c in_time heard (good_counts sc Rmu c.from ((moment sc hands n).frame + 1) 0 good)) [ inl sent ↦ own sent | inr faulty ↦ said faulty ]
   where
     fit : plan_fits sc
-    fit = lawful_fits sc b.law
+    fit = lawful_fits b.law
 
     early : time_of ear.clock k < later + sc.plan.p
-    early = not_yet sc hands ear n epoch low s next_epoch later k b next in_it.before
+    early = not_yet k b next in_it.before
 
     before : (q : ℕ) (x : Sending) → SendsIn sc hands q c.from x → IsStamp ear.clock (coming_to sc ear c.from (moment sc hands q).frame x).time k → IsEarlier sc hands n q epoch k → ⊥
     before q x sent stamp e =
@@ -139,16 +139,16 @@ nothing_late sc hands ear n epoch low s next_epoch later b at next second c st n
     own sent =
         let stamp : IsStamp ear.clock (coming_to sc ear c.from (moment sc hands sent.n).frame sent.sending).time k =
         subst (λ (d : Coming). IsStamp ear.clock d.time k) sent.is (b.is.stamps k c in_time heard) in
-        let then : SendsThen sc (moment sc hands sent.n) c.from sent.sent.state sent.sending = sends_then sc hands b.law sent.n c.from sent.sending sent.sent in
+        let then : SendsThen sc (moment sc hands sent.n) c.from sent.sent.state sent.sending = sends_then b.law sent.sent in
         elim (cases_order sent.n n) [
           | inl same ↦
               let w : (moment sc hands sent.n).window ≡ (moment sc hands n).window = ap (λ q. (moment sc hands q).window) same in
               elim then.tick [ inl exact ↦ absurd (omega (arith, exact.0, w, at)) | inr late ↦ absurd (omega (arith, late.0, w, at)) ]
           | inr order ↦ elim order [
-            | inl earlier ↦ before sent.n sent.sending sent.sent stamp (earlier_stamp sc hands ear n epoch low s b c.from st node sent.n sent.sending sent.sent earlier k stamp)
+            | inl earlier ↦ before sent.n sent.sending sent.sent stamp (earlier_stamp b node sent.sent earlier stamp)
             | inr after ↦
-                let other : IsAgreed sc hands sent.n = agreement sc hands b.law sent.n sent.sent.running in
-                elim (place_order (windows_in sc.sizes + 1) (moment sc hands n).frame (moment sc hands n).window (moment sc hands sent.n).frame (moment sc hands sent.n).window n sent.n b.agree.place other.agree.place
+                let other : IsAgreed sc hands sent.n = agreement hands b.law sent.n sent.sent.running in
+                elim (place_order (windows_in sc.sizes + 1) (moment sc hands n).frame (moment sc hands n).window (moment sc hands sent.n).frame (moment sc hands sent.n).window b.agree.place other.agree.place
                 (omega (arith, b.agree.window)) (omega (arith, other.agree.window)) after) [
                   | inl later_frame ↦ next_frame_sent sent.n sent.sending sent.sent later_frame then stamp
                   | inr same ↦ elim then.tick [
@@ -162,15 +162,15 @@ nothing_late sc hands ear n epoch low s next_epoch later b at next second c st n
         next_frame_sent : (q : ℕ) (x : Sending) (sent : SendsIn sc hands q c.from x) → (moment sc hands n).frame < (moment sc hands q).frame → SendsThen sc (moment sc hands q) c.from sent.state x
             → IsStamp ear.clock (coming_to sc ear c.from (moment sc hands q).frame x).time k → ⊥
         next_frame_sent q x sent later_frame then stamp =
-            let begun = begun_at sc hands ear n epoch low s next_epoch later b next q sent.running later_frame Rmu c.from sent.state then.node 0 (λ less. omega arith) (λ e. refl) in
+            let begun = begun_at b next q sent.running later_frame then.node 0 (λ less. omega arith) (λ e. refl) in
             let tick : begun.0.first + sc.plan.h ≤ x.tick = elim then.tick [
               | inl exact ↦ omega (arith, exact.1, begun.0.least)
               | inr late ↦ omega (arith, late.1.0, begun.0.least, fit.in_l)
             ] in
-            let clock : Steady (shortest_of sc.plan) (drift_of sc.plan) (clock_of sc Rmu c.from) = clock_now sc b.law (moment sc hands q) Rmu c.from sent.state then.node in
+            let clock : Steady (shortest_of sc.plan) (drift_of sc.plan) (clock_of sc Rmu c.from) = clock_now b.law then.node in
             let step : time_of (clock_of sc Rmu c.from) begun.0.first + sc.plan.h * shortest_of sc.plan ≤ time_of (clock_of sc Rmu c.from) (begun.0.first + sc.plan.h) = clock.not_early begun.0.first sc.plan.h in
             let up : time_of (clock_of sc Rmu c.from) (begun.0.first + sc.plan.h) ≤ time_of (clock_of sc Rmu c.from) x.tick = times_rise_to (clock_of sc Rmu c.from) (begun.0.first + sc.plan.h) x.tick tick in
-            let arrives = comes sc ear b.is c.from (moment sc hands q).frame x in
+            let arrives = comes b.is c.from (moment sc hands q).frame x in
             sent_late later sc.plan.p (f0_of sc.sizes sc.plan) sc.plan.h (shortest_of sc.plan) (drift_of sc.plan) sc.plan.dmin (coming_to sc ear c.from (moment sc hands q).frame x).time (time_of ear.clock k)
             fit.before_1 (omega (arith, begun.0.time, step, up, arrives.least)) stamp.reached early
 
@@ -183,35 +183,35 @@ nothing_late sc hands ear n epoch low s next_epoch later b at next second c st n
         counted = ltb-true c.from sc.sizes.rmus (and_first (nat_lt c.from sc.sizes.rmus) (is_before (get_or sc.rmu_onsets c.from None) ((moment sc hands n).frame + 1) 0) good)
 
         slot_le : faulty.slot ≤ sync_slot_of sc.sizes
-        slot_le = onset-in sc b.law c.from faulty.frame faulty.slot counted faulty.onset
+        slot_le = onset-in b.law c.from faulty.frame faulty.slot counted faulty.onset
 
         place : IsPlaced sc hands faulty.frame faulty.slot 1
-        place = placed sc hands b.law faulty.frame faulty.slot 1 slot_le (omega arith) (omega arith) faulty.running
+        place = placed hands b.law faulty.frame faulty.slot 1 slot_le (omega arith) (omega arith) faulty.running
 
         q : ℕ
         q = faulty.frame * (windows_in sc.sizes + 1) + 3 * faulty.slot + 1 - 1
 
         its_node : IsGoodNode sc (moment sc hands (faulty.frame * (windows_in sc.sizes + 1) + 3 * faulty.slot + 1 - 1)) faulty.me faulty.i faulty.state
-        its_node = good_before_slot sc hands faulty.frame faulty.slot slot_le place faulty.me faulty.i faulty.state faulty.good
+        its_node = good_before_slot slot_le place faulty.good
 
         -- a tick from `later` on is less than l ticks before the slot, or after its start
         ends : (e : ℕ) → later ≤ time_of (clock_of sc faulty.me faulty.i) e → e + sc.plan.l ≤ faulty.state.epoch + 3 * faulty.slot * sc.plan.l → ⊥
         ends e time le =
-            let clock : Steady (shortest_of sc.plan) (drift_of sc.plan) (clock_of sc faulty.me faulty.i) = clock_now sc b.law (moment sc hands q) faulty.me faulty.i faulty.state its_node in
+            let clock : Steady (shortest_of sc.plan) (drift_of sc.plan) (clock_of sc faulty.me faulty.i) = clock_now b.law its_node in
             let step : time_of (clock_of sc faulty.me faulty.i) e + sc.plan.l * shortest_of sc.plan ≤ time_of (clock_of sc faulty.me faulty.i) (e + sc.plan.l) = clock.not_early e sc.plan.l in
             let up : time_of (clock_of sc faulty.me faulty.i) (e + sc.plan.l) ≤ time_of (clock_of sc faulty.me faulty.i) (faulty.state.epoch + 3 * faulty.slot * sc.plan.l) =
             times_rise_to (clock_of sc faulty.me faulty.i) (e + sc.plan.l) (faulty.state.epoch + 3 * faulty.slot * sc.plan.l) le in
             said_late later sc.plan.p (f0_of sc.sizes sc.plan) sc.plan.h sc.plan.l (shortest_of sc.plan) (drift_of sc.plan) sc.plan.dmin sc.plan.dmax (stated_skew sc.plan (3 * faulty.slot * sc.plan.l))
             (time_of (clock_of sc faulty.me faulty.i) (faulty.state.epoch + 3 * faulty.slot * sc.plan.l)) (time_of ear.clock k) c.time
-            b.law.plan.dmin.1 (skew-fits sc b.law faulty.slot slot_le) fit.after_1
+            b.law.plan.dmin.1 (skew-fits b.law faulty.slot slot_le) fit.after_1
             (omega (arith, time, step, up)) faulty.not_early (b.is.stamps k c in_time heard).reached early
 
         by_order : ((moment sc hands n).frame + 1 < faulty.frame) ⊎ (((moment sc hands n).frame + 1 ≡ faulty.frame) × (0 < faulty.slot)) → ⊥
         by_order (inl less) =
-            let begun = begun_at sc hands ear n epoch low s next_epoch later b next q faulty.running (omega (arith, place.frame_is, less)) faulty.me faulty.i faulty.state its_node sc.plan.l
+            let begun = begun_at b next q faulty.running (omega (arith, place.frame_is, less)) its_node sc.plan.l
             (λ far. omega (arith, tail-start sc)) (λ e. absurd (omega (arith, e, place.frame_is, less))) in
             ends begun.0.first begun.0.time (omega (arith, begun.0.least, begun.1))
         by_order (inr same) =
-            let begun = begun_at sc hands ear n epoch low s next_epoch later b next q faulty.running (omega (arith, place.frame_is, same.0)) faulty.me faulty.i faulty.state its_node 0 (λ far. omega arith) (λ e. refl) in
+            let begun = begun_at b next q faulty.running (omega (arith, place.frame_is, same.0)) its_node 0 (λ far. omega arith) (λ e. refl) in
             let ticks : 1 * sc.plan.l ≤ (3 * faulty.slot) * sc.plan.l = mul-le-mul_right sc.plan.l (omega (arith, same.1)) in
             ends begun.0.first begun.0.time (omega (arith, begun.0.least, ticks))

@@ -2,7 +2,7 @@
 use Rattle.std.proofs.{Common.{◌≡◌, ℕ, suc, ◌+◌, ◌-◌, ◌*◌, ◌≤◌, true, false, List, [], Some, slice_get, sym, ◌∙◌, ap, subst, arith}, lemmas.Option.same_Some}
 use Rattle.rb_base.specs.{Nodes.has, Nodes.Side.{Biu, Rmu}, Sizes.sync_slot_of}
 use Rattle.rb_rules.specs.{declared.sense.Sense.Sense, declared.sense.Sense.TheVariants.Silent, Book.of_kind, Clock.IsStamp, Core.of_source, Goodness.{Scenario, is_good}, Hearing.Sending, NodeState.NodeState, NodeSteps.expect_of, Plan.f0_of, Ports.HandIn, Rounds.moment, Sense.sense_of, Standing.does_wrong, SyncStage.{close_sync, expects_call, new_epoch_of}}
-use Rattle.rb_laws_agreement.proofs.{Tests.Present, ExactAgrees.has_ticks, Goodnesses.{good_before, good_below_16}, Invariant.{IsGoodNode, Shared, is_good_now, slot_numbered}, NextMoments.next, NodeWindows.Windows, Settings.good_state, SyncAgrees.SyncSetting}
+use Rattle.rb_laws_agreement.proofs.{Tests.Present, ExactAgrees.has_ticks, Goodnesses.{good_before, good_below_16}, Invariant.{IsGoodNode, Shared, is_good_now, slot_numbered}, NextMoments.next, Settings.good_state, SyncAgrees.SyncSetting}
 use Rattle.rb_laws_events.proofs.TurnTicks.{not-yet}
 use Rattle.rb_laws_listener_learns.specs.Ears.{Ear, SendsIn, coming_to}
 use Rattle.rb_laws_listener_near.proofs.SyncTracks.{IsLike, like_sync, spares_sync}
@@ -51,15 +51,15 @@ pub record PassesLate (sc : Scenario) (hands : List HandIn) (ear : Ear) (n epoch
   pub epoch_is : now.epoch ≡ epoch
   pub known : new_epoch_of sc.plan Biu now ≡ Some next_epoch
 
-pub passes_late : (sc : Scenario) (hands : List HandIn) (ear : Ear) (n epoch low : ℕ) (s : Shared) (q : ℕ) (ws : Windows sc (moment sc hands n) (sync_slot_of sc.sizes) (q + 1)) (st : NodeState) (a ticks next_epoch later : ℕ)
+pub passes_late : {sc hands ear n epoch low s q ws st a ticks next_epoch later : _}
     → StandsLate sc hands ear n epoch low s st a next_epoch later → SyncSetting sc hands n (moment sc hands n) s q ws → IsDeaf sc hands ear n epoch st (q + 1) a ticks next_epoch
     → PassesLate sc hands ear n epoch st a ticks next_epoch
-passes_late sc hands ear n epoch low s q ws st a ticks next_epoch later x set d = record {
+passes_late {sc} {hands} {ear} {n} {epoch} {q} {st} {a} {ticks} {next_epoch} x set d = record {
   closes = c;
   now = now;
   is = ap (λ o. o.state) is;
   stands = subst (λ k. Stands sc ear now k) tick (subst (λ o. Stands sc ear o.state (suc (epoch + a + (ticks - 1)))) is c.stands);
-  like = like_sync sc hands n (moment sc hands n) s q ws set st x.like (st.epoch + a) sense;
+  like = like_sync set x.like (st.epoch + a) sense;
   spares = λ j good.
       spares_sync sc.sizes st (q + 1) (st.epoch + a) sense j (good_below_16 sc x.beside.law.sizes Rmu j ((moment sc hands n).frame + 1) 0 good)
       (ap (λ b. does_wrong b (sense j)) (d.expects j) ∙ ap (does_wrong false) (silent j good)) (x.spares j good);
@@ -74,16 +74,16 @@ passes_late sc hands ear n epoch low s q ws st a ticks next_epoch later x set d 
     now = (close_sync sc.sizes Biu st (q + 1) (st.epoch + a) (sense_span sc ear (epoch + a) ticks st (sync_slot_of sc.sizes) (q + 1))).state
 
     is : closing sc ear st (epoch + a) (ticks - 1) ≡ close_sync sc.sizes Biu st (q + 1) (st.epoch + a) (sense_span sc ear (epoch + a) ticks st (sync_slot_of sc.sizes) (q + 1))
-    is = span_closing sc ear st (moment sc hands n).window (q + 1) a ticks epoch d.span (has_ticks sc x.beside.law) x.epoch_is
+    is = span_closing ear d.span (has_ticks x.beside.law) x.epoch_is
 
     here : IsWindow sc.sizes sc.plan st st (epoch + a) (ticks - 1)
     here =
-        span_window sc st st (moment sc hands n).window (sync_slot_of sc.sizes) (q + 1) a ticks epoch d.span (has_ticks sc x.beside.law) x.epoch_is
-        (not-yet sc.sizes sc.plan Biu st next_epoch (epoch + a) x.known (omega (arith, d.before, d.span.some)))
+        span_window st d.span (has_ticks x.beside.law) x.epoch_is
+        (not-yet sc.sizes sc.plan Biu st (epoch + a) x.known (omega (arith, d.before, d.span.some)))
         (λ y known. let same : next_epoch ≡ y = same_Some next_epoch y (sym x.known ∙ known) in omega (arith, same, d.before)) (omega (arith, d.in_time, x.beside.is.ticks))
 
     c : ClosesWindow sc ear st st (epoch + a) (ticks - 1)
-    c = closes_window sc ear st st (epoch + a) (ticks - 1) here x.stands
+    c = closes_window here x.stands
 
     tick : suc (epoch + a + (ticks - 1)) ≡ epoch + a + ticks
     tick = omega (arith, d.span.some)
@@ -92,13 +92,12 @@ passes_late sc hands ear n epoch low s q ws st a ticks next_epoch later x set d 
     silent j good =
         let was : is_good_now sc (moment sc hands n) Rmu j ≡ true =
         good_before sc Rmu j (moment sc hands n).frame ((moment sc hands n).frame + 1) (slot_numbered sc.sizes (moment sc hands n).window) 0 (omega arith) good in
-        let there : Present (slice_get (of_kind Rmu (moment sc hands n).nodes) j) = good_state sc hands n (moment sc hands n) s x.beside.agree Rmu j was in
+        let there : Present (slice_get (of_kind Rmu (moment sc hands n).nodes) j) = good_state x.beside.agree Rmu j was in
         let none : of_source (collected sc.sizes ear.heard (epoch + a) ticks) j ≡ [] =
         none_collected sc.sizes ear.heard (epoch + a) ticks j (λ i lt.
         none_with_stamp sc.sizes (epoch + a + i) (ear.heard (epoch + a + i)) j (λ nth m is from.
-        nothing_late sc hands ear n epoch low s next_epoch later x.beside d.window x.next x.over m there.value
+        nothing_late x.beside d.window x.next x.over
         (subst (λ k. IsGoodNode sc (moment sc hands n) Rmu k there.value) (sym from) (record { there = there.is; good = was }))
-        (subst (λ k. is_good sc Rmu k ((moment sc hands n).frame + 1) 0 ≡ true) (sym from) good)
-        (epoch + a + i) (omega (arith, lt, d.in_time)) (record { nth = nth; there = is })
+        (subst (λ k. is_good sc Rmu k ((moment sc hands n).frame + 1) 0 ≡ true) (sym from) good) (omega (arith, lt, d.in_time)) (record { nth = nth; there = is })
         (record { from = omega (arith, d.after); before = omega (arith, lt, d.before) }))) in
         ap (sense_of (expect_of sc.sizes sc.plan.version st (sync_slot_of sc.sizes) (q + 1))) none

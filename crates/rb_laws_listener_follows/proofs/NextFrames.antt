@@ -2,7 +2,7 @@
 -- each later one, and to its next frame.
 use Rattle.std.proofs.Common.{◌≡◌, ℕ, zero, suc, ◌+◌, ◌-◌, ◌*◌, ◌≤◌, List, Some, sym, ap, subst, arith}
 use Rattle.rb_base.specs.{Nodes.Side.Biu, Sizes.sync_slot_of}
-use Rattle.rb_rules.specs.{declared.sense.Sense.Sense, Goodness.Scenario, Moments.{IsComplete, IsRunning}, NodeState.NodeState, Plan.{f0_of, tail_start_of}, Ports.HandIn, Rounds.{moment, windows_in}, SyncStage.new_epoch_of}
+use Rattle.rb_rules.specs.{Goodness.Scenario, Moments.{IsComplete, IsRunning}, NodeState.NodeState, Plan.{f0_of, tail_start_of}, Ports.HandIn, Rounds.{moment, windows_in}, SyncStage.new_epoch_of}
 use Rattle.rb_laws_agreement.proofs.{Agreement.running_before, Places.running_earlier}
 use Rattle.rb_laws_listener_learns.specs.Ears.{Ear}
 use Rattle.rb_laws_listener_learns.proofs.FrameStages.{first_of_frame}
@@ -10,20 +10,20 @@ use Rattle.rb_laws_listener_follows.proofs.{EpochKnown.second_end, ExactPasses.{
 
 -- ---- to a later window
 
-pub to_window : (sc : Scenario) (hands : List HandIn) (ear : Ear) (learned : ℕ) (records : List Sense) (f last w epoch low : ℕ) → IsHeldTo sc hands ear learned records f last
+pub to_window : {sc hands ear learned records f last w epoch low : _} → IsHeldTo sc hands ear learned records f last
     → StandsAt sc hands ear (suc f) w epoch low → (d : ℕ) → d + w ≤ 3 * sync_slot_of sc.sizes → IsRunning (moment sc hands (d + w + first_of_frame sc (suc f))) → d + w + first_of_frame sc (suc f) ≤ last
     → epoch + (d + w) * sc.plan.l ≤ ear.ticks → StandsAt sc hands ear (suc f) (d + w) epoch low
-to_window sc hands ear learned records f last w epoch low h x zero few running le in_time =
+to_window {sc} {hands} {ear} {f} {w} {epoch} {low} h x zero few running le in_time =
     let e : w ≡ 0 + w = omega arith in subst (λ k. StandsAt sc hands ear (suc f) k epoch low) e x
-to_window sc hands ear learned records f last w epoch low h x (suc d) few running le in_time =
+to_window {sc} {hands} {ear} {f} {w} {epoch} {low} h x (suc d) few running le in_time =
     let g : suc (d + w + first_of_frame sc (suc f)) ≡ suc d + w + first_of_frame sc (suc f) = omega arith in
     let on : IsRunning (moment sc hands (suc (d + w + first_of_frame sc (suc f)))) = subst (λ k. IsRunning (moment sc hands k)) (sym g) running in
     let m : (suc d + w) * sc.plan.l ≡ (d + w) * sc.plan.l + sc.plan.l = omega arith in
     let before : StandsAt sc hands ear (suc f) (d + w) epoch low =
-    to_window sc hands ear learned records f last w epoch low h x d (omega (arith, few)) (running_before sc hands (moment sc hands (d + w + first_of_frame sc (suc f))) on) (omega (arith, g, le))
+    to_window h x d (omega (arith, few)) (running_before sc hands (moment sc hands (d + w + first_of_frame sc (suc f))) on) (omega (arith, g, le))
     (omega (arith, m, in_time)) in
     let p : PassesExact sc hands ear (suc f) (d + w) epoch low before =
-    passes_exact sc hands ear learned records f last (d + w) epoch low h before (omega (arith, few)) on (omega (arith, g, le)) (omega (arith, m, in_time)) in
+    passes_exact h before (omega (arith, few)) on (omega (arith, g, le)) (omega (arith, m, in_time)) in
     let e : suc (d + w) ≡ suc d + w = omega arith in
     subst (λ k. StandsAt sc hands ear (suc f) k epoch low) e p.next
 
@@ -42,20 +42,20 @@ pub record NextFrame (sc : Scenario) (hands : List HandIn) (ear : Ear) (frame ep
   pub stands : next_epoch ≤ ear.ticks → StandsAt sc hands ear (suc frame) 0 next_epoch low
 
 -- `NextFrame` holds if the listener has ticks up to the end of stage 2 of the sync slot
-pub next_frame_of : (sc : Scenario) (hands : List HandIn) (ear : Ear) (learned : ℕ) (records : List Sense) (f last w epoch low : ℕ) → IsHeldTo sc hands ear learned records f last
+pub next_frame_of : {sc hands ear learned records f last w epoch low : _} → IsHeldTo sc hands ear learned records f last
     → StandsAt sc hands ear (suc f) w epoch low → w ≤ 3 * sync_slot_of sc.sizes → IsComplete sc hands (suc f) (sync_slot_of sc.sizes) → suc (suc (sync_moment sc (suc f))) ≤ last
     → epoch + (f0_of sc.sizes sc.plan + sc.plan.l) + sc.plan.v ≤ ear.ticks → NextFrame sc hands ear (suc f) epoch
-next_frame_of sc hands ear learned records f last w epoch low h x few complete le in_time = record {
-  next_epoch = next_epoch_of sc hands ear (suc f) epoch low second p;
+next_frame_of {sc} {hands} {ear} {f} {w} {epoch} {low} h x few complete le in_time = record {
+  next_epoch = next_epoch_of p;
   low = third.later;
   after = omega (arith, p.through.least);
-  begins = subst (λ g. NextBegins sc hands ear g (next_epoch_of sc hands ear (suc f) epoch low second p) third.later) at.frame_is third.late.next;
+  begins = subst (λ g. NextBegins sc hands ear g (next_epoch_of p) third.later) at.frame_is third.late.next;
   third = p.through.now;
   third_stands = p.through.stands;
   third_known = p.through.known;
   stands = λ ticks.
-      to_next sc hands ear learned records f last epoch low (next_epoch_of sc hands ear (suc f) epoch low second p) third.later h
-      (to_tail sc hands ear learned records f last epoch low h second p complete third (omega (arith, p.through.least, ticks))) complete ticks;
+      to_next h
+      (to_tail h p complete third (omega (arith, p.through.least, ticks))) complete ticks;
 }
   where
     n : ℕ
@@ -80,16 +80,16 @@ next_frame_of sc hands ear learned records f last w epoch low h x few complete l
     first : StandsAt sc hands ear (suc f) (3 * sync_slot_of sc.sizes) epoch low
     first =
         subst (λ k. StandsAt sc hands ear (suc f) k epoch low) there
-        (to_window sc hands ear learned records f last w epoch low h x d (omega (arith, there)) running (omega (arith, number, le)) (omega (arith, ticks_there, in_time)))
+        (to_window h x d (omega (arith, there)) running (omega (arith, number, le)) (omega (arith, ticks_there, in_time)))
 
     second : StandsAtSecond sc hands ear (suc f) epoch low
-    second = to_second sc hands ear learned records f last epoch low h first complete in_time
+    second = to_second h first complete in_time
 
     p : PassesAtSecond sc hands ear (suc f) epoch low second
-    p = through_second sc hands ear learned records f last epoch low h second complete le
+    p = through_second h second complete le
 
-    third : StandsAtThird sc hands ear (suc f) epoch low (next_epoch_of sc hands ear (suc f) epoch low second p) second.shared p.through.now
-    third = to_third sc hands ear learned records f last epoch low h second p complete
+    third : StandsAtThird sc hands ear (suc f) epoch low (next_epoch_of p) second.shared p.through.now
+    third = to_third h p complete
 
     at : IsInSync sc hands (suc f) (suc (suc (sync_moment sc (suc f)))) 2
-    at = in_sync sc hands second.second.beside.law f h.complete complete (suc (suc n)) 2 (omega arith) (omega arith)
+    at = in_sync second.second.beside.law h.complete complete 2 (omega arith) (omega arith)

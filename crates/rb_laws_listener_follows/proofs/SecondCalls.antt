@@ -5,7 +5,7 @@ use Rattle.rb_base.specs.{Nodes.has, Nodes.Side.{Biu, Rmu}, Sizes.sync_slot_of}
 use Rattle.rb_base.proofs.Plain.{all_four, eq_self}
 use Rattle.rb_rules.specs.{declared.sense.Sense.TheVariants.One, Clock.{IsStamp, stamp_of}, Core.of_source, Goodness.{Scenario, is_good}, Hearing.{Coming, Sending}, NodeState.NodeState, NodeSteps.expect_of, Plan.{f0_of, shortest_of}, Ports.HandIn, Rounds.{moment, sending_in, window_in}, Sense.{sense_of, stamp_in, suits}, Spelling.{IsMessage, spelling_of}, Standing.taken_of, SyncStage.{call_of, call_tick_of, expects_call}}
 use Rattle.rb_rules.proofs.{Senses.spelled_is_one, Slots.few_slots, Stamps.{one_stamp, stamp_of-is}}
-use Rattle.rb_laws_agreement.proofs.{Goodnesses.{good_counts, slot_last}, Invariant.{IsGoodNode, Shared}, NodeWindows.{Windows, sync_windows_are, word_at}}
+use Rattle.rb_laws_agreement.proofs.{Goodnesses.{good_counts, slot_last}, Invariant.IsGoodNode, NodeWindows.{Windows, sync_windows_are, word_at}}
 use Rattle.rb_laws_synchrony.proofs.{PlanNumbers.drift_of, Times.Steady}
 use Rattle.rb_laws_listener_learns.specs.Ears.{Ear, HearsTheRun, IsEar, IsHeard, IsOfGood, SendsIn, coming_to}
 use Rattle.rb_laws_listener_learns.proofs.{Calling.call-sending, Together.steady-ear}
@@ -15,14 +15,14 @@ use Rattle.rb_laws_listener_follows.proofs.{Arrivals.{none_with_stamp, one_colle
 
 -- if all that comes from RMU `j` with the stamps of these ticks is one message that it sent while
 -- it was good, this is its only arrival
-pub sole_source : (sc : Scenario) (hands : List HandIn) (ear : Ear) → IsEar sc ear → HearsTheRun sc hands ear → (first ticks j k : ℕ) (c : Coming) → IsOfGood sc hands ear c → c.from ≡ j → j < sc.sizes.rmus
+pub sole_source : {sc hands ear : _} → IsEar sc ear → HearsTheRun sc hands ear → (first ticks : ℕ) {j k c : _} → IsOfGood sc hands ear c → c.from ≡ j → j < sc.sizes.rmus
     → first + ticks ≤ ear.ticks → first ≤ k → k < first + ticks → IsStamp ear.clock c.time k → IsHeard ear k c
     → ((i : ℕ) → i < ticks → (nth : ℕ) (d : Coming) → slice_get (ear.heard (first + i)) nth ≡ Some d → d.from ≡ j → d ≡ c)
     → of_source (collected sc.sizes ear.heard first ticks) j ≡ record { stamp = k; bytes = c.bytes } ∷ []
-sole_source sc hands ear is run first ticks j k c good from inside in_time low high stamp heard sole =
+sole_source {sc} {ear} is run first ticks {j} {k} {c} good from inside in_time low high stamp heard sole =
     subst (λ t. of_source (collected sc.sizes ear.heard first ticks) j ≡ record { stamp = t; bytes = c.bytes } ∷ []) place
     (one_collected sc.sizes ear.heard first ticks j (k - first) (record { stamp = first + (k - first); bytes = c.bytes }) within
-    (one_with_stamp sc.sizes (first + (k - first)) (ear.heard (first + (k - first))) j heard.nth c inside here from
+    (one_with_stamp sc.sizes (first + (k - first)) (ear.heard (first + (k - first))) heard.nth inside here from
     (λ a d at mine.
     run.once (first + (k - first)) a heard.nth c (omega (arith, within, in_time)) good (at ∙ ap (λ y. Some y) (sole (k - first) within a d at mine)) here))
     (λ i lt apart.
@@ -58,11 +58,11 @@ pub record TakesCall (sc : Scenario) (hands : List HandIn) (ear : Ear) (n epoch 
   pub sense : sense_span sc ear (epoch + (f0_of sc.sizes sc.plan + sc.plan.l)) sc.plan.v st (sync_slot_of sc.sizes) 2 j ≡ One stamp sending.message
   pub taken : taken_second sc ear epoch st j ≡ Some stamp
 
-pub takes_call : (sc : Scenario) (hands : List HandIn) (ear : Ear) (n epoch low : ℕ) (s : Shared) → Beside sc hands ear n epoch low s → (moment sc hands n).window ≡ 3 * sync_slot_of sc.sizes + 1
+pub takes_call : {sc hands ear n epoch low s : _} → Beside sc hands ear n epoch low s → (moment sc hands n).window ≡ 3 * sync_slot_of sc.sizes + 1
     → epoch + (f0_of sc.sizes sc.plan + sc.plan.l) + sc.plan.v ≤ ear.ticks → (st : NodeState) → st.frame ≡ (moment sc hands n).frame
-    → (j : ℕ) (source : NodeState) (tick : ℕ) → IsGoodNode sc (moment sc hands n) Rmu j source → call_tick_of sc.sizes sc.plan source 2 ≡ Some tick
+    → {j source tick : _} → IsGoodNode sc (moment sc hands n) Rmu j source → call_tick_of sc.sizes sc.plan source 2 ≡ Some tick
     → has st.far.trusted j ≡ true → has st.far.direct j ≡ false → TakesCall sc hands ear n epoch st j tick
-takes_call sc hands ear n epoch low s b at in_time st frame j source tick there called trusts clear = one (record { tick = tick; message = call_of sc.sizes source 2 }) refl
+takes_call {sc} {hands} {ear} {n} {epoch} b at in_time st frame {j} {source} {tick} there called trusts clear = one (record { tick = tick; message = call_of sc.sizes source 2 }) refl
   where
     slot : ℕ
     slot = sync_slot_of sc.sizes
@@ -74,7 +74,7 @@ takes_call sc hands ear n epoch low s b at in_time st frame j source tick there 
     ws = sync_windows_are sc (moment sc hands n) 1 (omega arith) at
 
     good : is_good sc Rmu j (moment sc hands n).frame (sync_slot_of sc.sizes) ≡ true
-    good = ap (is_good sc Rmu j (moment sc hands n).frame) (sym (slot_last sc.sizes (moment sc hands n).window 1 at)) ∙ there.good
+    good = ap (is_good sc Rmu j (moment sc hands n).frame) (sym (slot_last sc.sizes 1 at)) ∙ there.good
 
     one : (x : Sending) → x ≡ record { tick = tick; message = call_of sc.sizes source 2 } → TakesCall sc hands ear n epoch st j tick
     one x is_x =
@@ -84,24 +84,23 @@ takes_call sc hands ear n epoch low s b at in_time st frame j source tick there 
           state = source;
           good = (there.there, ap (is_good sc Rmu j (moment sc hands n).frame) (ap (λ w. w.slot) (ws.are Rmu source)) ∙ good);
           sends = subst (λ w. sending_in sc (moment sc hands n) Rmu j source w ≡ Some x) (sym (ws.are Rmu source))
-              (call-sending sc.sizes sc.plan j source (word_at sc (moment sc hands n) slot j) tick called ∙ ap (λ y. Some y) (sym is_x));
+              (call-sending sc.sizes sc.plan j source (word_at sc (moment sc hands n) slot j) called ∙ ap (λ y. Some y) (sym is_x));
         } in
         let c : Coming = coming_to sc ear j (moment sc hands n).frame x in
-        let arrives = comes sc ear b.is j (moment sc hands n).frame x in
-        let called_at = called_between sc hands b.law n j x sent s low at b.near in
-        let clock : Steady (shortest_of sc.plan) (drift_of sc.plan) ear.clock = steady-ear sc b.law ear b.is in
+        let arrives = comes b.is j (moment sc hands n).frame x in
+        let called_at = called_between b.law sent at b.near in
+        let clock : Steady (shortest_of sc.plan) (drift_of sc.plan) ear.clock = steady-ear b.law b.is in
         let k : ℕ = stamp_of ear.clock c.time in
         let stamp : IsStamp ear.clock c.time k = stamp_of-is ear.clock clock.moves c.time in
-        let inside = calls_in_time sc hands ear n epoch low s b at c.time
-        (record { least = omega (arith, arrives.least, called_at.least); most = omega (arith, arrives.most, called_at.most) }) k stamp in
+        let inside = calls_in_time b at
+        (record { least = omega (arith, arrives.least, called_at.least); most = omega (arith, arrives.most, called_at.most) }) stamp in
         let heard : IsHeard ear k c = b.run.each n j x sent k (omega (arith, inside.0, b.past)) (omega (arith, inside.1, in_time)) stamp in
         let of_good : IsOfGood sc hands ear c = record { n = n; sending = x; sent = sent; is = refl } in
         let sole : (i : ℕ) → i < sc.plan.v → (nth : ℕ) (d : Coming) → slice_get (ear.heard (epoch + (f + sc.plan.l) + i)) nth ≡ Some d → d.from ≡ j → d ≡ c =
         λ i lt nth d is from.
         let o : IsOwn sc hands ear n d =
-        only_calls sc hands ear n epoch low s b at d source (subst (λ r. IsGoodNode sc (moment sc hands n) Rmu r source) (sym from) there)
-        (subst (λ r. is_good sc Rmu r (moment sc hands n).frame (sync_slot_of sc.sizes) ≡ true) (sym from) good)
-        (epoch + (f + sc.plan.l) + i) (omega (arith, lt, in_time)) (record { nth = nth; there = is }) (omega arith) (omega (arith, lt)) in
+        only_calls b at (subst (λ r. IsGoodNode sc (moment sc hands n) Rmu r source) (sym from) there)
+        (subst (λ r. is_good sc Rmu r (moment sc hands n).frame (sync_slot_of sc.sizes) ≡ true) (sym from) good) (omega (arith, lt, in_time)) (record { nth = nth; there = is }) (omega arith) (omega (arith, lt)) in
         let own : SendsIn sc hands n j o.good.sending = subst (λ r. SendsIn sc hands n r o.good.sending) from (subst (λ r. SendsIn sc hands r d.from o.good.sending) o.here o.good.sent) in
         let states : own.state ≡ sent.state = same_Some own.state sent.state (sym own.good.0 ∙ sent.good.0) in
         let sending_is : o.good.sending ≡ x =
@@ -109,7 +108,7 @@ takes_call sc hands ear n epoch low s b at in_time st frame j source tick there 
         o.good.is ∙ ap (λ r. coming_to sc ear r (moment sc hands o.good.n).frame o.good.sending) from
         ∙ ap (λ r. coming_to sc ear j (moment sc hands r).frame o.good.sending) o.here ∙ ap (coming_to sc ear j (moment sc hands n).frame) sending_is in
         let list : of_source (collected sc.sizes ear.heard (epoch + (f + sc.plan.l)) sc.plan.v) j ≡ record { stamp = k; bytes = c.bytes } ∷ [] =
-        sole_source sc hands ear b.is b.run (epoch + (f + sc.plan.l)) sc.plan.v j k c of_good refl (good_counts sc Rmu j (moment sc hands n).frame (sync_slot_of sc.sizes) good) in_time
+        sole_source b.is b.run (epoch + (f + sc.plan.l)) sc.plan.v of_good refl (good_counts sc Rmu j (moment sc hands n).frame (sync_slot_of sc.sizes) good) in_time
         (omega (arith, inside.0)) (omega (arith, inside.1)) stamp heard sole in
         let message : x.message ≡ call_of sc.sizes source 2 = ap (λ y. y.message) is_x in
         let fits : IsMessage (call_of sc.sizes source 2) =

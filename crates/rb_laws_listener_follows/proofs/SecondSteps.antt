@@ -1,8 +1,8 @@
 -- A listener goes through stage 2 of the sync slot: it keeps the middle of the calls, from which
 -- its next frame begins near the good nodes.
 use Rattle.std.proofs.Common.{◌≡◌, ℕ, suc, ◌+◌, ◌-◌, ◌*◌, ◌<◌, ◌≤◌, ◌&&◌, not, Bool, true, false, List, Option, Some, None, is_some, option_map, unwrap_or, if◌then◌else◌, refl, sym, ◌∙◌, ap, subst, arith}
-use Rattle.rb_base.specs.{Nodes.has, Nodes.Side.{Biu, Rmu}, Sizes.{Sizes, sync_slot_of}, declared.values.See.See}
-use Rattle.rb_rules.specs.{declared.sense.Sense.Sense, Clock.{IsStamp, stamp_of, time_of}, Core.state_at, ExactStage.{each_node, present}, Goodness.{Scenario, clock_of, is_good}, Hearing.window_numbered, Judging.{JudgedStage, verdict_of}, Middle.middle_of, NodeState.NodeState, Plan.{f0_of, shortest_of}, Ports.HandIn, Rounds.{after_window, moment}, Sense.stamp_in, Standing.{Standing, does_wrong, taken_of}, SyncStage.{call_tick_of, close_sync, expects_call, new_epoch_of, sync_outcome_of}}
+use Rattle.rb_base.specs.{Nodes.has, Nodes.Side.{Biu, Rmu}, Sizes.{Sizes, sync_slot_of}}
+use Rattle.rb_rules.specs.{declared.sense.Sense.Sense, Clock.{IsStamp, stamp_of, time_of}, Core.state_at, ExactStage.{each_node, present}, Goodness.{Scenario, clock_of, is_good}, Hearing.window_numbered, Judging.verdict_of, Middle.middle_of, NodeState.NodeState, Plan.{f0_of, shortest_of}, Ports.HandIn, Rounds.{after_window, moment}, Sense.stamp_in, Standing.{Standing, does_wrong, taken_of}, SyncStage.{call_tick_of, close_sync, expects_call, new_epoch_of, sync_outcome_of}}
 use Rattle.rb_rules.proofs.{Stamps.{one_stamp, stamp_of-is}, WindowNumbers.sync-numbered}
 use Rattle.rb_laws_agreement.proofs.{ExactAgrees.has_ticks, Goodnesses.slot_last, Invariant.{IsGoodNode, Shared, is_good_now}, NextMoments.{next, was_good}, NodeWindows.sync_windows_are, SyncAgrees.SyncSetting}
 use Rattle.rb_laws_synchrony.proofs.{CallSights.stages_with, PlanNumbers.{drift_of, last_plus, second_early, second_late}, StageMiddles.{IsCaller, caller, tick_of}, SyncSteps.IsPassedStage, Synchronous.{from_2, to_2}, Times.{Steady, lawful_fits, plan_fits, tick_le}}
@@ -40,23 +40,23 @@ pub record StandsSecond (sc : Scenario) (hands : List HandIn) (ear : Ear) (n epo
   pub held : Held sc (moment sc hands n) s st
   pub in_time : epoch + (f0_of sc.sizes sc.plan + sc.plan.l) + sc.plan.v ≤ ear.ticks
 
-call_taken : (sc : Scenario) (hands : List HandIn) (ear : Ear) (n epoch low : ℕ) (s : Shared) (st : NodeState) → StandsSecond sc hands ear n epoch low s st
-    → (j : ℕ) (source : NodeState) (tick : ℕ) → IsGoodNode sc (moment sc hands n) Rmu j source → call_tick_of sc.sizes sc.plan source 2 ≡ Some tick → TakesCall sc hands ear n epoch st j tick
-call_taken sc hands ear n epoch low s st a j source tick there at =
-    takes_call sc hands ear n epoch low s a.beside a.passed.stage.at a.in_time st a.held.frame j source tick there at
+call_taken : {sc hands ear n epoch low s st : _} → StandsSecond sc hands ear n epoch low s st
+    → {j source tick : _} → IsGoodNode sc (moment sc hands n) Rmu j source → call_tick_of sc.sizes sc.plan source 2 ≡ Some tick → TakesCall sc hands ear n epoch st j tick
+call_taken {st} a {j} there at =
+    takes_call a.beside a.passed.stage.at a.in_time st a.held.frame there at
     (ap (λ x. has x j) a.held.far ∙ a.beside.agree.trusted Rmu j there.good) (a.tracks.spares j there.good)
 
-takes_all : (sc : Scenario) (hands : List HandIn) (ear : Ear) (n epoch low : ℕ) (s : Shared) (st : NodeState) → StandsSecond sc hands ear n epoch low s st → (time : ℕ → ℕ) → HasTimes sc hands ear n epoch st time
+takes_all : {sc hands ear n epoch low s st : _} → StandsSecond sc hands ear n epoch low s st → {time : _} → HasTimes sc hands ear n epoch st time
     → TakesCalls sc (moment sc hands n) s ear.clock (taken_second sc ear epoch st) time
-takes_all sc hands ear n epoch low s st a time h = record {
+takes_all {sc} {hands} {ear} {n} {epoch} {st} a {time} h = record {
   trusts = λ j some.
       ap (λ x. has x j) (sym a.held.far)
       ∙ taken-trusted stamp_in st.far (expects_call Biu st 2) (sense_span sc ear (epoch + (f0_of sc.sizes sc.plan + sc.plan.l)) sc.plan.v st (sync_slot_of sc.sizes) 2) j some;
   stamped = λ j k is. ((h.stamped j k is).0, one_stamp ear.clock (time j) (stamp_of ear.clock (time j)) k (stamp_of-is ear.clock clock.moves (time j)) (h.stamped j k is).1);
   calls = λ j source tick there at.
-      let t : TakesCall sc hands ear n epoch st j tick = call_taken sc hands ear n epoch low s st a j source tick there at in
+      let t : TakesCall sc hands ear n epoch st j tick = call_taken a there at in
       let e : time j ≡ (coming_to sc ear j (moment sc hands n).frame t.sending).time = h.of_good j tick t in
-      let arrives = comes sc ear a.beside.is j (moment sc hands n).frame t.sending in
+      let arrives = comes a.beside.is j (moment sc hands n).frame t.sending in
       let f : time_of (clock_of sc Rmu j) t.sending.tick ≡ time_of (clock_of sc Rmu j) tick = ap (time_of (clock_of sc Rmu j)) t.at in (
         t.taken ∙ ap (λ k. Some k) (one_stamp ear.clock (time j) t.stamp (stamp_of ear.clock (time j)) (subst (λ x. IsStamp ear.clock x t.stamp) (sym e) t.stamped) (stamp_of-is ear.clock clock.moves (time j))),
         record { least = omega (arith, e, f, arrives.least); most = omega (arith, e, f, arrives.most) },
@@ -64,23 +64,23 @@ takes_all sc hands ear n epoch low s st a time h = record {
 }
   where
     clock : Steady (shortest_of sc.plan) (drift_of sc.plan) ear.clock
-    clock = steady-ear sc a.beside.law ear a.beside.is
+    clock = steady-ear a.beside.law a.beside.is
 
 -- ---- the close
 
-pub second_span : (sc : Scenario) (st : NodeState) (w : ℕ) → w ≡ 3 * sync_slot_of sc.sizes + 1 → 1 ≤ sc.plan.v
+pub second_span : (sc : Scenario) (st : NodeState) {w : ℕ} → w ≡ 3 * sync_slot_of sc.sizes + 1 → 1 ≤ sc.plan.v
     → IsSpan sc st w (sync_slot_of sc.sizes) 2 (f0_of sc.sizes sc.plan + sc.plan.l) sc.plan.v
-second_span sc st w at some = record {
+second_span sc st at some = record {
   window = ap (window_numbered sc.sizes sc.plan Biu st) at ∙ sync-numbered sc.sizes sc.plan Biu st 1;
   in_frame = omega (arith, at);
   some = some;
 }
 
 -- stage 2 keeps the middle of what was taken
-keeps_second : (sizes : Sizes) (st : NodeState) (first middle : ℕ) (sense : ℕ → Sense) → middle_of (present (each_node (taken_of stamp_in st.far (expects_call Biu st 2) sense))) ≡ Some middle
+keeps_second : (sizes : Sizes) (st : NodeState) (first : ℕ) {middle : ℕ} (sense : ℕ → Sense) → middle_of (present (each_node (taken_of stamp_in st.far (expects_call Biu st 2) sense))) ≡ Some middle
     → (close_sync sizes Biu st 2 first sense).state.k2 ≡ Some middle
 unfolding close_sync sync_outcome_of
-keeps_second sizes st first middle sense found = ap (λ o. Some (unwrap_or o first)) found
+keeps_second sizes st first sense found = ap (λ o. Some (unwrap_or o first)) found
 
 -- with the last tick of stage 2 the listener knows when its next frame begins, and its middle is
 -- near those of the good BIUs
@@ -97,51 +97,51 @@ pub record PassesSecond (sc : Scenario) (hands : List HandIn) (ear : Ear) (n epo
   pub most : middle < epoch + (f0_of sc.sizes sc.plan + sc.plan.l + sc.plan.v)
   pub near : MiddleIsNear sc (next sc (moment sc hands n)) ear.clock middle
 
-pub passes_second : (sc : Scenario) (hands : List HandIn) (ear : Ear) (n epoch low : ℕ) (s : Shared) (st : NodeState) → (a : StandsSecond sc hands ear n epoch low s st)
+pub passes_second : {sc hands ear n epoch low s st : _} → (a : StandsSecond sc hands ear n epoch low s st)
     → SyncSetting sc hands n (moment sc hands n) s 1 (sync_windows_are sc (moment sc hands n) 1 a.passed.stage.small a.passed.stage.at)
     → MostGood sc (moment sc hands n) → verdict_of (stages_with sc (moment sc hands n) 1) ≡ None
-    → (time : ℕ → ℕ) → HasTimes sc hands ear n epoch st time → (seen : ℕ → JudgedStage → Option (ℕ → See)) → verdict_with seen (stages_with sc (moment sc hands n) 1) ≡ None
+    → {time : _} → HasTimes sc hands ear n epoch st time → {seen : _} → verdict_with seen (stages_with sc (moment sc hands n) 1) ≡ None
     → SawTimes sc (moment sc hands n) (taken_second sc ear epoch st) time seen
     → PassesSecond sc hands ear n epoch st
 unfolding after_window
-passes_second sc hands ear n epoch low s st a set most judged time times seen none saw = record {
+passes_second {sc} {hands} {ear} {n} {epoch} {low} {s} {st} a set most judged {time} times {seen} none saw = record {
   closes = x;
   now = now;
   is = ap (λ o. o.state) is;
   stands = subst (λ k. Stands sc ear now k) tick (subst (λ o. Stands sc ear o.state (suc (epoch + (f0_of sc.sizes sc.plan + sc.plan.l) + (sc.plan.v - 1)))) is x.stands);
-  tracks = tracks_sync sc hands n (moment sc hands n) s 1 (sync_windows_are sc (moment sc hands n) 1 a.passed.stage.small a.passed.stage.at) set st a.tracks
+  tracks = tracks_sync set a.tracks
       (st.epoch + (f0_of sc.sizes sc.plan + sc.plan.l)) sense right;
   epoch_is = keeps_epoch sc.sizes st 2 (st.epoch + (f0_of sc.sizes sc.plan + sc.plan.l)) sense ∙ a.epoch_is;
   middle = found.tick;
-  known = ap (option_map (λ k2. k2 + sc.plan.v + sc.plan.z + sc.plan.c)) (keeps_second sc.sizes st (st.epoch + (f0_of sc.sizes sc.plan + sc.plan.l)) found.tick sense found.found);
+  known = ap (option_map (λ k2. k2 + sc.plan.v + sc.plan.z + sc.plan.c)) (keeps_second sc.sizes st (st.epoch + (f0_of sc.sizes sc.plan + sc.plan.l)) sense found.found);
   least = tick_le ear.clock clock.moves (epoch + (f0_of sc.sizes sc.plan + sc.plan.l)) found.tick
-      (omega (arith, (ear_time sc hands ear n epoch low s a.beside (f0_of sc.sizes sc.plan + sc.plan.l)).most, early, found.not_early));
+      (omega (arith, (ear_time a.beside (f0_of sc.sizes sc.plan + sc.plan.l)).most, early, found.not_early));
   most = omega (
     arith,
     last,
     found.in_time (epoch + (f0_of sc.sizes sc.plan + sc.plan.l + sc.plan.v - 1))
-        (omega (arith, (ear_time sc hands ear n epoch low s a.beside (f0_of sc.sizes sc.plan + sc.plan.l + sc.plan.v - 1)).least, late)),
+        (omega (arith, (ear_time a.beside (f0_of sc.sizes sc.plan + sc.plan.l + sc.plan.v - 1)).least, late)),
   );
-  near = calls_near_bius sc hands n (moment sc hands n) s low a.passed a.beside.near ear.clock (taken_second sc ear epoch st) time seen called found.tick found.found;
+  near = calls_near_bius a.passed a.beside.near called found.found;
 }
   where
     f : ℕ
     f = f0_of sc.sizes sc.plan
 
     fit : plan_fits sc
-    fit = lawful_fits sc a.beside.law
+    fit = lawful_fits a.beside.law
 
     at : (moment sc hands n).window ≡ 3 * sync_slot_of sc.sizes + 1
     at = a.passed.stage.at
 
     clock : Steady (shortest_of sc.plan) (drift_of sc.plan) ear.clock
-    clock = steady-ear sc a.beside.law ear a.beside.is
+    clock = steady-ear a.beside.law a.beside.is
 
     called : IsCalled sc (moment sc hands n) s ear.clock (taken_second sc ear epoch st) time seen
-    called = record { most = most; steady = clock; takes = takes_all sc hands ear n epoch low s st a time times; judged = judged; none = none; saw = saw }
+    called = record { most = most; steady = clock; takes = takes_all a times; judged = judged; none = none; saw = saw }
 
     found : FindsMiddle sc ear.clock (taken_second sc ear epoch st) (from_2 sc low) (to_2 sc low)
-    found = calls_found sc hands n (moment sc hands n) s low a.passed a.beside.near ear.clock (taken_second sc ear epoch st) time seen called
+    found = calls_found a.passed a.beside.near called
 
     early : low + sc.plan.p + (f0_of sc.sizes sc.plan + sc.plan.l) * tick_of sc.plan ≤ from_2 sc low + sc.plan.dmin
     early = second_early low sc.plan.p f sc.plan.h sc.plan.l (shortest_of sc.plan) (drift_of sc.plan) sc.plan.dmin fit.before_2
@@ -153,7 +153,7 @@ passes_second sc hands ear n epoch low s st a set most judged time times seen no
     late = second_late low sc.plan.p f sc.plan.h sc.plan.l sc.plan.v (f + sc.plan.l + sc.plan.v - 1) (shortest_of sc.plan) (drift_of sc.plan) sc.plan.dmax last fit.after_2
 
     span : IsSpan sc st (moment sc hands n).window (sync_slot_of sc.sizes) 2 (f0_of sc.sizes sc.plan + sc.plan.l) sc.plan.v
-    span = second_span sc st (moment sc hands n).window at a.beside.law.plan.v.0
+    span = second_span sc st at a.beside.law.plan.v.0
 
     sense : ℕ → Sense
     sense = sense_span sc ear (epoch + (f0_of sc.sizes sc.plan + sc.plan.l)) sc.plan.v st (sync_slot_of sc.sizes) 2
@@ -163,15 +163,15 @@ passes_second sc hands ear n epoch low s st a set most judged time times seen no
 
     is : closing sc ear st (epoch + (f0_of sc.sizes sc.plan + sc.plan.l)) (sc.plan.v - 1)
         ≡ close_sync sc.sizes Biu st 2 (st.epoch + (f0_of sc.sizes sc.plan + sc.plan.l)) (sense_span sc ear (epoch + (f0_of sc.sizes sc.plan + sc.plan.l)) sc.plan.v st (sync_slot_of sc.sizes) 2)
-    is = span_closing sc ear st (moment sc hands n).window 2 (f + sc.plan.l) sc.plan.v epoch span (has_ticks sc a.beside.law) a.epoch_is
+    is = span_closing ear span (has_ticks a.beside.law) a.epoch_is
 
     here : IsWindow sc.sizes sc.plan st st (epoch + (f0_of sc.sizes sc.plan + sc.plan.l)) (sc.plan.v - 1)
     here =
-        span_window sc st st (moment sc hands n).window (sync_slot_of sc.sizes) 2 (f + sc.plan.l) sc.plan.v epoch span (has_ticks sc a.beside.law) a.epoch_is a.turns
+        span_window st span (has_ticks a.beside.law) a.epoch_is a.turns
         (λ x known. let both : None ≡ Some x = sym a.unknown ∙ known in cc) (omega (arith, a.in_time, a.beside.is.ticks))
 
     x : ClosesWindow sc ear st st (epoch + (f0_of sc.sizes sc.plan + sc.plan.l)) (sc.plan.v - 1)
-    x = closes_window sc ear st st (epoch + (f + sc.plan.l)) (sc.plan.v - 1) here a.stands
+    x = closes_window here a.stands
 
     tick : suc (epoch + (f0_of sc.sizes sc.plan + sc.plan.l) + (sc.plan.v - 1)) ≡ epoch + (f0_of sc.sizes sc.plan + sc.plan.l + sc.plan.v)
     tick = omega (arith, a.beside.law.plan.v.0)
@@ -181,7 +181,7 @@ passes_second sc hands ear n epoch low s st a set most judged time times seen no
     right j good =
         let was : is_good_now sc (moment sc hands n) Rmu j ≡ true = was_good sc (moment sc hands n) Rmu j good in
         let by : IsCaller sc (moment sc hands n) Rmu 2 j =
-        caller sc hands n (moment sc hands n) s 1 Biu (heard-second sc hands n (moment sc hands n) s a.passed) j (ap (is_good sc Rmu j (moment sc hands n).frame) (sym (slot_last sc.sizes (moment sc hands n).window 1 at)) ∙ was) in
-        let t : TakesCall sc hands ear n epoch st j by.tick = call_taken sc hands ear n epoch low s st a j by.st by.tick by.here by.at in
+        caller (heard-second a.passed) j (ap (is_good sc Rmu j (moment sc hands n).frame) (sym (slot_last sc.sizes 1 at)) ∙ was) in
+        let t : TakesCall sc hands ear n epoch st j by.tick = call_taken a by.here by.at in
         let expected : expects_call Biu st 2 j ≡ true = ap (λ x. has x j) a.held.far ∙ a.beside.agree.trusted Rmu j was in
         ap (λ b. does_wrong b (sense j)) expected ∙ ap (does_wrong true) t.sense

@@ -25,30 +25,30 @@ following_verdict sc ear learned frame records stages later h =
 
 -- if the premise holds up to a moment after the first of a frame, it holds for what the listener
 -- closed
-pub holds_following : (sc : Scenario) (hands : List HandIn) (ear : Ear) (learned : ℕ) (records : List Sense) (last : ℕ) → HoldsTo sc hands ear learned records last
-    → (k frame : ℕ) → k ≤ last → (moment sc hands k).frame ≡ frame → learned < frame → 1 ≤ (moment sc hands k).window
+pub holds_following : (sc : Scenario) (hands : List HandIn) (ear : Ear) {learned : ℕ} (records : List Sense) {last : ℕ} → HoldsTo sc hands ear learned records last
+    → (k : ℕ) {frame : ℕ} → k ≤ last → (moment sc hands k).frame ≡ frame → learned < frame → 1 ≤ (moment sc hands k).window
     → verdict_with (seen_following sc ear frame) (moment sc hands k).book.stages ≡ None
-holds_following sc hands ear learned records last holds k frame le is later some =
+holds_following sc hands ear {learned} records holds k {frame} le is later some =
     following_verdict sc ear learned frame records (moment sc hands k).book.stages later
     (subst (λ f. verdict_with (seen_in sc ear learned records f) (moment sc hands k).book.stages ≡ None) is (holds k le (omega (arith, is, later)) some))
 
 -- most RMUs stay good
-pub most_stay : (sc : Scenario) (hands : List HandIn) (ear : Ear) → IsLawful sc → HearsTheRun sc hands ear → (n : ℕ) → (moment sc hands n).window < windows_in sc.sizes → IsRunning (moment sc hands (suc n))
+pub most_stay : {sc hands ear : _} → IsLawful sc → HearsTheRun sc hands ear → (n : ℕ) → (moment sc hands n).window < windows_in sc.sizes → IsRunning (moment sc hands (suc n))
     → MostStay sc (moment sc hands n)
-most_stay sc hands ear law run n inside running =
+most_stay {sc} {hands} law run n inside running =
     let on : GoesOn sc hands n = goes_on sc hands n inside running in
     let most : sc.sizes.rmus < 2 * how_many (is_always_good sc hands) = omega (arith, ltb-true sc.sizes.rmus (2 * size (set_of (is_always_good sc hands))) run.most_good, how_many-is (is_always_good sc hands)) in
     let le : how_many (is_always_good sc hands) ≤ how_many (stays_good sc (moment sc hands n)) =
     how_many-le (is_always_good sc hands) (stays_good sc (moment sc hands n)) (λ i below good.
-    subst (λ m. is_good_now sc m Rmu i ≡ true) (sym on.next_is) (good-at-moment sc hands law i (suc n) running good)) in
+    subst (λ m. is_good_now sc m Rmu i ≡ true) (sym on.next_is) (good-at-moment hands law i (suc n) running good)) in
     omega (arith, most, le)
 
-pub most_now : (sc : Scenario) (hands : List HandIn) (ear : Ear) → IsLawful sc → HearsTheRun sc hands ear → (n : ℕ) → IsRunning (moment sc hands n)
+pub most_now : {sc hands ear : _} → IsLawful sc → HearsTheRun sc hands ear → (n : ℕ) → IsRunning (moment sc hands n)
     → sc.sizes.rmus < 2 * how_many (is_good_now sc (moment sc hands n) Rmu)
-most_now sc hands ear law run n running =
+most_now {sc} {hands} law run n running =
     let most : sc.sizes.rmus < 2 * how_many (is_always_good sc hands) = omega (arith, ltb-true sc.sizes.rmus (2 * size (set_of (is_always_good sc hands))) run.most_good, how_many-is (is_always_good sc hands)) in
     let le : how_many (is_always_good sc hands) ≤ how_many (is_good_now sc (moment sc hands n) Rmu) =
-    how_many-le (is_always_good sc hands) (is_good_now sc (moment sc hands n) Rmu) (λ i below good. good-at-moment sc hands law i n running good) in
+    how_many-le (is_always_good sc hands) (is_good_now sc (moment sc hands n) Rmu) (λ i below good. good-at-moment hands law i n running good) in
     omega (arith, most, le)
 
 -- ---- what a close shows

@@ -3,9 +3,9 @@ use Rattle.std.proofs.{Common.{◌≡◌, ℕ, zero, suc, ◌+◌, ◌-◌, ◌*
 use Rattle.std.specs.Prelude.{IfSome}
 use Rattle.rb_base.specs.{Nodes.Side.Rmu, Sizes.sync_slot_of, declared.values.Heard.Heard}
 use Rattle.rb_base.proofs.Plain.{less-differs}
-use Rattle.rb_rules.specs.{declared.message.Message.Message, declared.sense.Expect.Expect, declared.sense.Sense.Sense, Clock.{IsStamp, stamp_of}, Core.of_source, ExactStage.{message_of, says}, Goodness.{Scenario, is_good}, Hearing.{Coming, Sending, sending}, NodeState.NodeState, NodeSteps.expect_of, Plan.shortest_of, Ports.HandIn, Rounds.{Moment, after_window, moment, sending_in}, Sense.{Arrival, sense_of}, Spelling.spelling_of, Windows.send_offset_of}
+use Rattle.rb_rules.specs.{declared.message.Message.Message, declared.sense.Expect.Expect, declared.sense.Sense.Sense, Clock.{IsStamp, stamp_of}, Core.of_source, ExactStage.{message_of, says}, Goodness.{Scenario, is_good}, Hearing.{Coming, Sending, sending}, NodeState.NodeState, NodeSteps.expect_of, Plan.shortest_of, Rounds.{Moment, after_window, moment, sending_in}, Sense.{Arrival, sense_of}, Spelling.spelling_of, Windows.send_offset_of}
 use Rattle.rb_rules.proofs.{Senses.{IsCarried, spelled_is_one, value_is_message, value_suits}, Slots.few_slots, Stamps.{one_stamp, stamp_of-is}}
-use Rattle.rb_laws_agreement.proofs.{ExactWindows.IsSenseOf, FirstStages.carried_1, Goodnesses.{good_counts, slot_here}, Invariant.{IsGoodNode, Shared, slot_numbered}, NodeWindows.{IsOne, Windows, exact_windows, sending-none, sending-some, word_at}, SecondStages.carried_2, Settings.{AllCarried, Setting}, ThirdStages.carried_3}
+use Rattle.rb_laws_agreement.proofs.{ExactWindows.IsSenseOf, FirstStages.carried_1, Goodnesses.{good_counts, slot_here}, Invariant.{IsGoodNode, slot_numbered}, NodeWindows.{IsOne, Windows, exact_windows, sending-none, sending-some, word_at}, SecondStages.carried_2, Settings.{AllCarried, Setting}, ThirdStages.carried_3}
 use Rattle.rb_laws_synchrony.proofs.{PlanNumbers.drift_of, Times.Steady}
 use Rattle.rb_laws_listener_learns.specs.Ears.{Ear, IsHeard, IsOfGood, SendsIn, coming_to}
 use Rattle.rb_laws_listener_learns.proofs.{CallsSent.sends-at, Moments.same-sent, Together.steady-ear}
@@ -13,11 +13,11 @@ use Rattle.rb_laws_listener_near.proofs.Tracking.{Senses}
 use Rattle.rb_laws_listener_follows.proofs.{Arrivals.{none_collected, none_with_stamp, one_collected, one_with_stamp}, FollowerRuns.{arrivals, collected}, HeardExact.{Beside, IsOwn, IsTickOf, only_own, own_in_time}}
 
 -- what good nodes say has four bytes
-carried : (sc : Scenario) (hands : List HandIn) (n : ℕ) (m : Moment) (s : Shared) (slot q : ℕ) → Setting sc hands n m s slot q → AllCarried sc m slot (q + 1)
-carried sc hands n m s slot zero c = carried_1 sc hands n m s slot c
-carried sc hands n m s slot (suc zero) c = carried_2 sc hands n m s slot c
-carried sc hands n m s slot (suc (suc zero)) c = carried_3 sc hands n m s slot c
-carried sc hands n m s slot (suc (suc (suc q))) c = let small : suc (suc (suc q)) < 3 = c.small in absurd (omega arith)
+carried : {sc hands n m s slot : _} (q : ℕ) → Setting sc hands n m s slot q → AllCarried sc m slot (q + 1)
+carried zero c = carried_1 c
+carried (suc zero) c = carried_2 c
+carried (suc (suc zero)) c = carried_3 c
+carried (suc (suc (suc q))) c = let small : suc (suc (suc q)) < 3 = c.small in absurd (omega arith)
 
 -- all that comes with the stamps of the window's ticks
 abbrev pub inbox_of : Scenario → Ear → ℕ → ℕ → List (ℕ × Arrival)
@@ -27,12 +27,12 @@ inbox_of sc ear epoch w = collected sc.sizes ear.heard (epoch + w * sc.plan.l) s
 abbrev pub sense_heard : Scenario → Ear → ℕ → ℕ → NodeState → ℕ → ℕ → ℕ → Sense
 sense_heard sc ear epoch w st slot stage j = sense_of (expect_of sc.sizes sc.plan.version st slot stage) (of_source (inbox_of sc ear epoch w) j)
 
-pub senses_exact : (sc : Scenario) (hands : List HandIn) (ear : Ear) (n epoch low : ℕ) (s : Shared) (slot q : ℕ) → Beside sc hands ear n epoch low s
+pub senses_exact : {sc hands ear n epoch low s slot q : _} → Beside sc hands ear n epoch low s
     → (c : Setting sc hands n (moment sc hands n) s slot q) → (st : NodeState) → st.frame ≡ (moment sc hands n).frame
     → epoch + (moment sc hands n).window * sc.plan.l + sc.plan.l ≤ ear.ticks
     → Senses sc (moment sc hands n) slot q (sense_heard sc ear epoch (moment sc hands n).window st slot (q + 1))
 unfolding after_window
-senses_exact sc hands ear n epoch low s slot q b c st frame in_time j source there stays = by (says sc.sizes Rmu j source slot (q + 1) (word_at sc (moment sc hands n) slot j)) refl
+senses_exact {sc} {hands} {ear} {n} {epoch} {slot} {q} b c st frame in_time j source there stays = by (says sc.sizes Rmu j source slot (q + 1) (word_at sc (moment sc hands n) slot j)) refl
   where
     m : Moment
     m = moment sc hands n
@@ -67,9 +67,8 @@ senses_exact sc hands ear n epoch low s slot q b c st frame in_time j source the
     -- whatever comes from RMU `j` is what it sends in this window
     own : (i : ℕ) → i < sc.plan.l → (nth : ℕ) (d : Coming) → slice_get (ear.heard (epoch + (moment sc hands n).window * sc.plan.l + i)) nth ≡ Some d → d.from ≡ j → IsOwn sc hands ear n d
     own i lt nth d is from =
-        only_own sc hands ear n epoch low s b below d source (subst (λ k. IsGoodNode sc (moment sc hands n) Rmu k source) (sym from) there)
-        (subst (λ k. is_good sc Rmu k (moment sc hands n).frame (slot_numbered sc.sizes ((moment sc hands n).window + 1)) ≡ true) (sym from) good)
-        (epoch + (moment sc hands n).window * sc.plan.l + i) (omega (arith, lt, in_time)) (record { nth = nth; there = is }) (tick_in i lt)
+        only_own b below (subst (λ k. IsGoodNode sc (moment sc hands n) Rmu k source) (sym from) there)
+        (subst (λ k. is_good sc Rmu k (moment sc hands n).frame (slot_numbered sc.sizes ((moment sc hands n).window + 1)) ≡ true) (sym from) good) (omega (arith, lt, in_time)) (record { nth = nth; there = is }) (tick_in i lt)
 
     own_sends : (d : Coming) (o : IsOwn sc hands ear n d) → d.from ≡ j → SendsIn sc hands n j o.good.sending
     own_sends d o from = subst (λ k. SendsIn sc hands n k o.good.sending) from (subst (λ k. SendsIn sc hands k d.from o.good.sending) o.here o.good.sent)
@@ -87,7 +86,7 @@ senses_exact sc hands ear n epoch low s slot q b c st frame in_time j source the
         let states : sent.state ≡ source = same_Some sent.state source (sym sent.good.0 ∙ there.there) in
         let both : None ≡ Some o.good.sending =
         sym silent ∙ ap (λ x. sending sc.sizes sc.plan Rmu j x slot (q + 1) (word_at sc (moment sc hands n) slot j)) (sym states)
-        ∙ sends-at sc hands n j o.good.sending sent slot (q + 1) ws in
+        ∙ sends-at sent ws in
         cc)) in
         ap (sense_of (expect_of sc.sizes sc.plan.version st slot (q + 1))) nothing
     by (Some value) saying = one (record { tick = tick; message = message_of source slot (q + 1) value }) refl
@@ -100,11 +99,11 @@ senses_exact sc hands ear n epoch low s slot q b c st frame in_time j source the
 
         sends : sending sc.sizes sc.plan Rmu j source slot (q + 1) (word_at sc (moment sc hands n) slot j) ≡ Some (record { tick = tick; message = message_of source slot (q + 1) value })
         sends =
-            sending-some sc.sizes sc.plan Rmu j source slot (q + 1) (word_at sc (moment sc hands n) slot j) tick message
+            sending-some sc.sizes sc.plan Rmu j source slot (q + 1) (word_at sc (moment sc hands n) slot j)
             (rw away (ap (option_map (message_of source slot (q + 1))) saying)) (rw away refl)
 
         fits : IsCarried value
-        fits = subst (λ o. IfSome o IsCarried) saying (carried sc hands n (moment sc hands n) s slot q c Rmu j source there)
+        fits = subst (λ o. IfSome o IsCarried) saying (carried q c Rmu j source there)
 
         one : (x : Sending) → x ≡ record { tick = tick; message = message_of source slot (q + 1) value }
             → IsOne (sense_heard sc ear epoch (moment sc hands n).window st slot (q + 1) j) (message_of source slot (q + 1) value)
@@ -113,14 +112,14 @@ senses_exact sc hands ear n epoch low s slot q b c st frame in_time j source the
               running = b.running;
               in_frame = omega (arith, below);
               state = source;
-              good = (there.there, ap (is_good sc Rmu j (moment sc hands n).frame) (ap (λ w. w.slot) (ws.are Rmu source) ∙ sym (slot_here sc.sizes (moment sc hands n).window slot q c.below c.small c.at)) ∙ there.good);
+              good = (there.there, ap (is_good sc Rmu j (moment sc hands n).frame) (ap (λ w. w.slot) (ws.are Rmu source) ∙ sym (slot_here sc.sizes slot q c.below c.small c.at)) ∙ there.good);
               sends = subst (λ w. sending_in sc (moment sc hands n) Rmu j source w ≡ Some x) (sym (ws.are Rmu source)) (sends ∙ ap (λ y. Some y) (sym is_x));
             } in
             let comes : Coming = coming_to sc ear j (moment sc hands n).frame x in
-            let clock : Steady (shortest_of sc.plan) (drift_of sc.plan) ear.clock = steady-ear sc b.law ear b.is in
+            let clock : Steady (shortest_of sc.plan) (drift_of sc.plan) ear.clock = steady-ear b.law b.is in
             let k : ℕ = stamp_of ear.clock comes.time in
             let stamp : IsStamp ear.clock comes.time k = stamp_of-is ear.clock clock.moves comes.time in
-            let at = own_in_time sc hands ear n epoch low s b below j x sent k stamp in
+            let at = own_in_time b below sent stamp in
             let heard : IsHeard ear k comes = b.run.each n j x sent k (omega (arith, at.0, b.past)) (omega (arith, at.1, in_time)) stamp in
             let i : ℕ = k - first in
             let place : first + i ≡ k = omega (arith, at.0) in
@@ -129,12 +128,12 @@ senses_exact sc hands ear n epoch low s slot q b c st frame in_time j source the
             let same : (t : ℕ) → t < sc.plan.l → (nth : ℕ) (d : Coming) → slice_get (ear.heard (first + t)) nth ≡ Some d → d.from ≡ j → d ≡ comes =
             λ t lt nth d is from.
             let o : IsOwn sc hands ear n d = own t lt nth d is from in
-            let sending_is : o.good.sending ≡ x = same-sent sc hands n j o.good.sending x (own_sends d o from) sent in
+            let sending_is : o.good.sending ≡ x = same-sent (own_sends d o from) sent in
             o.good.is ∙ ap (λ f. coming_to sc ear f (moment sc hands o.good.n).frame o.good.sending) from
             ∙ ap (λ p. coming_to sc ear j (moment sc hands p).frame o.good.sending) o.here ∙ ap (coming_to sc ear j (moment sc hands n).frame) sending_is in
             let of_good : IsOfGood sc hands ear comes = record { n = n; sending = x; sent = sent; is = refl } in
             let single : of_source (arrivals sc.sizes (first + i) (ear.heard (first + i))) j ≡ record { stamp = first + i; bytes = comes.bytes } ∷ [] =
-            one_with_stamp sc.sizes (first + i) (ear.heard (first + i)) j heard.nth comes inside here refl
+            one_with_stamp sc.sizes (first + i) (ear.heard (first + i)) heard.nth inside here refl
             (λ a d is from.
             b.run.once (first + i) a heard.nth comes (omega (arith, within, in_time)) of_good
             (is ∙ ap (λ y. Some y) (same i within a d is from)) here) in

@@ -19,13 +19,13 @@ pub record IsInSync (sc : Scenario) (hands : List HandIn) (frame k q : ℕ) : Ty
   pub long : length (moment sc hands k).book.stages ≡ 3 * sync_slot_of sc.sizes + q
   pub running : IsRunning (moment sc hands k)
 
-pub in_sync : (sc : Scenario) (hands : List HandIn) → IsLawful sc → (f : ℕ) → IsComplete sc hands f (sync_slot_of sc.sizes) → IsComplete sc hands (suc f) (sync_slot_of sc.sizes)
-    → (k q : ℕ) → k ≡ 3 * sync_slot_of sc.sizes + q + first_of_frame sc (suc f) → q ≤ 3 → IsInSync sc hands (suc f) k q
-in_sync sc hands law f before complete k q is small =
+pub in_sync : {sc hands : _} → IsLawful sc → {f : ℕ} → IsComplete sc hands f (sync_slot_of sc.sizes) → IsComplete sc hands (suc f) (sync_slot_of sc.sizes)
+    → {k : ℕ} (q : ℕ) → k ≡ 3 * sync_slot_of sc.sizes + q + first_of_frame sc (suc f) → q ≤ 3 → IsInSync sc hands (suc f) k q
+in_sync {sc} {hands} law {f} before complete {k} q is small =
     let running : IsRunning (moment sc hands k) =
     running_earlier sc hands k (suc f * (windows_in sc.sizes + 1) + 3 * sync_slot_of sc.sizes + 4 - 1) (omega (arith, is, small)) complete in
     let at : IsAtWindow sc hands (suc f) (3 * sync_slot_of sc.sizes + q) =
-    at-window sc hands law f before (3 * sync_slot_of sc.sizes + q) (omega (arith, small)) (subst (λ x. IsRunning (moment sc hands x)) is running) in
+    at-window law before (3 * sync_slot_of sc.sizes + q) (omega (arith, small)) (subst (λ x. IsRunning (moment sc hands x)) is running) in
     record {
       window = ap (λ x. (moment sc hands x).window) is ∙ at.window_is;
       frame_is = ap (λ x. (moment sc hands x).frame) is ∙ at.frame_is;
@@ -40,17 +40,17 @@ pub record SpanSees (sc : Scenario) (ear : Ear) (frame w : ℕ) (c : Closed) (k 
   pub seen : seen_by sc ear frame w k ≡ Some c
   pub later : NoneSeen sc ear frame (suc w) k
 
-pub span_sees : (sc : Scenario) (ear : Ear) (before st : NodeState) (w q a ticks epoch frame : ℕ) → IsSpan sc st w (sync_slot_of sc.sizes) (q + 1) a ticks → HasTicks sc.plan → st.epoch ≡ epoch → st.frame ≡ frame
+pub span_sees : {sc ear before st w : _} (q : ℕ) {a ticks epoch frame : ℕ} → IsSpan sc st w (sync_slot_of sc.sizes) (q + 1) a ticks → HasTicks sc.plan → st.epoch ≡ epoch → st.frame ≡ frame
     → w ≡ 3 * sync_slot_of sc.sizes + q → q < 3 → IsWindow sc.sizes sc.plan before st (epoch + a) (ticks - 1) → Stands sc ear before (epoch + a) → ClosesWindow sc ear before st (epoch + a) (ticks - 1)
     → NoneSeen sc ear frame w (epoch + a)
     → SpanSees sc ear frame w (close_sync sc.sizes Biu st (q + 1) (st.epoch + a) (sense_span sc ear (epoch + a) ticks st (sync_slot_of sc.sizes) (q + 1))).closed (epoch + a + ticks)
-span_sees sc ear before st w q a ticks epoch frame span has epoch_is frame_is at small here stands closes none = record {
+span_sees {sc} {ear} {st} {w} q {a} {ticks} {epoch} {frame} span has epoch_is frame_is at small here stands closes none = record {
   seen = ap (seen_by sc ear frame w) (sym end) ∙ sees.here ∙ ap (λ o. Some o.closed) is;
   later = subst (λ v. NoneSeen sc ear frame v (epoch + a + ticks)) more (subst (NoneSeen sc ear frame (w + 1)) end sees.later);
 }
   where
     is : closing sc ear st (epoch + a) (ticks - 1) ≡ close_sync sc.sizes Biu st (q + 1) (st.epoch + a) (sense_span sc ear (epoch + a) ticks st (sync_slot_of sc.sizes) (q + 1))
-    is = span_closing sc ear st w (q + 1) a ticks epoch span has epoch_is
+    is = span_closing ear span has epoch_is
 
     slot : sync_slot_of sc.sizes ≡ w / 3
     slot = omega (arith, at, small)
@@ -65,7 +65,7 @@ span_sees sc ear before st w q a ticks epoch frame span has epoch_is frame_is at
         ∙ ap (λ k. record { frame = frame; slot = k; stage = q + 1 }) slot ∙ ap (λ k. record { frame = frame; slot = w / 3; stage = k + 1 }) stage
 
     sees : SeesWindow sc ear frame w (closing sc ear st (epoch + a) (ticks - 1)).closed (epoch + a + (ticks - 1))
-    sees = sees_window sc ear before st (epoch + a) (ticks - 1) frame w here stands closes none place
+    sees = sees_window here stands closes none place
 
     end : suc (epoch + a + (ticks - 1)) ≡ epoch + a + ticks
     end = omega (arith, span.some)
@@ -86,13 +86,13 @@ pub record StandsAtSecond (sc : Scenario) (hands : List HandIn) (ear : Ear) (fra
   pub second : StandsSecond sc hands ear (suc (sync_moment sc frame)) epoch low shared st
   pub none : NoneSeen sc ear frame (suc (3 * sync_slot_of sc.sizes)) (epoch + (f0_of sc.sizes sc.plan + sc.plan.l))
 
-pub to_second : (sc : Scenario) (hands : List HandIn) (ear : Ear) (learned : ℕ) (records : List Sense) (f last epoch low : ℕ) → IsHeldTo sc hands ear learned records f last
+pub to_second : {sc hands ear learned records f last epoch low : _} → IsHeldTo sc hands ear learned records f last
     → (x : StandsAt sc hands ear (suc f) (3 * sync_slot_of sc.sizes) epoch low) → IsComplete sc hands (suc f) (sync_slot_of sc.sizes)
     → epoch + (f0_of sc.sizes sc.plan + sc.plan.l) + sc.plan.v ≤ ear.ticks → StandsAtSecond sc hands ear (suc f) epoch low
-to_second sc hands ear learned records f last epoch low h x complete in_time = record {
+to_second {sc} {hands} {ear} {f} {epoch} h x complete in_time = record {
   shared = x.shared;
   st = first.now;
-  second = stands_second sc hands ear n epoch low x.shared x.before x.st x.abides stage.passes stage.set stage.next_is now.running first second.passes in_time;
+  second = stands_second x.abides stage.passes stage.set stage.next_is now.running first second.passes in_time;
   none = subst (NoneSeen sc ear (suc f) (suc (3 * sync_slot_of sc.sizes))) end sees.later;
 }
   where
@@ -103,28 +103,28 @@ to_second sc hands ear learned records f last epoch low h x complete in_time = r
     n = sync_moment sc (suc f)
 
     at : IsInSync sc hands (suc f) (sync_moment sc (suc f)) 0
-    at = in_sync sc hands law f h.complete complete n 0 (omega arith) (omega arith)
+    at = in_sync law h.complete complete 0 (omega arith) (omega arith)
 
     now : IsInSync sc hands (suc f) (suc (sync_moment sc (suc f))) 1
-    now = in_sync sc hands law f h.complete complete (suc n) 1 (omega arith) (omega arith)
+    now = in_sync law h.complete complete 1 (omega arith) (omega arith)
 
     after : IsInSync sc hands (suc f) (suc (suc (sync_moment sc (suc f)))) 2
-    after = in_sync sc hands law f h.complete complete (suc (suc n)) 2 (omega arith) (omega arith)
+    after = in_sync law h.complete complete 2 (omega arith) (omega arith)
 
     stage : StageIs sc hands (sync_moment sc (suc f)) x.shared 0
-    stage = stage_is sc hands law n x.shared 0 x.abides.beside.agree (omega arith) at.window now.running
+    stage = stage_is law 0 x.abides.beside.agree (omega arith) at.window now.running
 
     second : StageIs sc hands (suc (sync_moment sc (suc f))) x.shared 1
-    second = stage_is sc hands law (suc n) x.shared 1 stage.agree (omega arith) now.window after.running
+    second = stage_is law 1 stage.agree (omega arith) now.window after.running
 
     first : PassesFirst sc hands ear (sync_moment sc (suc f)) epoch x.before x.st
-    first = passes_first sc hands ear n epoch low x.shared x.before x.st x.abides stage.passes stage.set stage.next_is (omega (arith, in_time))
+    first = passes_first x.abides stage.passes stage.set stage.next_is (omega (arith, in_time))
 
     f0 : ℕ
     f0 = f0_of sc.sizes sc.plan
 
     span : IsSpan sc x.st (3 * sync_slot_of sc.sizes) (sync_slot_of sc.sizes) (0 + 1) (f0_of sc.sizes sc.plan) sc.plan.l
-    span = first_span sc x.st (3 * sync_slot_of sc.sizes) (omega arith) law.plan.l.0
+    span = first_span sc x.st (omega arith) law.plan.l.0
 
     same : (moment sc hands (sync_moment sc (suc f))).window * sc.plan.l ≡ f0_of sc.sizes sc.plan
     same = ap (λ k. k * sc.plan.l) x.at.window_is
@@ -137,28 +137,28 @@ to_second sc hands ear learned records f last epoch low h x complete in_time = r
 
     here : IsWindow sc.sizes sc.plan x.before x.st (epoch + f0_of sc.sizes sc.plan) (sc.plan.l - 1)
     here =
-        span_window sc x.before x.st (3 * sync_slot_of sc.sizes) (sync_slot_of sc.sizes) 1 f0 sc.plan.l epoch span (has_ticks sc law) x.abides.epoch_is turns
+        span_window x.before span (has_ticks law) x.abides.epoch_is turns
         (λ y known. let both : None ≡ Some y = sym x.abides.unknown ∙ known in cc) (omega (arith, in_time, x.abides.beside.is.ticks))
 
     frame : x.st.frame ≡ suc f
-    frame = (held_in_sync sc hands n 0 x.shared stage.passes x.st x.abides.tracks).frame ∙ at.frame_is
+    frame = (held_in_sync stage.passes x.abides.tracks).frame ∙ at.frame_is
 
     sees : SpanSees sc ear (suc f) (3 * sync_slot_of sc.sizes)
         (close_sync sc.sizes Biu x.st (0 + 1) (x.st.epoch + f0_of sc.sizes sc.plan) (sense_span sc ear (epoch + f0_of sc.sizes sc.plan) sc.plan.l x.st (sync_slot_of sc.sizes) (0 + 1))).closed
         (epoch + f0_of sc.sizes sc.plan + sc.plan.l)
     sees =
-        span_sees sc ear x.before x.st (3 * sync_slot_of sc.sizes) 0 f0 sc.plan.l epoch (suc f) span (has_ticks sc law) x.abides.epoch_is frame (omega arith) (omega arith) here stands first.closes
+        span_sees 0 span (has_ticks law) x.abides.epoch_is frame (omega arith) (omega arith) here stands first.closes
         x.none
 
     end : epoch + f0_of sc.sizes sc.plan + sc.plan.l ≡ epoch + (f0_of sc.sizes sc.plan + sc.plan.l)
     end = omega arith
 
 -- what all good nodes have in common stays
-pub second_shared : (sc : Scenario) (hands : List HandIn) (ear : Ear) (learned : ℕ) (records : List Sense) (f last epoch low : ℕ) → (h : IsHeldTo sc hands ear learned records f last)
+pub second_shared : {sc hands ear learned records f last epoch low : _} → (h : IsHeldTo sc hands ear learned records f last)
     → (x : StandsAt sc hands ear (suc f) (3 * sync_slot_of sc.sizes) epoch low) → (complete : IsComplete sc hands (suc f) (sync_slot_of sc.sizes))
-    → (in_time : epoch + (f0_of sc.sizes sc.plan + sc.plan.l) + sc.plan.v ≤ ear.ticks) → (to_second sc hands ear learned records f last epoch low h x complete in_time).shared ≡ x.shared
+    → (in_time : epoch + (f0_of sc.sizes sc.plan + sc.plan.l) + sc.plan.v ≤ ear.ticks) → (to_second h x complete in_time).shared ≡ x.shared
 unfolding to_second
-second_shared sc hands ear learned records f last epoch low h x complete in_time = refl
+second_shared h x complete in_time = refl
 
 -- ---- stage 2
 
@@ -172,10 +172,10 @@ pub record PassesAtSecond (sc : Scenario) (hands : List HandIn) (ear : Ear) (fra
   pub through : PassesSecond sc hands ear (suc (sync_moment sc frame)) epoch x.st
   pub none : NoneSeen sc ear frame (suc (suc (3 * sync_slot_of sc.sizes))) (epoch + (f0_of sc.sizes sc.plan + sc.plan.l + sc.plan.v))
 
-pub through_second : (sc : Scenario) (hands : List HandIn) (ear : Ear) (learned : ℕ) (records : List Sense) (f last epoch low : ℕ) → IsHeldTo sc hands ear learned records f last
+pub through_second : {sc hands ear learned records f last epoch low : _} → IsHeldTo sc hands ear learned records f last
     → (x : StandsAtSecond sc hands ear (suc f) epoch low) → IsComplete sc hands (suc f) (sync_slot_of sc.sizes) → suc (suc (sync_moment sc (suc f))) ≤ last
     → PassesAtSecond sc hands ear (suc f) epoch low x
-through_second sc hands ear learned records f last epoch low h x complete le = record {
+through_second {sc} {hands} {ear} {records} {f} {epoch} h x complete le = record {
   through = through;
   none = subst (NoneSeen sc ear (suc f) (suc (suc (3 * sync_slot_of sc.sizes)))) end sees.later;
 }
@@ -190,13 +190,13 @@ through_second sc hands ear learned records f last epoch low h x complete le = r
     f0 = f0_of sc.sizes sc.plan
 
     at : IsInSync sc hands (suc f) (suc (sync_moment sc (suc f))) 1
-    at = in_sync sc hands law f h.complete complete n 1 (omega arith) (omega arith)
+    at = in_sync law h.complete complete 1 (omega arith) (omega arith)
 
     after : IsInSync sc hands (suc f) (suc (suc (sync_moment sc (suc f)))) 2
-    after = in_sync sc hands law f h.complete complete (suc n) 2 (omega arith) (omega arith)
+    after = in_sync law h.complete complete 2 (omega arith) (omega arith)
 
     stage : StageIs sc hands (suc (sync_moment sc (suc f))) x.shared 1
-    stage = stage_is sc hands law n x.shared 1 x.second.beside.agree (omega arith) at.window after.running
+    stage = stage_is law 1 x.second.beside.agree (omega arith) at.window after.running
 
     frame : x.st.frame ≡ suc f
     frame = x.second.held.frame ∙ at.frame_is
@@ -205,15 +205,15 @@ through_second sc hands ear learned records f last epoch low h x complete le = r
     w = suc (3 * sync_slot_of sc.sizes)
 
     span : IsSpan sc x.st (suc (3 * sync_slot_of sc.sizes)) (sync_slot_of sc.sizes) (1 + 1) (f0_of sc.sizes sc.plan + sc.plan.l) sc.plan.v
-    span = second_span sc x.st w (omega arith) law.plan.v.0
+    span = second_span sc x.st (omega arith) law.plan.v.0
 
     here : IsWindow sc.sizes sc.plan x.st x.st (epoch + (f0_of sc.sizes sc.plan + sc.plan.l)) (sc.plan.v - 1)
     here =
-        span_window sc x.st x.st w (sync_slot_of sc.sizes) 2 (f0 + sc.plan.l) sc.plan.v epoch span (has_ticks sc law) x.second.epoch_is x.second.turns
+        span_window x.st span (has_ticks law) x.second.epoch_is x.second.turns
         (λ y known. let both : None ≡ Some y = sym x.second.unknown ∙ known in cc) (omega (arith, x.second.in_time, x.second.beside.is.ticks))
 
     closes : ClosesWindow sc ear x.st x.st (epoch + (f0_of sc.sizes sc.plan + sc.plan.l)) (sc.plan.v - 1)
-    closes = closes_window sc ear x.st x.st (epoch + (f0 + sc.plan.l)) (sc.plan.v - 1) here x.second.stands
+    closes = closes_window here x.second.stands
 
     sense : ℕ → Sense
     sense = sense_span sc ear (epoch + (f0_of sc.sizes sc.plan + sc.plan.l)) sc.plan.v x.st (sync_slot_of sc.sizes) 2
@@ -223,7 +223,7 @@ through_second sc hands ear learned records f last epoch low h x complete le = r
 
     sees : SpanSees sc ear (suc f) (suc (3 * sync_slot_of sc.sizes)) c (epoch + (f0_of sc.sizes sc.plan + sc.plan.l) + sc.plan.v)
     sees =
-        span_sees sc ear x.st x.st w 1 (f0 + sc.plan.l) sc.plan.v epoch (suc f) span (has_ticks sc law) x.second.epoch_is frame (omega arith) (omega arith) here x.second.stands closes x.none
+        span_sees 1 span (has_ticks law) x.second.epoch_is frame (omega arith) (omega arith) here x.second.stands closes x.none
 
     end : epoch + (f0_of sc.sizes sc.plan + sc.plan.l) + sc.plan.v ≡ epoch + (f0_of sc.sizes sc.plan + sc.plan.l + sc.plan.v)
     end = omega arith
@@ -232,7 +232,7 @@ through_second sc hands ear learned records f last epoch low h x complete le = r
     seen_end =
         let k : ℕ = epoch + (f0 + sc.plan.l) + sc.plan.v in
         let e : ear.ticks - k + k ≡ ear.ticks = omega (arith, x.second.in_time) in
-        ap (seen_by sc ear (suc f) w) (sym e) ∙ seen_stays sc ear (suc f) w k c sees.seen (ear.ticks - k)
+        ap (seen_by sc ear (suc f) w) (sym e) ∙ seen_stays sc ear (suc f) w k sees.seen (ear.ticks - k)
 
     number : length (moment sc hands (suc (sync_moment sc (suc f)))).book.stages ≡ suc (3 * sync_slot_of sc.sizes)
     number = omega (arith, at.long)
@@ -249,10 +249,9 @@ through_second sc hands ear learned records f last epoch low h x complete le = r
     judged : verdict_with (seen_following sc ear (suc f)) (stages_with sc (moment sc hands (suc (sync_moment sc (suc f)))) 1) ≡ None
     judged =
         ap (verdict_with (seen_following sc ear (suc f))) (sym stage.passes.stages ∙ ap (λ m. m.book.stages) stage.next_is)
-        ∙ holds_following sc hands ear learned records last h.holds (suc n) (suc f) le after.frame_is h.later (omega (arith, after.window))
+        ∙ holds_following sc hands ear records h.holds (suc n) le after.frame_is h.later (omega (arith, after.window))
 
     through : PassesSecond sc hands ear (suc (sync_moment sc (suc f))) epoch x.st
     through =
-        passes_second sc hands ear n epoch low x.shared x.st x.second (stage_setting sc hands n (moment sc hands n) x.shared 1 x.second.passed.stage.small x.second.passed.stage.at law x.second.beside.agree stage.through)
-        (most_now sc hands ear law x.second.beside.run n at.running) stage.through.no_cause (time_second sc ear epoch x.st) (has_times sc hands ear n epoch low x.shared x.st x.second)
-        (seen_following sc ear (suc f)) judged saw
+        passes_second x.second (stage_setting 1 x.second.passed.stage.small x.second.passed.stage.at law x.second.beside.agree stage.through)
+        (most_now law x.second.beside.run n at.running) stage.through.no_cause (has_times x.second) judged saw

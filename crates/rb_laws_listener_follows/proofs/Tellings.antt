@@ -26,23 +26,23 @@ act-epoch sizes plan c st = by (is_last sizes plan Biu st c.had)
     by true = refl
     by false = refl
 
-pub tells_epoch : (sc : Scenario) (ear : Ear) (k : ℕ) (c : Core) (st : NodeState) → heed sc.sizes sc.plan (listening_at sc ear k) ≡ followed (follow sc.sizes sc.plan c) → c.had < 2 ^ 31
+pub tells_epoch : (sc : Scenario) (ear : Ear) (k : ℕ) (c : Core) {st : _} → heed sc.sizes sc.plan (listening_at sc ear k) ≡ followed (follow sc.sizes sc.plan c) → c.had < 2 ^ 31
     → state_at sc.sizes sc.plan Biu c.state c.had ≡ st → (told_at sc ear k).epoch ≡ epoch_at sc.sizes Biu st c.had
-tells_epoch sc ear k c st is below at =
-    ap (λ x. x.heed.epoch) is ∙ ap (λ a. a.epoch) (acts_by sc.sizes sc.plan c st below at) ∙ act-epoch sc.sizes sc.plan c st
+tells_epoch sc ear k c {st} is below at =
+    ap (λ x. x.heed.epoch) is ∙ ap (λ a. a.epoch) (acts_by sc.sizes sc.plan c below at) ∙ act-epoch sc.sizes sc.plan c st
 
 -- the listener delivers what the window that it closes delivers
-pub tells_close : (sc : Scenario) (ear : Ear) (k : ℕ) (core : Core) (x : Closed) → listening_at sc ear k ≡ now.Following core → (follow sc.sizes sc.plan core).closed ≡ Some x
+pub tells_close : (sc : Scenario) (ear : Ear) (k : ℕ) (core : Core) {x : _} → listening_at sc ear k ≡ now.Following core → (follow sc.sizes sc.plan core).closed ≡ Some x
     → (told_at sc ear k).delivered ≡ x.delivered
 unfolding heed
-tells_close sc ear k core x is closed =
+tells_close sc ear k core is closed =
     ap (λ l. (heed sc.sizes sc.plan l).heed.delivered) is ∙ ap (option_and_then (λ (c : Closed). c.delivered)) closed
 
 -- if the listener begins a frame in a state with the trusted nodes of another one, it tells what a
 -- node in that state does
-pub tells_frame : (sc : Scenario) (ear : Ear) (frame tick : ℕ) (st : NodeState) → (told_at sc ear tick).epoch ≡ epoch_at sc.sizes Biu st tick → st.frame ≡ frame → st.epoch ≡ tick
+pub tells_frame : (sc : Scenario) (ear : Ear) {frame tick : ℕ} (st : NodeState) → (told_at sc ear tick).epoch ≡ epoch_at sc.sizes Biu st tick → st.frame ≡ frame → st.epoch ≡ tick
     → (me : Side) (b : NodeState) → st.near ≡ trusted_of Biu me b → st.far.trusted ≡ trusted_of Rmu me b → (told_at sc ear tick).epoch ≡ Some (epoch_with sc frame tick me b)
-tells_frame sc ear frame tick st told frame_is epoch_is me b near far =
+tells_frame sc ear {frame} {tick} st told frame_is epoch_is me b near far =
     told
     ∙ ap (λ (t : Bool). elim t as (λ _. Option Epoch) [ true ↦ Some (epoch_of sc.sizes Biu st) | false ↦ None ]) (eq-eqb st.epoch tick epoch_is)
     ∙ ap (λ f. Some (record { frame = f; tick = st.epoch; biu = convicted_of sc.sizes Biu Biu st; rmu = convicted_of sc.sizes Rmu Biu st })) frame_is

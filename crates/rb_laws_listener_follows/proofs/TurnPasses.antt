@@ -3,9 +3,9 @@
 use Rattle.std.proofs.{Common.{◌≡◌, ℕ, suc, ◌+◌, ◌-◌, ◌*◌, ◌/◌, ◌%◌, ◌<◌, ◌≤◌, ◌==◌, ◌&&◌, true, false, List, Option, Some, None, unwrap_or, inl, inr, refl, sym, ◌∙◌, ap, subst, arith}, lemmas.Bool.{cases_lt, eqb-true, false_from_ne_true}, lemmas.Option.same_Some}
 use Rattle.rb_base.specs.{Nodes.Side.Biu, Sizes.sync_slot_of}
 use Rattle.rb_base.proofs.Plain.{and_second}
-use Rattle.rb_rules.specs.{declared.closing.Closed.Closed, declared.sense.Sense.Sense, Conviction.turn, Goodness.Scenario, Hearing.window_numbered, Lawful.IsLawful, Moments.{IsComplete, IsRunning}, NodeState.NodeState, Plan.tail_start_of, Ports.HandIn, Rounds.{moment, next_frame, windows_in}, SyncStage.new_epoch_of, Windows.tail_of}
+use Rattle.rb_rules.specs.{declared.closing.Closed.Closed, Conviction.turn, Goodness.Scenario, Hearing.window_numbered, Lawful.IsLawful, Moments.{IsComplete, IsRunning}, NodeState.NodeState, Plan.tail_start_of, Ports.HandIn, Rounds.{moment, next_frame, windows_in}, SyncStage.new_epoch_of, Windows.tail_of}
 use Rattle.rb_rules.proofs.WindowNumbers.{sync-numbered}
-use Rattle.rb_laws_agreement.proofs.{ExactAgrees.has_ticks, FrameAgrees.shared_next, FrameTurns.AtEnd, FrameBegins.{IsTurn, frame_turns}, Invariant.{Agree, Shared}, NextMoments.next, NodeWindows.tail_windows, Places.running_earlier, SlotRuns.{next-frame, next-window}, SyncAgrees.{SyncSetting, agree_sync, tail_setting}}
+use Rattle.rb_laws_agreement.proofs.{ExactAgrees.has_ticks, FrameAgrees.shared_next, FrameTurns.AtEnd, FrameBegins.{IsTurn, frame_turns}, Invariant.Agree, NextMoments.next, NodeWindows.tail_windows, Places.running_earlier, SlotRuns.{next-frame, next-window}, SyncAgrees.{SyncSetting, agree_sync, tail_setting}}
 use Rattle.rb_laws_events.proofs.TurnTicks.{not-yet}
 use Rattle.rb_laws_synchrony.proofs.{LastStage.near_tail, Synchronous.Synchronous}
 use Rattle.rb_laws_listener_near.proofs.SyncTracks.{IsLike, like_next}
@@ -22,9 +22,9 @@ no_number c g v is =
     let t : c.place.stage ≡ v % 3 + 1 = eqb-true c.place.stage (v % 3 + 1) (and_second ((c.place.frame == g) && (c.place.slot == v / 3)) (c.place.stage == v % 3 + 1) h) in
     absurd (omega (arith, t, is)))
 
-tail_span : (sc : Scenario) (st : NodeState) (w epoch next_epoch ticks : ℕ) → w ≡ 3 * sync_slot_of sc.sizes + 3 → st.epoch ≡ epoch → new_epoch_of sc.plan Biu st ≡ Some next_epoch
+tail_span : (sc : Scenario) (st : NodeState) {w epoch next_epoch : ℕ} (ticks : ℕ) → w ≡ 3 * sync_slot_of sc.sizes + 3 → st.epoch ≡ epoch → new_epoch_of sc.plan Biu st ≡ Some next_epoch
     → epoch + tail_start_of sc.sizes sc.plan + ticks ≡ next_epoch → 1 ≤ ticks → IsSpan sc st w (sync_slot_of sc.sizes) 4 (tail_start_of sc.sizes sc.plan) ticks
-tail_span sc st w epoch next_epoch ticks at epoch_is known end some = record {
+tail_span sc st {next_epoch} ticks at epoch_is known end some = record {
   window = ap (window_numbered sc.sizes sc.plan Biu st) at ∙ sync-numbered sc.sizes sc.plan Biu st 3
       ∙ ap (λ o. tail_of sc.sizes sc.plan (unwrap_or o 0 - st.epoch)) known
       ∙ ap (λ k. record { slot = sync_slot_of sc.sizes; stage = 4; first = tail_start_of sc.sizes sc.plan; last = k }) (last (tail_start_of sc.sizes sc.plan) st.epoch (omega (arith, epoch_is, end)));
@@ -47,10 +47,10 @@ record AfterTail (sc : Scenario) (hands : List HandIn) (ear : Ear) (n epoch next
   pub known : new_epoch_of sc.plan Biu now ≡ Some next_epoch
   pub none : NoneSeen sc ear (frame + 1) 0 next_epoch
 
-through_tail : (sc : Scenario) (hands : List HandIn) (ear : Ear) (n epoch low next_epoch later frame w : ℕ) (s : Shared) (st : NodeState) → (at : (moment sc hands n).window ≡ 3 * sync_slot_of sc.sizes + 3)
+through_tail : {sc hands ear n epoch low next_epoch later frame w s st : _} → (at : (moment sc hands n).window ≡ 3 * sync_slot_of sc.sizes + 3)
     → StandsLate sc hands ear n epoch low s st (tail_start_of sc.sizes sc.plan) next_epoch later → NoneSeen sc ear frame w (epoch + tail_start_of sc.sizes sc.plan)
     → epoch + tail_start_of sc.sizes sc.plan ≤ next_epoch → next_epoch ≤ ear.ticks → AfterTail sc hands ear n epoch next_epoch frame
-through_tail sc hands ear n epoch low next_epoch later frame w s st at x none start in_time =
+through_tail {sc} {hands} {ear} {n} {epoch} {next_epoch} {frame} {s} {st} at x none start in_time =
     elim (cases_lt (epoch + tail_start_of sc.sizes sc.plan) next_epoch) [ inl less ↦ some less | inr ge ↦ empty (omega (arith, ge, start)) ]
   where
     law : IsLawful sc
@@ -60,7 +60,7 @@ through_tail sc hands ear n epoch low next_epoch later frame w s st at x none st
     first = tail_start_of sc.sizes sc.plan
 
     set : SyncSetting sc hands n (moment sc hands n) s 3 (tail_windows sc (moment sc hands n) at)
-    set = tail_setting sc hands n (moment sc hands n) s at law x.beside.agree
+    set = tail_setting at law x.beside.agree
 
     empty : epoch + tail_start_of sc.sizes sc.plan ≡ next_epoch → AfterTail sc hands ear n epoch next_epoch frame
     empty same = record {
@@ -68,11 +68,11 @@ through_tail sc hands ear n epoch low next_epoch later frame w s st at x none st
       end = same;
       now = st;
       stands = x.stands;
-      like = like_next sc hands n (moment sc hands n) s 3 (tail_windows sc (moment sc hands n) at) set st x.like;
+      like = like_next set x.like;
       spares = x.spares;
       epoch_is = x.epoch_is;
       known = x.known;
-      none = subst (NoneSeen sc ear (frame + 1) 0) same (none_later sc ear frame w (epoch + first) none);
+      none = subst (NoneSeen sc ear (frame + 1) 0) same (none_later sc ear (epoch + first) none);
     }
 
     some : epoch + tail_start_of sc.sizes sc.plan < next_epoch → AfterTail sc hands ear n epoch next_epoch frame
@@ -85,7 +85,7 @@ through_tail sc hands ear n epoch low next_epoch later frame w s st at x none st
       spares = through.spares;
       epoch_is = through.epoch_is;
       known = through.known;
-      none = λ g v from. ap (seen_by sc ear g v) (sym last) ∙ unseen g v (none_later sc ear frame w (epoch + first) none g v from);
+      none = λ g v from. ap (seen_by sc ear g v) (sym last) ∙ unseen g v (none_later sc ear (epoch + first) none g v from);
     }
       where
         ticks : ℕ
@@ -100,7 +100,7 @@ through_tail sc hands ear n epoch low next_epoch later frame w s st at x none st
         deaf : IsDeaf sc hands ear n epoch st (3 + 1) (tail_start_of sc.sizes sc.plan) (next_epoch - (epoch + tail_start_of sc.sizes sc.plan)) next_epoch
         deaf = record {
           window = omega (arith, at);
-          span = tail_span sc st (moment sc hands n).window epoch next_epoch ticks at x.epoch_is x.known end (omega (arith, less));
+          span = tail_span sc st ticks at x.epoch_is x.known end (omega (arith, less));
           expects = λ j. refl;
           keeps = tail_keeps sc.sizes sc.plan st;
           after = omega arith;
@@ -109,12 +109,12 @@ through_tail sc hands ear n epoch low next_epoch later frame w s st at x none st
         }
 
         through : PassesLate sc hands ear n epoch st (tail_start_of sc.sizes sc.plan) (next_epoch - (epoch + tail_start_of sc.sizes sc.plan)) next_epoch
-        through = passes_late sc hands ear n epoch low s 3 (tail_windows sc (moment sc hands n) at) st first ticks next_epoch later x set deaf
+        through = passes_late x set deaf
 
         here : IsWindow sc.sizes sc.plan st st (epoch + tail_start_of sc.sizes sc.plan) (next_epoch - (epoch + tail_start_of sc.sizes sc.plan) - 1)
         here =
-            span_window sc st st (moment sc hands n).window (sync_slot_of sc.sizes) 4 first ticks epoch deaf.span (has_ticks sc law) x.epoch_is
-            (not-yet sc.sizes sc.plan Biu st next_epoch (epoch + first) x.known less)
+            span_window st deaf.span (has_ticks law) x.epoch_is
+            (not-yet sc.sizes sc.plan Biu st (epoch + first) x.known less)
             (λ y known. let same : next_epoch ≡ y = same_Some next_epoch y (sym x.known ∙ known) in omega (arith, same, end)) (omega (arith, end, in_time, x.beside.is.ticks))
 
         c : Closed
@@ -122,33 +122,33 @@ through_tail sc hands ear n epoch low next_epoch later frame w s st at x none st
 
         stage : c.place.stage ≡ 4
         stage =
-            ap (λ o. o.closed.place.stage) (span_closing sc ear st (moment sc hands n).window 4 first ticks epoch deaf.span (has_ticks sc law) x.epoch_is)
+            ap (λ o. o.closed.place.stage) (span_closing ear deaf.span (has_ticks law) x.epoch_is)
             ∙ ap (λ p. p.stage) (place_synced sc.sizes st 4 (st.epoch + first) (sense_span sc ear (epoch + first) ticks st (sync_slot_of sc.sizes) 4))
 
         unseen : (g v : ℕ) → seen_by sc ear g v (epoch + tail_start_of sc.sizes sc.plan) ≡ None
             → seen_by sc ear g v (suc (epoch + tail_start_of sc.sizes sc.plan + (next_epoch - (epoch + tail_start_of sc.sizes sc.plan) - 1))) ≡ None
         unseen g v before =
-            seen_none sc ear g v (epoch + first + (ticks - 1)) (Some c)
-            (seen_quiet sc ear g v (epoch + first) before (ticks - 1) (closes_nothing sc ear st st (epoch + first) (ticks - 1) here x.stands))
-            (closes_last sc ear st st (epoch + first) (ticks - 1) through.closes)
+            seen_none sc ear g v (epoch + first + (ticks - 1))
+            (seen_quiet sc ear g v (epoch + first) before (ticks - 1) (closes_nothing here x.stands))
+            (closes_last through.closes)
             (ap (λ b. elim b as (λ _. Option Closed) [ true ↦ Some c | false ↦ None ]) (no_number c g v stage))
 
 -- ---- the next frame
 
-pub to_next : (sc : Scenario) (hands : List HandIn) (ear : Ear) (learned : ℕ) (records : List Sense) (f last epoch low next_epoch later : ℕ) → IsHeldTo sc hands ear learned records f last
+pub to_next : {sc hands ear learned records f last epoch low next_epoch later : _} → IsHeldTo sc hands ear learned records f last
     → (x : StandsAtTail sc hands ear (suc f) epoch low next_epoch later) → IsComplete sc hands (suc f) (sync_slot_of sc.sizes) → next_epoch ≤ ear.ticks
     → StandsAt sc hands ear (suc (suc f)) 0 next_epoch later
-to_next sc hands ear learned records f last epoch low next_epoch later h x complete in_time = record {
+to_next {sc} {hands} {ear} {f} {epoch} {low} {next_epoch} {later} h x complete in_time = record {
   shared = shared_next sc.sizes x.shared;
   before = after.now;
   st = turn sc.sizes sc.plan.probation Biu next_epoch after.now;
   abides = subst (λ k. Abides sc hands ear k next_epoch later (shared_next sc.sizes x.shared) after.now (turn sc.sizes sc.plan.probation Biu next_epoch after.now)) number turned;
-  at = at-window sc hands law (suc f) complete 0 (omega arith) (subst (λ k. IsRunning (moment sc hands k)) number running);
+  at = at-window law complete 0 (omega arith) (subst (λ k. IsRunning (moment sc hands k)) number running);
   none = subst (NoneSeen sc ear (suc (suc f)) 0) same_tick (subst (λ g. NoneSeen sc ear g 0 next_epoch) same_frame after.none);
   sets = λ none.
       let end : AtEnd sc hands (suc n) (moment sc hands (suc n)) x.shared = record { law = law; agree = late.beside.agree; at = window } in
       subst (λ g. HoldsSets (shared_next sc.sizes x.shared) g (turn sc.sizes sc.plan.probation Biu next_epoch after.now)) (ap (λ g. g + 1) (sym frames ∙ at.frame_is) ∙ same_frame)
-      (turned_sets sc hands (suc n) (moment sc hands (suc n)) x.shared end after.now late.like next_epoch);
+      (turned_sets end late.like next_epoch);
 }
   where
     law : IsLawful sc
@@ -158,13 +158,13 @@ to_next sc hands ear learned records f last epoch low next_epoch later h x compl
     n = suc (suc (suc (sync_moment sc (suc f))))
 
     at : IsInSync sc hands (suc f) (suc (suc (suc (sync_moment sc (suc f))))) 3
-    at = in_sync sc hands law f h.complete complete n 3 (omega arith) (omega arith)
+    at = in_sync law h.complete complete 3 (omega arith) (omega arith)
 
     after : AfterTail sc hands ear (suc (suc (suc (sync_moment sc (suc f))))) epoch next_epoch (suc f)
-    after = through_tail sc hands ear n epoch low next_epoch later (suc f) (suc (suc (suc (3 * sync_slot_of sc.sizes)))) x.shared x.st at.window x.late x.none x.start in_time
+    after = through_tail at.window x.late x.none x.start in_time
 
     t : IsTurn sc hands (suc f)
-    t = frame_turns sc hands law (suc f) complete
+    t = frame_turns law complete
 
     more : suc (suc f) * (windows_in sc.sizes + 1) ≡ suc f * (windows_in sc.sizes + 1) + (windows_in sc.sizes + 1)
     more = omega arith
@@ -198,8 +198,8 @@ to_next sc hands ear learned records f last epoch low next_epoch later h x compl
         run = x.late.beside.run;
         running = running_earlier sc hands (suc n) (suc (suc n)) (omega arith) running;
         agree = subst (λ m. Agree sc hands (suc n) m x.shared) tail_is
-            (agree_sync sc hands n (moment sc hands n) x.shared 3 (tail_windows sc (moment sc hands n) at.window) (tail_setting sc hands n (moment sc hands n) x.shared at.window law x.late.beside.agree) tail_is);
-        near = subst (λ m. Synchronous sc m x.shared low) tail_is (near_tail sc hands n (moment sc hands n) x.shared low x.late.beside.agree at.window x.late.beside.near);
+            (agree_sync (tail_setting at.window law x.late.beside.agree) tail_is);
+        near = subst (λ m. Synchronous sc m x.shared low) tail_is (near_tail x.late.beside.agree at.window x.late.beside.near);
         began = x.late.beside.began;
         past = x.late.beside.past;
       };
@@ -216,7 +216,7 @@ to_next sc hands ear learned records f last epoch low next_epoch later h x compl
     window = let e : (moment sc hands (suc n)).window ≡ (moment sc hands n).window + 1 = ap (λ m. m.window) (sym tail_is) ∙ next-window sc (moment sc hands n) in omega (arith, e, at.window)
 
     turned : Abides sc hands ear (suc (suc (suc (suc (suc (sync_moment sc (suc f))))))) next_epoch later (shared_next sc.sizes x.shared) after.now (turn sc.sizes sc.plan.probation Biu next_epoch after.now)
-    turned = turns_next sc hands ear (suc n) epoch low x.shared after.now after.a next_epoch later late after.end window turn_is running
+    turned = turns_next late after.end window turn_is running
 
     same_frame : suc f + 1 ≡ suc (suc f)
     same_frame = omega arith

@@ -1,11 +1,10 @@
 -- With the first tick of its next frame a listener turns as the good BIUs do, and stands before the
 -- frame's first window.
-use Rattle.std.proofs.Common.{◌≡◌, ℕ, suc, ◌+◌, ◌*◌, true, List, None, refl, sym, ◌∙◌, ap, subst, arith}
+use Rattle.std.proofs.Common.{◌≡◌, ℕ, suc, ◌+◌, ◌*◌, true, None, refl, sym, ◌∙◌, ap, subst, arith}
 use Rattle.rb_base.specs.{Nodes.Side.{Biu, Rmu}, Sizes.Sizes}
-use Rattle.rb_rules.specs.{declared.plan.Plan.Plan, Conviction.turn, Core.state_at, Goodness.{Scenario, is_good}, Moments.IsRunning, NodeState.NodeState, Ports.HandIn, Rounds.{moment, next_frame, windows_in}, SyncStage.new_epoch_of}
-use Rattle.rb_laws_agreement.proofs.{FrameAgrees.{agree_frame, shared_next}, FrameTurns.AtEnd, Invariant.{Agree, Shared, is_good_now, slot_numbered}}
+use Rattle.rb_rules.specs.{declared.plan.Plan.Plan, Conviction.turn, Core.state_at, Goodness.is_good, Moments.IsRunning, NodeState.NodeState, Rounds.{moment, next_frame, windows_in}, SyncStage.new_epoch_of}
+use Rattle.rb_laws_agreement.proofs.{FrameAgrees.{agree_frame, shared_next}, FrameTurns.AtEnd, Invariant.{Agree, is_good_now, slot_numbered}}
 use Rattle.rb_laws_events.proofs.NodeMoves.{turn-at}
-use Rattle.rb_laws_listener_learns.specs.Ears.{Ear}
 use Rattle.rb_laws_listener_near.proofs.{SyncTracks.{tracks_turn, turns_with}, Tracking.Tracks}
 use Rattle.rb_laws_synchrony.proofs.{EpochTicks.turned-frame, CallTicks.begins-at}
 use Rattle.rb_laws_listener_follows.proofs.{ExactSteps.Abides, FollowerRuns.Stands, LateSteps.StandsLate}
@@ -20,17 +19,17 @@ unfolding turn
 turned-unknown sizes plan epoch st = refl
 
 -- at the end of a frame the listener stands before the first tick of the next one
-pub turns_next : (sc : Scenario) (hands : List HandIn) (ear : Ear) (n epoch low : ℕ) (s : Shared) (st : NodeState) (a next_epoch later : ℕ)
+pub turns_next : {sc hands ear n epoch low s st a next_epoch later : _}
     → (x : StandsLate sc hands ear n epoch low s st a next_epoch later) → epoch + a ≡ next_epoch → (moment sc hands n).window ≡ windows_in sc.sizes
     → next_frame sc hands (moment sc hands n) ≡ moment sc hands (suc n) → IsRunning (moment sc hands (suc n))
     → Abides sc hands ear (suc n) next_epoch later (shared_next sc.sizes s) st (turn sc.sizes sc.plan.probation Biu next_epoch st)
-turns_next sc hands ear n epoch low s st a next_epoch later x at_end at next_is running = record {
+turns_next {sc} {hands} {ear} {n} {s} {st} {next_epoch} x at_end at next_is running = record {
   beside = record {
     law = x.beside.law;
     is = x.beside.is;
     run = x.beside.run;
     running = running;
-    agree = subst (λ m. Agree sc hands (suc n) m (shared_next sc.sizes s)) next_is (agree_frame sc hands n (moment sc hands n) s end next_is);
+    agree = subst (λ m. Agree sc hands (suc n) m (shared_next sc.sizes s)) next_is (agree_frame end next_is);
     near = record {
       begun = λ me i st node. x.next.good (suc n) frame window running me i st node;
       first = λ late. absurd (omega (arith, late, window));
@@ -44,11 +43,11 @@ turns_next sc hands ear n epoch low s st a next_epoch later x at_end at next_is 
   };
   stands = subst (λ k. Stands sc ear st k) (at_end ∙ here) x.stands;
   turns = subst (λ k. state_at sc.sizes sc.plan Biu st k ≡ turn sc.sizes sc.plan.probation Biu next_epoch st) here
-      ((turn-at sc.sizes sc.plan Biu st next_epoch x.known).0 ∙ turns_with sc.sizes sc.plan st next_epoch x.known);
+      ((turn-at sc.sizes sc.plan Biu st x.known).0 ∙ turns_with sc.sizes sc.plan st x.known);
   epoch_is = turned-epoch sc.sizes sc.plan.probation next_epoch st;
   unknown = turned-unknown sc.sizes sc.plan next_epoch st;
   tracks = subst (λ m. Tracks sc m (turn sc.sizes sc.plan.probation Biu next_epoch st)) next_is
-      (tracks_turn sc hands n (moment sc hands n) s end st x.like (λ j good. x.spares j (ap (is_good sc Rmu j ((moment sc hands n).frame + 1)) (sym slot_is) ∙ good_next j good)) next_epoch);
+      (tracks_turn end x.like (λ j good. x.spares j (ap (is_good sc Rmu j ((moment sc hands n).frame + 1)) (sym slot_is) ∙ good_next j good)) next_epoch);
 }
   where
     end : AtEnd sc hands n (moment sc hands n) s

@@ -13,22 +13,22 @@ use Rattle.rb_laws_listener_learns.proofs.{Calling.heard-to-call, Deciding.IsHea
 
 -- Calls of one frame come with stamps less than the reach apart.
 
-enough-ticks : (low p f h l v u d least most eps : ℕ) → most ≡ least + eps → p + d * (f + h) + 2 * most + (u + d) + d * l + (1 + h) * u ≤ v * u
+enough-ticks : (low p f h l v u d least : ℕ) {most : ℕ} (eps : ℕ) → most ≡ least + eps → p + d * (f + h) + 2 * most + (u + d) + d * l + (1 + h) * u ≤ v * u
     → low + p + (f + h) * (u + d) + most + (u + d) + l * (u + d) + most + u ≤ low + (f + h) * u + least + l * u + least + v * u
-enough-ticks low p f h l v u d least most eps e c4 = omega (arith, e, c4)
+enough-ticks low p f h l v u d least eps e c4 = omega (arith, e, c4)
 
-enough-more : (low p f h l v z u d least most eps : ℕ) → most ≡ least + eps → p + d * (f + h) + 3 * most + 2 * (u + d) + d * (l + v) + (1 + h) * u ≤ z * u
+enough-more : (low p f h l v z u d least : ℕ) {most : ℕ} (eps : ℕ) → most ≡ least + eps → p + d * (f + h) + 3 * most + 2 * (u + d) + d * (l + v) + (1 + h) * u ≤ z * u
     → low + p + (f + h) * (u + d) + most + (u + d) + l * (u + d) + most + u ≤ low + (f + h) * u + least + l * u + least + z * u
-enough-more low p f h l v z u d least most eps e c6 = omega (arith, e, c6)
+enough-more low p f h l v z u d least eps e c6 = omega (arith, e, c6)
 
 one-less : (r u : ℕ) → 1 ≤ r → (r - 1) * u + u ≡ r * u
 one-less r u some = let e : r ≡ r - 1 + 1 = omega (arith, some) in let f : (r - 1) * u + u ≡ (r - 1 + 1) * u = omega arith in f ∙ ap (λ x. x * u) (sym e)
 
-pub come-near : (sc : Scenario) (hands : List HandIn) → IsLawful sc → (ear : Ear) → IsEar sc ear → (n i j : ℕ) (s t : Sending) → (moment sc hands n).window ≡ 3 * sync_slot_of sc.sizes + 1
-    → SendsIn sc hands n i s → SendsIn sc hands n j t → (a b : ℕ) → 1 ≤ a → IsStamp ear.clock (coming_to sc ear i (moment sc hands n).frame s).time a
+pub come-near : {sc hands : _} → IsLawful sc → {ear : _} → IsEar sc ear → {n i j s t : _} → (moment sc hands n).window ≡ 3 * sync_slot_of sc.sizes + 1
+    → SendsIn sc hands n i s → SendsIn sc hands n j t → {a b : ℕ} → 1 ≤ a → IsStamp ear.clock (coming_to sc ear i (moment sc hands n).frame s).time a
     → IsStamp ear.clock (coming_to sc ear j (moment sc hands n).frame t).time b → b < a + reach_of sc.plan
-come-near sc hands law ear is n i j s t at sends_i sends_j a b some is_a is_b =
-    omega (arith, some_reach, near-stamps u d ear.clock (steady-ear sc law ear is) x y a b (reach_of sc.plan - 1) ((reach_of sc.plan - 1) * u) is_a is_b some near (omega arith))
+come-near {sc} {hands} law {ear} is {n} {i} {j} {s} {t} at sends_i sends_j some is_a is_b =
+    omega (arith, some_reach, near-stamps (steady-ear law is) (reach_of sc.plan - 1) ((reach_of sc.plan - 1) * u) is_a is_b some near (omega arith))
   where
     u : ℕ
     u = shortest_of sc.plan
@@ -37,13 +37,13 @@ come-near sc hands law ear is n i j s t at sends_i sends_j a b some is_a is_b =
     d = drift_of sc.plan
 
     fit : plan_fits sc
-    fit = lawful_fits sc law
+    fit = lawful_fits law
 
     some_reach : 1 ≤ reach_of sc.plan
     some_reach = omega (arith, fit.in_v, fit.in_z)
 
     synced : IsSynchronous sc hands n
-    synced = synchrony sc hands law n sends_i.running
+    synced = synchrony hands law n sends_i.running
 
     x : ℕ
     x = (coming_to sc ear i (moment sc hands n).frame s).time
@@ -55,16 +55,16 @@ come-near sc hands law ear is n i j s t at sends_i sends_j a b some is_a is_b =
     delay k sent = is.delays k (record { frame = (moment sc hands n).frame; slot = sent.message.slot; stage = sent.message.stage })
 
     from : from_2 sc synced.low + sc.plan.dmin ≤ x
-    from = omega (arith, (call-time sc hands law n i s at sends_i synced).least, (delay i s).least)
+    from = omega (arith, (call-time law at sends_i synced).least, (delay i s).least)
 
     to : y ≤ to_2 sc synced.low + sc.plan.dmax
-    to = omega (arith, (call-time sc hands law n j t at sends_j synced).most, (delay j t).greatest)
+    to = omega (arith, (call-time law at sends_j synced).most, (delay j t).greatest)
 
     room : to_2 sc synced.low + sc.plan.dmax + u ≤ from_2 sc synced.low + sc.plan.dmin + reach_of sc.plan * u
     room =
         min-either (λ r. to_2 sc synced.low + sc.plan.dmax + shortest_of sc.plan ≤ from_2 sc synced.low + sc.plan.dmin + r * shortest_of sc.plan) sc.plan.v sc.plan.z
-        (enough-ticks synced.low sc.plan.p (f0_of sc.sizes sc.plan) sc.plan.h sc.plan.l sc.plan.v u d sc.plan.dmin sc.plan.dmax (eps_of sc.plan) fit.delays fit.after_2)
-        (enough-more synced.low sc.plan.p (f0_of sc.sizes sc.plan) sc.plan.h sc.plan.l sc.plan.v sc.plan.z u d sc.plan.dmin sc.plan.dmax (eps_of sc.plan) fit.delays fit.after_3)
+        (enough-ticks synced.low sc.plan.p (f0_of sc.sizes sc.plan) sc.plan.h sc.plan.l sc.plan.v u d sc.plan.dmin (eps_of sc.plan) fit.delays fit.after_2)
+        (enough-more synced.low sc.plan.p (f0_of sc.sizes sc.plan) sc.plan.h sc.plan.l sc.plan.v sc.plan.z u d sc.plan.dmin (eps_of sc.plan) fit.delays fit.after_3)
 
     near : y ≤ x + (reach_of sc.plan - 1) * u
     near = omega (arith, from, to, room, one-less (reach_of sc.plan) u some_reach)
@@ -89,22 +89,22 @@ if-none : (b : Bool) (o : Option ℕ) → is_some (if b then o else None) ≡ tr
 if-none true o h = refl
 if-none false o h = cc
 
-first-is : (sizes : Sizes) (plan : Plan) (lesson : Lesson) (m : ℕ) → middle_in sizes lesson.records (trusted_rmus sizes lesson.records) ≡ Some m
+first-is : (sizes : Sizes) (plan : Plan) (lesson : Lesson) {m : ℕ} → middle_in sizes lesson.records (trusted_rmus sizes lesson.records) ≡ Some m
     → first_of sizes plan lesson ≡ Some (first_by sizes plan lesson (trusted_bius sizes lesson.records) (trusted_rmus sizes lesson.records) m)
 unfolding first_of
-first-is sizes plan lesson m is = ap (option_map (first_by sizes plan lesson (trusted_bius sizes lesson.records) (trusted_rmus sizes lesson.records))) is
+first-is sizes plan lesson is = ap (option_map (first_by sizes plan lesson (trusted_bius sizes lesson.records) (trusted_rmus sizes lesson.records))) is
 
-pub finds-first : (sc : Scenario) (hands : List HandIn) → IsLawful sc → (ear : Ear) → IsEar sc ear → HearsTheRun sc hands ear → (learned tick : ℕ) (s : Search) → DecidesBy sc hands ear learned tick s
+pub finds-first : {sc hands : _} → IsLawful sc → {ear : _} → IsEar sc ear → HearsTheRun sc hands ear → {learned tick s : _} → DecidesBy sc hands ear learned tick s
     → FindsFirst sc s tick
-finds-first sc hands law ear is run learned tick s decides = record {
+finds-first {sc} {hands} law {ear} is run {learned} {tick} {s} decides = record {
   middle = found.0;
   middle_is = found.1;
-  first_is = first-is sc.sizes sc.plan s.lesson found.0 found.1;
+  first_is = first-is sc.sizes sc.plan s.lesson found.1;
   ahead = omega (arith, between.least, l.1.fixed.tick_is, l.1.fixed.call.late);
 }
   where
     l : (o : ℕ) × HasLesson sc hands ear learned tick o s
-    l = has-lesson sc hands law ear is run learned tick s decides
+    l = has-lesson law is run decides
 
     -- the number of the RMU that called
     caller : ℕ
@@ -117,17 +117,17 @@ finds-first sc hands law ear is run learned tick s decides = record {
     call = l.1.fixed.call.call.call
 
     k : KnowsAt sc hands ear learned s.lesson.records
-    k = knows-at sc hands law ear is run learned tick s decides
+    k = knows-at law is run decides
 
     here : IsIn sc hands learned call.n
     here = record { running = call.sent.running; frame_is = l.1.frame }
 
     a : IsAgreed sc hands call.n
-    a = agreement sc hands law call.n call.sent.running
+    a = agreement hands law call.n call.sent.running
 
     trusted : (j : ℕ) → is_always_good sc hands j ≡ true → has (trusted_rmus sc.sizes s.lesson.records) j ≡ true
     trusted j good =
-        let mine : GoodThere sc hands call.n j = good-there sc hands law call.n j here.running good in
+        let mine : GoodThere sc hands call.n j = good-there hands law call.n j here.running good in
         ap (λ x. has x j) (sym (k.trust call.n here Rmu j mine.st mine.node Rmu) ∙ (a.agree.nodes Rmu j mine.st mine.node).trusted Rmu)
         ∙ a.agree.trusted Rmu j mine.node.good
 
@@ -142,20 +142,20 @@ finds-first sc hands law ear is run learned tick s decides = record {
         least =
             omega (
               arith,
-              come-near sc hands law ear is call.n j caller calls.sending call.sending call.window_is calls.sent
-                  call.sent r.stamp at r.some r.stamped call.stamped,
+              come-near law is call.window_is calls.sent
+                  call.sent r.some r.stamped call.stamped,
             );
         most =
             omega (
               arith,
-              come-near sc hands law ear is call.n caller j call.sending calls.sending call.window_is
-                  call.sent calls.sent at r.stamp call.some call.stamped r.stamped,
+              come-near law is call.window_is
+                  call.sent calls.sent call.some call.stamped r.stamped,
             );
       };
     }
       where
         in_call : is_good sc Rmu j (moment sc hands call.n).frame (sync_slot_of sc.sizes) ≡ true
-        in_call = always-good-at sc hands law j call.n (sync_slot_of sc.sizes) here.running (omega (arith, call.window_is)) good
+        in_call = always-good-at hands law j call.n (sync_slot_of sc.sizes) here.running (omega (arith, call.window_is)) good
 
         good_there : is_good sc Rmu j learned (sync_slot_of sc.sizes) ≡ true
         good_there = ap (λ f. is_good sc Rmu j f (sync_slot_of sc.sizes)) (sym l.1.frame) ∙ in_call
@@ -198,10 +198,10 @@ finds-first sc hands law ear is run learned tick s decides = record {
     between : IsBetween (at + 1 - reach_of sc.plan) (at + reach_of sc.plan) found.0
     between =
         middle_within (recorded_of stamp_in s.lesson.records (trusted_rmus sc.sizes s.lesson.records) (sync_slot_of sc.sizes)) (is_always_good sc hands) (at + 1 - reach_of sc.plan)
-        (at + reach_of sc.plan) found.0 (numbers 16) stamped fewer found.2
+        (at + reach_of sc.plan) (numbers 16) stamped fewer found.2
 
 pub decides-in-time : (sc : Scenario) (hands : List HandIn) → IsLawful sc → (ear : Ear) → IsEar sc ear → HearsTheRun sc hands ear → (learned tick : ℕ) (s : Search) → DecidesBy sc hands ear learned tick s
     → (first : First) × ((first_of sc.sizes sc.plan s.lesson ≡ Some first) × (tick < first.epoch))
 decides-in-time sc hands law ear is run learned tick s decides =
-    let f : FindsFirst sc s tick = finds-first sc hands law ear is run learned tick s decides in
+    let f : FindsFirst sc s tick = finds-first law is run decides in
     (first_by sc.sizes sc.plan s.lesson (trusted_bius sc.sizes s.lesson.records) (trusted_rmus sc.sizes s.lesson.records) f.middle, (f.first_is, f.ahead))

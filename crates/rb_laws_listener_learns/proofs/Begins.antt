@@ -1,17 +1,17 @@
 -- From when on good nodes begin the frame after calls of the sync slot.
-use Rattle.std.proofs.{Common.{◌≡◌, ℕ, suc, ◌+◌, ◌*◌, ◌≤◌, List, Some, option_map, refl, sym, ◌∙◌, ap, subst, arith}, Math.Nat.{mul-le-mul_left, mul-le-mul_right}}
+use Rattle.std.proofs.{Common.{◌≡◌, ℕ, suc, ◌+◌, ◌*◌, ◌≤◌, Some, option_map, refl, sym, ◌∙◌, ap, subst, arith}, Math.Nat.{mul-le-mul_left, mul-le-mul_right}}
 use Rattle.rb_base.specs.{Nodes.Side, Nodes.Side.{Biu, Rmu}, Sizes.sync_slot_of}
-use Rattle.rb_rules.specs.{Clock.time_of, Goodness.{Scenario, clock_of}, Headline.stated_skew, Lawful.IsLawful, Moments.IsRunning, NodeState.NodeState, Plan.{f0_of, shortest_of}, Ports.HandIn, Rounds.{Moment, moment}, SyncStage.new_epoch_of}
+use Rattle.rb_rules.specs.{Clock.time_of, Goodness.{Scenario, clock_of}, Headline.stated_skew, Lawful.IsLawful, Moments.IsRunning, NodeState.NodeState, Plan.{f0_of, shortest_of}, Rounds.moment, SyncStage.new_epoch_of}
 use Rattle.rb_rules.proofs.Drift.{times_rise_to}
-use Rattle.rb_laws_agreement.proofs.{Invariant.{IsGoodNode, Shared}, NextMoments.{CameFrom, came_from, next}, Places.running_earlier, Settings.after, SlotRuns.next-window}
+use Rattle.rb_laws_agreement.proofs.{Invariant.IsGoodNode, NextMoments.{CameFrom, came_from, next}, Places.running_earlier, Settings.after, SlotRuns.next-window}
 use Rattle.rb_laws_synchrony.proofs.{KeptMiddles.{Keeps, keeps, keeps_found}, LaterStages.near_second, PlanNumbers.drift_of, StageCalls.{clock_now, third_calls}, StageMiddles.{HearsMiddle, IsHeardStage, hears_middle, ws_of}, SyncSteps.{IsPassedStage, tick_some}, Synchronous.{Synchronous, from_2, from_3, heard_from, to_3}, Synchrony.IsSynchronous, TakenCalls.is_set, TimelyWindows.good_here, Times.{Steady, lawful_fits, plan_fits}}
 use Rattle.rb_laws_listener_learns.proofs.SyncStages.{StageIs, TurnsAt, stage_is, turns_at}
 
 -- the skew stated at the start of a slot is no more than the ticks before a call make up
-pub skew-fits : (sc : Scenario) → IsLawful sc → (slot : ℕ) → slot ≤ sync_slot_of sc.sizes
+pub skew-fits : {sc : _} → IsLawful sc → (slot : ℕ) → slot ≤ sync_slot_of sc.sizes
     → stated_skew sc.plan (3 * slot * sc.plan.l) + drift_of sc.plan * sc.plan.h ≤ sc.plan.h * shortest_of sc.plan + sc.plan.dmin
-skew-fits sc law slot le =
-    let fit : plan_fits sc = lawful_fits sc law in
+skew-fits {sc} law slot le =
+    let fit : plan_fits sc = lawful_fits law in
     let offsets : 3 * slot * sc.plan.l ≤ f0_of sc.sizes sc.plan = mul-le-mul_right sc.plan.l (omega (arith, le)) in
     omega (arith, fit.before_1, mul-le-mul_left (drift_of sc.plan) offsets)
 
@@ -27,9 +27,9 @@ pub record BeginsFrom (sc : Scenario) (me : Side) (i : ℕ) (st : NodeState) (ti
   pub from : time ≤ time_of (clock_of sc me i) tick
 
 -- after stage 3 all good nodes begin the next frame from this time on
-after-third : (sc : Scenario) (hands : List HandIn) (n : ℕ) (m : Moment) (s : Shared) (low : ℕ) → IsPassedStage sc hands n m s 2 → Synchronous sc m s low
+after-third : {sc hands n m s low : _} → IsPassedStage sc hands n m s 2 → Synchronous sc m s low
     → (me : Side) (i : ℕ) (now : NodeState) → IsGoodNode sc (next sc m) me i now → BeginsFrom sc me i now (begins_from sc low)
-after-third sc hands n m s low c sync = by_kind
+after-third {sc} {hands} {n} {m} {s} {low} c sync = by_kind
   where
     at : m.window ≡ 3 * sync_slot_of sc.sizes + 2
     at = c.stage.at
@@ -39,12 +39,12 @@ after-third sc hands n m s low c sync = by_kind
 
     by_kind : (me : Side) (i : ℕ) (now : NodeState) → IsGoodNode sc (next sc m) me i now → BeginsFrom sc me i now (begins_from sc low)
     by_kind Biu i now h =
-        let from : CameFrom sc m Biu i now = came_from sc hands n m s c.stage.agree Biu i now h in
+        let from : CameFrom sc m Biu i now = came_from c.stage.agree h in
         let left : (after sc m Biu i from.st).k2 ≡ from.st.k2 =
-        (keeps sc m 3 (ws_of sc hands n m s 2 Rmu heard) Biu i from.st (good_here sc m (sync_slot_of sc.sizes) 3 (is_set sc hands n m s 2 c.stage) Biu i from.st from.was)
-        ((tick_some sc hands n m s 2 c.stage).tick Biu from.st)).k2 in
+        (keeps (ws_of heard) Biu i from.st (good_here (is_set c.stage) from.was)
+        ((tick_some c.stage).tick Biu from.st)).k2 in
         let k = sync.second at i from.st from.was in
-        let clock : Steady (shortest_of sc.plan) (drift_of sc.plan) (clock_of sc Biu i) = clock_now sc c.stage.law m Biu i from.st from.was in
+        let clock : Steady (shortest_of sc.plan) (drift_of sc.plan) (clock_of sc Biu i) = clock_now c.stage.law from.was in
         let later : time_of (clock_of sc Biu i) (k.tick + (sc.plan.v + sc.plan.z)) ≤ time_of (clock_of sc Biu i) (k.tick + sc.plan.v + sc.plan.z + sc.plan.c) =
         times_rise_to (clock_of sc Biu i) (k.tick + (sc.plan.v + sc.plan.z)) (k.tick + sc.plan.v + sc.plan.z + sc.plan.c) (omega arith) in
         record {
@@ -53,13 +53,13 @@ after-third sc hands n m s low c sync = by_kind
           from = omega (arith, k.between.least, clock.not_early k.tick (sc.plan.v + sc.plan.z), later);
         }
     by_kind Rmu i now h =
-        let from : CameFrom sc m Rmu i now = came_from sc hands n m s c.stage.agree Rmu i now h in
-        let k : HearsMiddle sc m 2 (ws_of sc hands n m s 2 Rmu heard) Rmu i from.st (from_3 sc low) (to_3 sc low) =
-        hears_middle sc hands n m s 2 Rmu heard (from_3 sc low) (to_3 sc low) (third_calls sc c.stage.law m s low sync at).between i from.st from.was in
+        let from : CameFrom sc m Rmu i now = came_from c.stage.agree h in
+        let k : HearsMiddle sc m 2 (ws_of heard) Rmu i from.st (from_3 sc low) (to_3 sc low) =
+        hears_middle heard (third_calls c.stage.law sync at).between from.was in
         let kept : Keeps Rmu 3 k.tick from.st (after sc m Rmu i from.st) =
-        keeps_found sc m 3 (ws_of sc hands n m s 2 Rmu heard) Rmu i from.st k.tick
-        (good_here sc m (sync_slot_of sc.sizes) 3 (is_set sc hands n m s 2 c.stage) Rmu i from.st from.was) ((tick_some sc hands n m s 2 c.stage).tick Rmu from.st) k.found in
-        let clock : Steady (shortest_of sc.plan) (drift_of sc.plan) (clock_of sc Rmu i) = clock_now sc c.stage.law m Rmu i from.st from.was in
+        keeps_found (ws_of heard) Rmu i from.st
+        (good_here (is_set c.stage) from.was) ((tick_some c.stage).tick Rmu from.st) k.found in
+        let clock : Steady (shortest_of sc.plan) (drift_of sc.plan) (clock_of sc Rmu i) = clock_now c.stage.law from.was in
         record {
           tick = k.tick + sc.plan.z;
           known = ap (option_map (λ k3. k3 + sc.plan.z)) (ap (λ x. x.k3) (sym from.is) ∙ kept.k3);
@@ -68,17 +68,17 @@ after-third sc hands n m s low c sync = by_kind
 
 -- if moment `n` is before stage 2 of the sync slot, all nodes that are good at the first moment of
 -- the next frame begin it from this time on
-pub begins-later : (sc : Scenario) (hands : List HandIn) → IsLawful sc → (n : ℕ) (first : IsSynchronous sc hands n) → (moment sc hands n).window ≡ 3 * sync_slot_of sc.sizes + 1
-    → IsRunning (moment sc hands (suc (suc (suc (suc n))))) → (me : Side) (i : ℕ) (now : NodeState) → IsGoodNode sc (moment sc hands (suc (suc (suc (suc n))))) me i now
+pub begins-later : {sc hands : _} → IsLawful sc → {n : ℕ} (first : IsSynchronous sc hands n) → (moment sc hands n).window ≡ 3 * sync_slot_of sc.sizes + 1
+    → IsRunning (moment sc hands (suc (suc (suc (suc n))))) → {me i now : _} → IsGoodNode sc (moment sc hands (suc (suc (suc (suc n))))) me i now
     → begins_from sc first.low ≤ time_of (clock_of sc me i) now.epoch
-begins-later sc hands law n first at running me i now node =
+begins-later {sc} {hands} law {n} first at running {me} {i} {now} node =
     subst (λ k. begins_from sc first.low ≤ time_of (clock_of sc me i) k) (turned.epoch begins.tick begins.known) begins.from
   where
     on : (k : ℕ) → k ≤ suc (suc (suc n)) → IsRunning (moment sc hands (suc k))
     on k le = running_earlier sc hands (suc k) (suc (suc (suc (suc n)))) (omega (arith, le)) running
 
     second : StageIs sc hands n first.shared 1
-    second = stage_is sc hands law n first.shared 1 first.agree (omega arith) at (on n (omega arith))
+    second = stage_is law 1 first.agree (omega arith) at (on n (omega arith))
 
     at_third : (moment sc hands (suc n)).window ≡ 3 * sync_slot_of sc.sizes + 2
     at_third =
@@ -86,7 +86,7 @@ begins-later sc hands law n first at running me i now node =
         omega (arith, w, at)
 
     third : StageIs sc hands (suc n) first.shared 2
-    third = stage_is sc hands law (suc n) first.shared 2 second.agree (omega arith) at_third (on (suc n) (omega arith))
+    third = stage_is law 2 second.agree (omega arith) at_third (on (suc n) (omega arith))
 
     at_tail : (moment sc hands (suc (suc n))).window ≡ 3 * sync_slot_of sc.sizes + 3
     at_tail =
@@ -94,12 +94,12 @@ begins-later sc hands law n first at running me i now node =
         omega (arith, w, at_third)
 
     near : Synchronous sc (moment sc hands (suc n)) first.shared first.low
-    near = subst (λ m. Synchronous sc m first.shared first.low) second.next_is (near_second sc hands n (moment sc hands n) first.shared first.low second.passes first.near)
+    near = subst (λ m. Synchronous sc m first.shared first.low) second.next_is (near_second second.passes first.near)
 
     turned : TurnsAt sc hands (suc (suc n)) me i now
-    turned = turns_at sc hands law (suc (suc n)) first.shared third.agree at_tail running me i now node
+    turned = turns_at law third.agree at_tail running node
 
     begins : BeginsFrom sc me i turned.st (begins_from sc first.low)
     begins =
-        after-third sc hands (suc n) (moment sc hands (suc n)) first.shared first.low third.passes near me i turned.st
+        after-third third.passes near me i turned.st
         (subst (λ m. IsGoodNode sc m me i turned.st) (sym third.next_is) turned.was)

@@ -19,11 +19,11 @@ time-is (suc k) =
     let e : tick_length steady k ≡ 10000 = rw (le-leb 0 k (omega arith)) refl in
     omega (arith, time-is k, e)
 
-stamp-is : (time k : ℕ) → time ≡ 10000 * k → IsStamp steady time k
-stamp-is time k e = record { reached = omega (arith, time-is k); least = λ tick lt. omega (arith, time-is tick) }
+stamp-is : {time : ℕ} (k : ℕ) → time ≡ 10000 * k → IsStamp steady time k
+stamp-is k e = record { reached = omega (arith, time-is k); least = λ tick lt. omega (arith, time-is tick) }
 
-one-stamp : (time a k : ℕ) → time ≡ 10000 * a → IsStamp steady time k → k ≡ a
-one-stamp time a k e is =
+one-stamp : {time : ℕ} (a : ℕ) {k : ℕ} → time ≡ 10000 * a → IsStamp steady time k → k ≡ a
+one-stamp a {k} e is =
     elim (cases_lt a k) [
       | inl less ↦ absurd (omega (arith, is.least a less, time-is a))
       | inr ge ↦ omega (arith, is.reached, time-is k)
@@ -42,28 +42,28 @@ record Came (k : ℕ) (c : Coming) (nth : ℕ) : Type 0 where
   pub tick : suc s.tick ≡ k
   pub first : nth ≡ 0
 
-came-if : (k : ℕ) (o : Option Sending) (nth : ℕ) (c : Coming) → sends_at (window_of k) ≡ o → slice_get (if_stamped k o) nth ≡ Some c → Came k c nth
-came-if k None nth c e h = absurd (cc)
-came-if k (Some s) nth c e h = go (suc s.tick == k) refl nth h
+came-if : (k : ℕ) (o : Option Sending) (nth : ℕ) {c : _} → sends_at (window_of k) ≡ o → slice_get (if_stamped k o) nth ≡ Some c → Came k c nth
+came-if k None nth e h = absurd (cc)
+came-if k (Some s) nth {c} e h = go (suc s.tick == k) refl nth h
   where
     go : (b : Bool) → (suc s.tick == k) ≡ b → (nth : ℕ) → slice_get (if b then comes s ∷ [] else []) nth ≡ Some c → Came k c nth
     go true is zero h = record { s = s; sent = e; is = sym (same_Some (comes s) c h); tick = eqb-true (suc s.tick) k is; first = refl }
     go true is (suc nth) h = absurd (cc)
     go false is nth h = absurd (cc)
 
-came : (k nth : ℕ) (c : Coming) → slice_get (heard_with k) nth ≡ Some c → Came k c nth
+came : (k nth : ℕ) {c : _} → slice_get (heard_with k) nth ≡ Some c → Came k c nth
 unfolding heard_with
-came k nth c h = go (is_offset k) h
+came k nth {c} h = go (is_offset k) h
   where
     go : (b : Bool) → slice_get (elim b as (λ _. List Coming) [ true ↦ if_stamped k (sends_at (window_of k)) | false ↦ [] ]) nth ≡ Some c → Came k c nth
-    go true h = came-if k (sends_at (window_of k)) nth c refl h
+    go true h = came-if k (sends_at (window_of k)) nth refl h
     go false h = absurd (cc)
 
 -- What is sent.
 
-sends-in : (n : ℕ) (s : Sending) → sends_at n ≡ Some s → SendsIn two_frames [] n 0 s
+sends-in : (n : ℕ) {s : _} → sends_at n ≡ Some s → SendsIn two_frames [] n 0 s
 unfolding sends_at
-sends-in n s h = go (m.book.ended || not (nat_lt m.window (windows_in two_frames.sizes))) refl h
+sends-in n {s} h = go (m.book.ended || not (nat_lt m.window (windows_in two_frames.sizes))) refl h
   where
     m : Moment
     m = moment two_frames [] n
@@ -80,13 +80,13 @@ sends-in n s h = go (m.book.ended || not (nat_lt m.window (windows_in two_frames
         (ltb-true m.window (windows_in two_frames.sizes) (not-false (nat_lt m.window (windows_in two_frames.sizes)) (or_neither_second m.book.ended (not (nat_lt m.window (windows_in two_frames.sizes))) e))) h
 
 -- only RMU 0 sends
-first-rmu : (n j : ℕ) (s : Sending) → SendsIn two_frames [] n j s → j ≡ 0
-first-rmu n j s sent =
+first-rmu : {n j s : _} → SendsIn two_frames [] n j s → j ≡ 0
+first-rmu {n} {j} sent =
     let less : j < 1 = ltb-true j 1 (and_first (nat_lt j 1) (is_before (get_or two_frames.rmu_onsets j None) (moment two_frames [] n).frame _) sent.good.1) in omega arith
 
-sends-so : (n : ℕ) (s : Sending) → SendsIn two_frames [] n 0 s → sends_at n ≡ Some s
+sends-so : {n s : _} → SendsIn two_frames [] n 0 s → sends_at n ≡ Some s
 unfolding sends_at
-sends-so n s sent =
+sends-so {n} sent =
     let m : Moment = moment two_frames [] n in
     let inside : not (nat_lt m.window (windows_in two_frames.sizes)) ≡ false = ap not (lt-ltb m.window (windows_in two_frames.sizes) sent.in_frame) in
     let on : (m.book.ended || not (nat_lt m.window (windows_in two_frames.sizes))) ≡ false = or_from m.book.ended (not (nat_lt m.window (windows_in two_frames.sizes))) sent.running inside in
@@ -126,9 +126,9 @@ placed n less =
     let at : get_or (numbers 35) n 0 ≡ n = get_or-range_with_len 0 35 n 0 less ∙ zero-add n in
     ap (λ k. is_placed k (sends_at k)) (sym at) ∙ AllPass-from_list_all (λ n. is_placed n (sends_at n)) (numbers 35) all-placed n 0 less
 
-heard-so : (n : ℕ) (s : Sending) → n < 35 → sends_at n ≡ Some s → slice_get (heard_with (suc s.tick)) 0 ≡ Some (comes s)
+heard-so : (n : ℕ) {s : _} → n < 35 → sends_at n ≡ Some s → slice_get (heard_with (suc s.tick)) 0 ≡ Some (comes s)
 unfolding heard_with
-heard-so n s less sent =
+heard-so n {s} less sent =
     let both : (is_offset (suc s.tick) && (window_of (suc s.tick) == n)) ≡ true =
     and_first (is_offset (suc s.tick) && (window_of (suc s.tick) == n)) (nat_le (suc s.tick) 445) (ap (is_placed n) (sym sent) ∙ placed n less) in
     let offset : is_offset (suc s.tick) ≡ true = and_first (is_offset (suc s.tick)) (window_of (suc s.tick) == n) both in
@@ -145,9 +145,9 @@ is-ear = record {
   clock = record { start = lit≤ tt; rising = refl; within = refl };
   delays = λ j place. record { least = lit≤ tt; greatest = lit≤ tt };
   stamps = λ k c less heard.
-      let x : Came k c heard.nth = came k heard.nth c heard.there in
-      stamp-is c.time k (ap (λ c. c.time) x.is ∙ come-time x.s ∙ ap (λ k. 10000 * k) x.tick);
-  after_start = λ c heard. let x : Came 0 c heard.nth = came 0 heard.nth c heard.there in let e : suc x.s.tick ≡ 0 = x.tick in absurd (omega arith);
+      let x : Came k c heard.nth = came k heard.nth heard.there in
+      stamp-is k (ap (λ c. c.time) x.is ∙ come-time x.s ∙ ap (λ k. 10000 * k) x.tick);
+  after_start = λ c heard. let x : Came 0 c heard.nth = came 0 heard.nth heard.there in let e : suc x.s.tick ≡ 0 = x.tick in absurd (omega arith);
   ticks = lit≤ tt;
 }
 
@@ -156,19 +156,19 @@ unfolding set_of set_below size
 hears-the-run = record {
   most_good = refl;
   each = λ n j s sent k some less stamp.
-      let zero_is : 0 ≡ j = sym (first-rmu n j s sent) in
+      let zero_is : 0 ≡ j = sym (first-rmu sent) in
       subst (λ j. SendsIn two_frames [] n j s → IsStamp ear.clock (coming_to two_frames ear j (moment two_frames [] n).frame s).time k → IsHeard ear k (coming_to two_frames ear j (moment two_frames [] n).frame s)) zero_is
       (λ sent stamp.
-      let same : k ≡ suc s.tick = one-stamp (comes s).time (suc s.tick) k (come-time s) stamp in
+      let same : k ≡ suc s.tick = one-stamp (suc s.tick) (come-time s) stamp in
       record {
         nth = 0;
-        there = ap (λ k. slice_get (heard_with k) 0) same ∙ heard-so n s (before-end n sent.running) (sends-so n s sent);
+        there = ap (λ k. slice_get (heard_with k) 0) same ∙ heard-so n (before-end n sent.running) (sends-so sent);
       }) sent stamp;
-  once = λ k a b c less good first second. (came k a c first).first ∙ sym (came k b c second).first;
+  once = λ k a b c less good first second. (came k a first).first ∙ sym (came k b second).first;
   only = λ k c less heard inside.
-      let x : Came k c heard.nth = came k heard.nth c heard.there in
+      let x : Came k c heard.nth = came k heard.nth heard.there in
       inl (subst (IsOfGood two_frames [] ear) (sym x.is)
-      (record { n = window_of k; sending = x.s; sent = sends-in (window_of k) x.s x.sent; is = refl }));
+      (record { n = window_of k; sending = x.s; sent = sends-in (window_of k) x.sent; is = refl }));
 }
 
 -- The calls.
@@ -178,11 +178,11 @@ starts n j s frame window sent = omega (arith, time-is 0)
 
 pub come : CallsComeBy two_frames [] ear 1 445
 come n j s frame window sent =
-    let zero_is : 0 ≡ j = sym (first-rmu n j s sent) in
+    let zero_is : 0 ≡ j = sym (first-rmu sent) in
     subst (λ j. SendsIn two_frames [] n j s → (coming_to two_frames ear j (moment two_frames [] n).frame s).time ≤ time_of ear.clock 445) zero_is
     (λ sent.
     let test : nat_le (suc s.tick) 445 ≡ true =
-    and_second (is_offset (suc s.tick) && (window_of (suc s.tick) == n)) (nat_le (suc s.tick) 445) (ap (is_placed n) (sym (sends-so n s sent)) ∙ placed n (before-end n sent.running)) in
+    and_second (is_offset (suc s.tick) && (window_of (suc s.tick) == n)) (nat_le (suc s.tick) 445) (ap (is_placed n) (sym (sends-so sent)) ∙ placed n (before-end n sent.running)) in
     let by : suc s.tick ≤ 445 = leb-true (suc s.tick) 445 test in
     let late : (comes s).time ≤ time_of steady 445 = omega (arith, come-time s, time-is 445, by) in late) sent
 

@@ -4,7 +4,7 @@ use Rattle.rb_base.specs.{Nodes.Side.Rmu, Sizes.sync_slot_of}
 use Rattle.rb_base.proofs.Plain.{and_first, and_second}
 use Rattle.rb_rules.specs.{declared.message.Message.Message, declared.message.Tag.Tag, declared.message.Tag.TheVariants.{Word, Fault, Sync as Call}, declared.sense.Sense.Sense, declared.sense.Sense.TheVariants.{Silent, One, Bad}, Clock.IsStamp, Goodness.{Scenario, is_good}, Hearing.Coming, Lawful.IsLawful, Ports.HandIn, Sense.{stamp_in, tag_suits}, Slots.role_of, Spelling.message_in}
 use Rattle.rb_rules.proofs.Slots.{sync_role}
-use Rattle.rb_listen.specs.{Lessons.stage_recorded, Passes.{is_call, is_sync}, declared.search.Search.Search}
+use Rattle.rb_listen.specs.{Lessons.stage_recorded, Passes.{is_call, is_sync}}
 use Rattle.rb_laws_listener_learns.specs.{Ears.{Ear, HearsTheRun, IsEar, IsHeard, IsOfGood}, Receivers.{call_time, is_call_of, last_time}, Records.IsOfPlace}
 use Rattle.rb_laws_listener_learns.proofs.{Ahead.call-place, Deciding.some-stamp, Latest.earlier-le, Noting.{IsNotedBy, IsPlacedAt}, Recorded.placed, Whole.{HasLesson, all-good, has-place, same-place-of}}
 
@@ -45,17 +45,17 @@ last-cases p (y ∷ ys) = by (p y) refl (last-cases p ys)
           time = ap last_time same ∙ ap last_time (sym l.is) ∙ l.time;
         })
 
-none-passes : (p : Coming → Bool) (xs : List Coming) (i : ℕ) (x : Coming) → filter p xs ≡ [] → slice_get xs i ≡ Some x → p x ≡ true → ⊥
-none-passes p [] i x none there pass = cc
-none-passes p (y ∷ ys) i x none there pass = by (p y) refl (λ rest o is. none-passes p ys o x rest is pass) i there
+none-passes : (p : Coming → Bool) (xs : List Coming) (i : ℕ) {x : _} → filter p xs ≡ [] → slice_get xs i ≡ Some x → p x ≡ true → ⊥
+none-passes p [] i none there pass = cc
+none-passes p (y ∷ ys) i {x} none there pass = by (p y) refl (λ rest o is. none-passes p ys o rest is pass) i there
   where
     by : (b : Bool) → p y ≡ b → (filter p ys ≡ [] → (o : ℕ) → slice_get ys o ≡ Some x → ⊥) → (i : ℕ) → slice_get (y ∷ ys) i ≡ Some x → ⊥
     by true e again i is = let some : y ∷ filter p ys ≡ [] = sym (ap (λ b. cond b (y ∷ filter p ys) (filter p ys)) e) ∙ none in cc
     by false e again zero is = let same : y ≡ x = same_Some y x is in let both : true ≡ false = sym pass ∙ ap p (sym same) ∙ e in cc
     by false e again (suc i) is = again (sym (ap (λ b. cond b (y ∷ filter p ys) (filter p ys)) e) ∙ none) i is
 
-pub last-is : (p : Coming → Bool) (xs : List Coming) (i : ℕ) (x : Coming) → slice_get xs i ≡ Some x → p x ≡ true → LastIs p xs
-last-is p xs i x there pass = elim (last-cases p xs) [ inl none ↦ absurd (none-passes p xs i x none there pass) | inr l ↦ l ]
+pub last-is : (p : Coming → Bool) (xs : List Coming) (i : ℕ) {x : _} → slice_get xs i ≡ Some x → p x ≡ true → LastIs p xs
+last-is p xs i there pass = elim (last-cases p xs) [ inl none ↦ absurd (none-passes p xs i none there pass) | inr l ↦ l ]
 
 -- Calls.
 
@@ -69,9 +69,9 @@ tag-sync Fault h = cc
 tag-sync Call h = refl
 
 -- what has a place in the sync slot, with a tag that suits, is a call
-place-call : (sc : Scenario) (ear : Ear) (frame j at i : ℕ) (m : Message) → (p : IsPlacedAt sc ear (frame % 65536) (sync_slot_of sc.sizes) j at i m) → tag_suits (m.slot == sync_slot_of sc.sizes) m.tag ≡ true
+place-call : {sc ear : _} (frame : ℕ) {j at i m : _} → (p : IsPlacedAt sc ear (frame % 65536) (sync_slot_of sc.sizes) j at i m) → tag_suits (m.slot == sync_slot_of sc.sizes) m.tag ≡ true
     → finds-call sc frame j p.coming ≡ true
-place-call sc ear frame j at i m p suits =
+place-call {sc} frame {j} {m} p suits =
     ap (λ o. is_call_of sc frame j o p.coming) p.reads
     ∙ and_from ((p.coming.from == j) && is_call sc.sizes m) (m.frame == frame % 65536) (and_from (p.coming.from == j) (is_call sc.sizes m) (eq-eqb p.coming.from j p.from) call) (eq-eqb m.frame (frame % 65536) here.frame_is)
   where
@@ -95,10 +95,10 @@ pub record CallFound (sc : Scenario) (ear : Ear) (frame j at i : ℕ) (c : Comin
   pub placed_at : IsPlacedAt sc ear (frame % 65536) (sync_slot_of sc.sizes) j at i message
   pub is : placed_at.coming ≡ c
 
-call-found : (sc : Scenario) (ear : Ear) (frame j at i : ℕ) (c : Coming) → slice_get (ear.heard at) i ≡ Some c → (o : Option Message) → message_in sc.plan.version c.bytes ≡ o → is_call_of sc frame j o c ≡ true
+call-found : (sc : Scenario) (ear : Ear) (frame j at i : ℕ) {c : _} → slice_get (ear.heard at) i ≡ Some c → (o : Option Message) → message_in sc.plan.version c.bytes ≡ o → is_call_of sc frame j o c ≡ true
     → CallFound sc ear frame j at i c
-call-found sc ear frame j at i c there None reads h = cc
-call-found sc ear frame j at i c there (Some m) reads h =
+call-found sc ear frame j at i there None reads h = cc
+call-found sc ear frame j at i {c} there (Some m) reads h =
     let front : ((c.from == j) && is_call sc.sizes m) ≡ true = and_first ((c.from == j) && is_call sc.sizes m) (m.frame == frame % 65536) h in
     let parts : (m.slot ≡ sync_slot_of sc.sizes) × (m.stage ≡ 2) = call-place sc.sizes m (and_second (c.from == j) (is_call sc.sizes m) front) in
     record {
@@ -108,7 +108,7 @@ call-found sc ear frame j at i c there (Some m) reads h =
         there = there;
         from = eqb-true c.from j (and_first (c.from == j) (is_call sc.sizes m) front);
         reads = reads;
-        place = has-place sc (frame % 65536) m (eqb-true m.frame (frame % 65536) (and_second ((c.from == j) && is_call sc.sizes m) (m.frame == frame % 65536) h)) (omega (arith, parts.0))
+        place = has-place sc m (eqb-true m.frame (frame % 65536) (and_second ((c.from == j) && is_call sc.sizes m) (m.frame == frame % 65536) h)) (omega (arith, parts.0))
             (parts.1 ∙ sym (ap (λ t. stage_recorded (role_of sc.sizes t)) parts.0 ∙ ap stage_recorded (sync_role sc.sizes)));
         slot_is = parts.0;
       };
@@ -116,47 +116,47 @@ call-found sc ear frame j at i c there (Some m) reads h =
     }
 
 -- the time of a recorded call has its stamp
-pub stamped-call : (sc : Scenario) (hands : List HandIn) (ear : Ear) → IsEar sc ear → (learned k n since j stamp : ℕ) → k < ear.ticks → (r : Sense) → IsNotedBy sc ear since k n (learned % 65536) (sync_slot_of sc.sizes) j r
+pub stamped-call : {sc : _} (hands : List HandIn) {ear : _} → IsEar sc ear → (learned : ℕ) {k : ℕ} (n since j : ℕ) {stamp : ℕ} → k < ear.ticks → (r : Sense) → IsNotedBy sc ear since k n (learned % 65536) (sync_slot_of sc.sizes) j r
     → stamp_in r ≡ Some stamp → (1 ≤ stamp) × IsStamp ear.clock (call_time sc ear learned j stamp) stamp
-stamped-call sc hands ear is learned k n since j stamp in_time Silent h e = let none : None ≡ Some stamp = e in absurd (no-stamp stamp none)
+stamped-call hands is learned n since j {stamp} in_time Silent h e = let none : None ≡ Some stamp = e in absurd (no-stamp stamp none)
   where
     no-stamp : (t : ℕ) → (let o : Option ℕ = None in o) ≡ Some t → ⊥
     no-stamp t x = cc
-stamped-call sc hands ear is learned k n since j stamp in_time (One at m) h e =
+stamped-call {sc} hands {ear} is learned {k} n since j {stamp} in_time (One at m) h e =
     let same : at ≡ stamp = same_Some at stamp e in
     let before : at < ear.ticks = omega (arith, in_time, earlier-le at h.i k n h.earlier) in
     let l : LastIs (finds-call sc learned j) (ear.heard at) =
-    last-is (finds-call sc learned j) (ear.heard at) h.i h.placed.coming h.placed.there (place-call sc ear learned j at h.i m h.placed h.suits) in
+    last-is (finds-call sc learned j) (ear.heard at) h.i h.placed.there (place-call learned h.placed h.suits) in
     let heard : IsHeard ear at l.coming = record { nth = l.at; there = l.there } in
     subst (λ t. (1 ≤ t) × IsStamp ear.clock (call_time sc ear learned j t) t) same
-    (some-stamp sc ear is at l.coming heard, subst (λ t. IsStamp ear.clock t at) (sym l.time) (is.stamps at l.coming before heard))
-stamped-call sc hands ear is learned k n since j stamp in_time Bad h e = absurd (no-stamp stamp e)
+    (some-stamp is at heard, subst (λ t. IsStamp ear.clock t at) (sym l.time) (is.stamps at l.coming before heard))
+stamped-call hands is learned n since j {stamp} in_time Bad h e = absurd (no-stamp stamp e)
   where
     no-stamp : (t : ℕ) → (let o : Option ℕ = None in o) ≡ Some t → ⊥
     no-stamp t x = cc
 
 -- the time of a good RMU's call is found
-pub found-call : (sc : Scenario) (hands : List HandIn) → IsLawful sc → (ear : Ear) → IsEar sc ear → HearsTheRun sc hands ear → (learned k n : ℕ) (s : Search) → k < ear.ticks
-    → HasLesson sc hands ear learned k n s → (j : ℕ) → is_good sc Rmu j learned (sync_slot_of sc.sizes) ≡ true → (at i : ℕ) (c : Coming) → at ≤ k → slice_get (ear.heard at) i ≡ Some c
+pub found-call : {sc hands : _} → IsLawful sc → {ear : _} → IsEar sc ear → HearsTheRun sc hands ear → {learned k n s : _} → k < ear.ticks
+    → HasLesson sc hands ear learned k n s → (j : ℕ) → is_good sc Rmu j learned (sync_slot_of sc.sizes) ≡ true → (at i : ℕ) {c : _} → at ≤ k → slice_get (ear.heard at) i ≡ Some c
     → finds-call sc learned j c ≡ true → call_time sc ear learned j at ≡ c.time
-found-call sc hands law ear is run learned k n s in_time lesson j good at i c le there pass =
+found-call {sc} {hands} law {ear} is run {learned} in_time lesson j good at i {c} le there pass =
     l.time ∙ ap (λ (x : Coming). x.time) same
   where
     l : LastIs (finds-call sc learned j) (ear.heard at)
-    l = last-is (finds-call sc learned j) (ear.heard at) i c there pass
+    l = last-is (finds-call sc learned j) (ear.heard at) i there pass
 
     mine : CallFound sc ear learned j at i c
-    mine = call-found sc ear learned j at i c there (message_in sc.plan.version c.bytes) refl pass
+    mine = call-found sc ear learned j at i there (message_in sc.plan.version c.bytes) refl pass
 
     last : CallFound sc ear learned j at l.at l.coming
-    last = call-found sc ear learned j at l.at l.coming l.there (message_in sc.plan.version l.coming.bytes) refl l.passes
+    last = call-found sc ear learned j at l.at l.there (message_in sc.plan.version l.coming.bytes) refl l.passes
 
     of_good : (o : ℕ) (x : Coming) (f : CallFound sc ear learned j at o x) → IsOfGood sc hands ear f.placed_at.coming
-    of_good o x f = all-good sc hands law ear is run learned k n s in_time lesson j good at f.placed_at.coming le f.placed_at.from (record { nth = o; there = f.placed_at.there })
+    of_good o x f = all-good law is run in_time lesson good at f.placed_at.coming le f.placed_at.from (record { nth = o; there = f.placed_at.there })
 
     places : (at ≡ at) × (i ≡ l.at)
     places =
-        same-place-of sc hands law ear is run (learned % 65536) (sync_slot_of sc.sizes) j at i at l.at mine.message last.message mine.placed_at last.placed_at (omega (arith, le, in_time)) (omega (arith, le, in_time))
+        same-place-of law is run mine.placed_at last.placed_at (omega (arith, le, in_time)) (omega (arith, le, in_time))
         (of_good i c mine) (of_good l.at l.coming last)
 
     same : l.coming ≡ c

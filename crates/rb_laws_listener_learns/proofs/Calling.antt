@@ -7,10 +7,10 @@ use Rattle.rb_laws_synchrony.proofs.{Synchronous.{KnowsMiddle, from_1, heard_fro
 use Rattle.rb_listen.specs.Passes.{is_call}
 use Rattle.rb_laws_listener_learns.specs.{Calling.EachIsHeardToCall, Ears.{Ear, HearsTheRun, SendsIn}}
 
-pub call-sending : (sizes : Sizes) (plan : Plan) (j : ℕ) (st : NodeState) (word tick : ℕ) → call_tick_of sizes plan st 2 ≡ Some tick
+pub call-sending : (sizes : Sizes) (plan : Plan) (j : ℕ) (st : NodeState) (word : ℕ) {tick : ℕ} → call_tick_of sizes plan st 2 ≡ Some tick
     → sending sizes plan Rmu j st (sync_slot_of sizes) 2 word ≡ Some (record { tick = tick; message = call_of sizes st 2 })
 unfolding sending
-call-sending sizes plan j st word tick at =
+call-sending sizes plan j st word at =
     let in_sync : (sync_slot_of sizes == sync_slot_of sizes) ≡ true = grind (arith, nat_tests) in rw (in_sync, at) refl
 
 is-a-call : (sizes : Sizes) (st : NodeState) → is_call sizes (call_of sizes st 2) ≡ true
@@ -25,13 +25,13 @@ heard-to-call sc hands law ear run n j running at good = record {
 }
   where
     synced : IsSynchronous sc hands n
-    synced = synchrony sc hands law n running
+    synced = synchrony hands law n running
 
     good_now : is_good_now sc (moment sc hands n) Rmu j ≡ true
-    good_now = ap (is_good sc Rmu j (moment sc hands n).frame) (slot_last sc.sizes (moment sc hands n).window 1 at) ∙ good
+    good_now = ap (is_good sc Rmu j (moment sc hands n).frame) (slot_last sc.sizes 1 at) ∙ good
 
     there : Present (slice_get (of_kind Rmu (moment sc hands n).nodes) j)
-    there = good_state sc hands n (moment sc hands n) synced.shared synced.agree Rmu j good_now
+    there = good_state synced.agree Rmu j good_now
 
     knows : KnowsMiddle sc Rmu j there.value there.value.k1 (f0_of sc.sizes sc.plan) (f0_of sc.sizes sc.plan + sc.plan.l) (f0_of sc.sizes sc.plan + sc.plan.v)
         (heard_from sc (from_1 sc synced.low)) (heard_to sc (to_1 sc synced.low))
@@ -45,7 +45,7 @@ heard-to-call sc hands law ear run n j running at good = record {
 
     sends : sending sc.sizes sc.plan Rmu j there.value (sync_slot_of sc.sizes) 2 (word_at sc (moment sc hands n) (sync_slot_of sc.sizes) j) ≡ Some call
     sends =
-        call-sending sc.sizes sc.plan j there.value (word_at sc (moment sc hands n) (sync_slot_of sc.sizes) j) (knows.tick + sc.plan.l)
+        call-sending sc.sizes sc.plan j there.value (word_at sc (moment sc hands n) (sync_slot_of sc.sizes) j)
         (ap (option_map (λ k1. k1 + sc.plan.l)) knows.is)
 
     sent : SendsIn sc hands n j call

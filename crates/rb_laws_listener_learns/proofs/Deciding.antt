@@ -41,15 +41,15 @@ first-well sc hands ear = record {
   decides = λ tick is. let e : None ≡ Some tick = is in cc;
 }
 
-learning-well : (sc : Scenario) (hands : List HandIn) (ear : Ear) (k n frame : ℕ) (s : Search) → IsWell sc hands ear k n s → IsWell sc hands ear k n (learning frame s)
-learning-well sc hands ear k n frame s h =
+learning-well : {sc hands ear k n : _} (frame : ℕ) {s : _} → IsWell sc hands ear k n s → IsWell sc hands ear k n (learning frame s)
+learning-well frame h =
     record { had = h.had; newest = h.newest; inside = h.inside; decides = λ tick is. let e : None ≡ Some tick = is in cc }
 
 -- A pass has a good RMU's call in it.
 
-called-inside : (sc : Scenario) (hands : List HandIn) (ear : Ear) (k n : ℕ) (s : Search) → IsWell sc hands ear k n s → (c : Call) (j : ℕ) → j < 16
+called-inside : {sc hands ear k n s : _} → IsWell sc hands ear k n s → (c : Call) (j : ℕ) → j < 16
     → has (calling (reach_of sc.plan) c.frame c.at s.newest) j ≡ true → j < sc.sizes.rmus
-called-inside sc hands ear k n s h c j below is =
+called-inside {sc} {s} h c j below is =
     elim (cases_lt j sc.sizes.rmus) [
       | inl within ↦ within
       | inr out ↦
@@ -59,10 +59,10 @@ called-inside sc hands ear k n s h c j below is =
           let both : false ≡ true = sym none ∙ some in absurd (cc)
     ]
 
-pass-after : (sc : Scenario) (hands : List HandIn) (ear : Ear) → IsShape sc.sizes → are_most sc.sizes (set_of (is_always_good sc hands)) ≡ true → (k n : ℕ) (s : Search)
-    → IsWell sc hands ear k n s → (frame : ℕ) → pass_of sc.sizes sc.plan s.newest ≡ Some frame → IsAfterCall sc hands ear frame (s.had + reach_of sc.plan)
+pass-after : {sc : Scenario} {hands : List HandIn} {ear : Ear} → IsShape sc.sizes → are_most sc.sizes (set_of (is_always_good sc hands)) ≡ true → {k n : ℕ} {s : Search}
+    → IsWell sc hands ear k n s → {frame : ℕ} → pass_of sc.sizes sc.plan s.newest ≡ Some frame → IsAfterCall sc hands ear frame (s.had + reach_of sc.plan)
 unfolding pass_of good-set
-pass-after sc hands ear shape most k n s h frame is = go (pass-begins sc.sizes sc.plan s.newest s.newest frame is)
+pass-after {sc} {hands} {ear} shape most {s} h {frame} is = go (pass-begins sc.sizes sc.plan s.newest s.newest is)
   where
     called : (b : Begins sc.sizes sc.plan s.newest frame) (j : ℕ) → j < 16 → has (good-set sc hands) j ≡ true
         → has (calling (reach_of sc.plan) b.call.frame b.call.at s.newest) j ≡ true → IsAfterCall sc hands ear frame (s.had + reach_of sc.plan)
@@ -80,13 +80,13 @@ pass-after sc hands ear shape most k n s h frame is = go (pass-begins sc.sizes s
     go : Begins sc.sizes sc.plan s.newest frame → IsAfterCall sc hands ear frame (s.had + reach_of sc.plan)
     go b =
         let c : Passing (λ j. has (good-set sc hands) j && has (calling (reach_of sc.plan) b.call.frame b.call.at s.newest) j) 0 16 =
-        meet sc.sizes (good-set sc hands) (calling (reach_of sc.plan) b.call.frame b.call.at s.newest) shape.most_rmus (good-inside sc hands) (called-inside sc hands ear k n s h b.call) most b.most in
+        meet sc.sizes (good-set sc hands) (calling (reach_of sc.plan) b.call.frame b.call.at s.newest) shape.most_rmus (good-inside sc hands) (called-inside h b.call) most b.most in
         called b c.at (omega (arith, c.high)) (and_first (has (good-set sc hands) c.at) (has (calling (reach_of sc.plan) b.call.frame b.call.at s.newest) c.at) c.passes)
         (and_second (has (good-set sc hands) c.at) (has (calling (reach_of sc.plan) b.call.frame b.call.at s.newest) c.at) c.passes)
 
-pass-well : (sc : Scenario) (hands : List HandIn) (ear : Ear) (k n frame : ℕ) (s : Search) → IsAfterCall sc hands ear frame (s.had + reach_of sc.plan) → IsWell sc hands ear k n s
+pass-well : {sc : Scenario} {hands : List HandIn} {ear : Ear} {k n frame : ℕ} {s : Search} → IsAfterCall sc hands ear frame (s.had + reach_of sc.plan) → IsWell sc hands ear k n s
     → IsWell sc hands ear k n (with_pass sc.plan frame s)
-pass-well sc hands ear k n frame s after h = by (s.learns && (frame == s.lesson.frame)) refl (s.learns && (frame_after frame == s.lesson.frame))
+pass-well {sc} {hands} {ear} {k} {n} {frame} {s} after h = by (s.learns && (frame == s.lesson.frame)) refl (s.learns && (frame_after frame == s.lesson.frame))
   where
     fixed : frame ≡ s.lesson.frame → (b : Bool) → IsWell sc hands ear k n (record s { lesson = elim b as (λ _. Lesson) [ true ↦ s.lesson | false ↦ record s.lesson { decides = Some (s.had + reach_of sc.plan) } ] })
     fixed same true = record { had = h.had; newest = h.newest; inside = h.inside; decides = h.decides }
@@ -105,21 +105,21 @@ pass-well sc hands ear k n frame s after h = by (s.learns && (frame == s.lesson.
         ])
     by true e b = fixed (eqb-true frame s.lesson.frame (and_second s.learns (frame == s.lesson.frame) e)) (is_some s.lesson.decides)
     by false e true = h
-    by false e false = learning-well sc hands ear k n (frame_after frame) s h
+    by false e false = learning-well (frame_after frame) h
 
-may-pass-well : (sc : Scenario) (hands : List HandIn) (ear : Ear) → IsShape sc.sizes → are_most sc.sizes (set_of (is_always_good sc hands)) ≡ true → (k n : ℕ) (s : Search)
+may-pass-well : {sc : Scenario} {hands : List HandIn} {ear : Ear} → IsShape sc.sizes → are_most sc.sizes (set_of (is_always_good sc hands)) ≡ true → {k n : ℕ} {s : Search}
     → IsWell sc hands ear k n s → (o : Option ℕ) → pass_of sc.sizes sc.plan s.newest ≡ o → IsWell sc hands ear k n (if_pass sc.plan o s)
-may-pass-well sc hands ear shape most k n s h None e = h
-may-pass-well sc hands ear shape most k n s h (Some frame) e = pass-well sc hands ear k n frame s (pass-after sc hands ear shape most k n s h frame e) h
+may-pass-well shape most h None e = h
+may-pass-well shape most h (Some frame) e = pass-well (pass-after shape most h e) h
 
 -- Messages.
 
-pub newest-well : (sc : Scenario) (hands : List HandIn) (ear : Ear) (k n j frame : ℕ) (s : Search) → j < sc.sizes.rmus → (is_always_good sc hands j ≡ true → IsHeardCall sc hands ear j frame k)
+pub newest-well : {sc : Scenario} {hands : List HandIn} {ear : Ear} {k n : ℕ} (j frame : ℕ) {s : Search} → j < sc.sizes.rmus → (is_always_good sc hands j ≡ true → IsHeardCall sc hands ear j frame k)
     → IsWell sc hands ear k n s → IsWell sc hands ear k n (newest_with j frame s)
-newest-well sc hands ear k n j frame s within calls h = record {
+newest-well {sc} {hands} {ear} {k} j frame {s} within calls h = record {
   had = h.had;
   newest = λ i c good is.
-      elim (set-case s.newest j i (Some call) c is) [
+      elim (set-case s.newest j i (Some call) is) [
         | inl both ↦ (mine i c both.0 (some-call c both.1) (calls (subst (λ x. is_always_good sc hands x ≡ true) both.0 good)), omega (arith, h.had, ap (λ (x : Call). x.at) (some-call c both.1)))
         | inr there ↦ h.newest i c good there
       ];
@@ -147,8 +147,8 @@ noted-frame sizes j at m lesson = by (has_place sizes lesson.frame m)
     by true = (refl, refl)
     by false = (refl, refl)
 
-pub recorded-well : (sc : Scenario) (hands : List HandIn) (ear : Ear) (k n j : ℕ) (m : Message) (s : Search) → IsWell sc hands ear k n s → IsWell sc hands ear k n (recorded sc.sizes j m s)
-recorded-well sc hands ear k n j m s h = by s.learns
+pub recorded-well : {sc hands ear k n : _} (j : ℕ) (m : Message) {s : _} → IsWell sc hands ear k n s → IsWell sc hands ear k n (recorded sc.sizes j m s)
+recorded-well {sc} {hands} {ear} {k} {n} j m {s} h = by s.learns
   where
     by : (b : Bool) → IsWell sc hands ear k n (elim b as (λ _. Search) [ true ↦ record s { lesson = noted sc.sizes j s.had m s.lesson } | false ↦ s ])
     by true = record {
@@ -161,42 +161,42 @@ recorded-well sc hands ear k n j m s h = by s.learns
     }
     by false = h
 
-message-well : (sc : Scenario) (hands : List HandIn) (ear : Ear) → IsShape sc.sizes → are_most sc.sizes (set_of (is_always_good sc hands)) ≡ true → (k n j : ℕ) (o : Option Message) (s : Search)
+message-well : {sc : Scenario} {hands : List HandIn} {ear : Ear} → IsShape sc.sizes → are_most sc.sizes (set_of (is_always_good sc hands)) ≡ true → {k n : ℕ} (j : ℕ) (o : Option Message) {s : Search}
     → j < sc.sizes.rmus → ((m : Message) → o ≡ Some m → is_always_good sc hands j ≡ true → is_call sc.sizes m ≡ true → IsHeardCall sc hands ear j m.frame k)
     → IsWell sc hands ear k n s → IsWell sc hands ear k n (if_message sc.sizes sc.plan j o s)
 unfolding with_message
-message-well sc hands ear shape most k n j None s within calls h = h
-message-well sc hands ear shape most k n j (Some m) s within calls h = by (is_call sc.sizes m) refl (recorded-well sc hands ear k n j m s h)
+message-well shape most j None within calls h = h
+message-well {sc} {hands} {ear} shape most {k} {n} j (Some m) {s} within calls h = by (is_call sc.sizes m) refl (recorded-well j m h)
   where
     by : (b : Bool) → is_call sc.sizes m ≡ b → IsWell sc hands ear k n (recorded sc.sizes j m s)
         → IsWell sc hands ear k n (elim b as (λ _. Search) [ true ↦ passing sc.sizes sc.plan (newest_with j m.frame (recorded sc.sizes j m s)) | false ↦ recorded sc.sizes j m s ])
     by true e r =
-        may-pass-well sc hands ear shape most k n (newest_with j m.frame (recorded sc.sizes j m s))
-        (newest-well sc hands ear k n j m.frame (recorded sc.sizes j m s) within (λ good. calls m refl good e) r)
+        may-pass-well shape most
+        (newest-well j m.frame within (λ good. calls m refl good e) r)
         (pass_of sc.sizes sc.plan (newest_with j m.frame (recorded sc.sizes j m s)).newest) refl
     by false e r = r
 
-pub some-stamp : (sc : Scenario) (ear : Ear) → IsEar sc ear → (k : ℕ) (c : Coming) → IsHeard ear k c → 1 ≤ k
-some-stamp sc ear is zero c h = absurd (is.after_start c h)
-some-stamp sc ear is (suc k) c h = omega arith
+pub some-stamp : {sc ear : _} → IsEar sc ear → (k : ℕ) {c : _} → IsHeard ear k c → 1 ≤ k
+some-stamp is zero {c} h = absurd (is.after_start c h)
+some-stamp is (suc k) h = omega arith
 
-pub heard-call : (sc : Scenario) (hands : List HandIn) → IsLawful sc → (ear : Ear) → IsEar sc ear → (k : ℕ) (c : Coming) → k < ear.ticks → IsHeard ear k c → IsOfGood sc hands ear c → (m : Message)
+pub heard-call : {sc hands : _} → IsLawful sc → {ear : _} → IsEar sc ear → {k c : _} → k < ear.ticks → IsHeard ear k c → IsOfGood sc hands ear c → {m : _}
     → message_in sc.plan.version c.bytes ≡ Some m → is_call sc.sizes m ≡ true → IsHeardCall sc hands ear c.from m.frame k
-heard-call sc hands law ear is k c in_time heard good m reads call = record {
+heard-call {sc} {hands} law {ear} is {k} {c} in_time heard good {m} reads call = record {
   n = good.n;
   sending = good.sending;
   sent = good.sent;
   window_is = omega (arith, put.window, ap (λ x. x.slot) same, ap (λ x. x.stage) same, slot, stage);
   number_is = ap (λ x. x.frame) (sym same) ∙ put.frame;
   stamped = subst (λ (x : Coming). IsStamp ear.clock x.time k) good.is (is.stamps k c in_time heard);
-  some = some-stamp sc ear is k c heard;
+  some = some-stamp is k heard;
 }
   where
     same : good.sending.message ≡ m
-    same = reads-sent sc hands law ear c good m reads
+    same = reads-sent law good reads
 
     put : IsInPlace sc (moment sc hands good.n) good.sending.message
-    put = in-place sc hands law good.n c.from good.sending good.sent
+    put = in-place law good.sent
 
     slot : m.slot ≡ sync_slot_of sc.sizes
     slot = eqb-true m.slot (sync_slot_of sc.sizes) (and_second (is_sync m.tag) (m.slot == sync_slot_of sc.sizes) (and_first (is_sync m.tag && (m.slot == sync_slot_of sc.sizes)) (m.stage == 2) call))
@@ -204,10 +204,10 @@ heard-call sc hands law ear is k c in_time heard good m reads call = record {
     stage : m.stage ≡ 2
     stage = eqb-true m.stage 2 (and_second (is_sync m.tag && (m.slot == sync_slot_of sc.sizes)) (m.stage == 2) call)
 
-heard-well : (sc : Scenario) (hands : List HandIn) → IsLawful sc → (ear : Ear) → IsEar sc ear → HearsTheRun sc hands ear → (k n : ℕ) (c : Coming) → k < ear.ticks
+heard-well : {sc hands : _} → IsLawful sc → {ear : _} → IsEar sc ear → HearsTheRun sc hands ear → (k n : ℕ) (c : Coming) → k < ear.ticks
     → slice_get (ear.heard k) n ≡ Some c → (s : Search) → IsWell sc hands ear k n s → IsWell sc hands ear k (suc n) (searching sc.sizes sc.plan c.from c.bytes s)
 unfolding searching
-heard-well sc hands law ear is run k n c in_time there s h = by (nat_lt c.from sc.sizes.rmus) refl (nat_lt s.had (2 ^ 31))
+heard-well {sc} {hands} law {ear} is run k n c in_time there s h = by (nat_lt c.from sc.sizes.rmus) refl (nat_lt s.had (2 ^ 31))
   where
     onward : (t : Search) → IsWell sc hands ear k n t → IsWell sc hands ear k (suc n) t
     onward t w = record { had = w.had; newest = w.newest; inside = w.inside; decides = w.decides }
@@ -216,8 +216,8 @@ heard-well sc hands law ear is run k n c in_time there s h = by (nat_lt c.from s
         → IsHeardCall sc hands ear c.from m.frame k
     calls within m reads good call =
         elim (run.only k c in_time (record { nth = n; there = there }) within) [
-          | inl of_good ↦ heard-call sc hands law ear is k c in_time (record { nth = n; there = there }) of_good m reads call
-          | inr faulty ↦ absurd (no-onset sc hands c good faulty)
+          | inl of_good ↦ heard-call law is in_time (record { nth = n; there = there }) of_good reads call
+          | inr faulty ↦ absurd (no-onset good faulty)
         ]
 
     by : (a : Bool) → nat_lt c.from sc.sizes.rmus ≡ a → (b : Bool)
@@ -225,17 +225,17 @@ heard-well sc hands law ear is run k n c in_time there s h = by (nat_lt c.from s
     by true e true =
         let within : c.from < sc.sizes.rmus = ltb-true c.from sc.sizes.rmus e in
         onward (if_message sc.sizes sc.plan c.from (message_in sc.plan.version c.bytes) s)
-        (message-well sc hands ear law.sizes run.most_good k n c.from (message_in sc.plan.version c.bytes) s within (calls within) h)
+        (message-well law.sizes run.most_good c.from (message_in sc.plan.version c.bytes) within (calls within) h)
     by true e false = onward s h
     by false e b = onward s h
 
-pub kept-well : (sc : Scenario) (hands : List HandIn) → IsLawful sc → (ear : Ear) → IsEar sc ear → HearsTheRun sc hands ear → IsKept sc ear (IsWell sc hands ear)
-kept-well sc hands law ear is run = record {
+pub kept-well : {sc hands : _} → IsLawful sc → {ear : _} → IsEar sc ear → HearsTheRun sc hands ear → IsKept sc ear (IsWell sc hands ear)
+kept-well {sc} {hands} law {ear} is run = record {
   first = first-well sc hands ear;
-  heard = heard-well sc hands law ear is run;
-  decided = λ k n s in_time whole h deciding. learning-well sc hands ear (suc k) 0 (frame_after s.lesson.frame) (later s) (on k n s h);
+  heard = heard-well law is run;
+  decided = λ k n s in_time whole h deciding. learning-well (frame_after s.lesson.frame) (on k n s h);
   later = λ k n s in_time whole h going. on k n s h;
-  lasts = λ k n s in_time h. not-yet sc ear is k s.had in_time h.had;
+  lasts = λ k n s in_time h. not-yet is in_time h.had;
 }
   where
     on : (k n : ℕ) (s : Search) → IsWell sc hands ear k n s → IsWell sc hands ear (suc k) 0 (later s)
@@ -251,7 +251,7 @@ pub decides-after : (sc : Scenario) (hands : List HandIn) → IsLawful sc → (e
 decides-after sc hands law ear is run k in_time s at learns tick fixed = by (here.decides tick fixed)
   where
     all : (n : ℕ) × HoldsIn (IsWell sc hands ear k n) (listening_at sc ear k)
-    all = always sc ear (IsWell sc hands ear) (kept-well sc hands law ear is run) k in_time
+    all = always (IsWell sc hands ear) (kept-well law is run) k in_time
 
     here : IsWell sc hands ear k all.0 s
     here = subst (HoldsIn (IsWell sc hands ear k all.0)) at all.1

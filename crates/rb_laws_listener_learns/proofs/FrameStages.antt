@@ -58,10 +58,10 @@ pub record IsAtWindow (sc : Scenario) (hands : List HandIn) (frame w : ℕ) : Ty
   pub frame_is : (moment sc hands (w + first_of_frame sc frame)).frame ≡ frame
   pub long : length (moment sc hands (w + first_of_frame sc frame)).book.stages ≡ w
 
-first-window : (sc : Scenario) (hands : List HandIn) → IsLawful sc → (f : ℕ) → IsComplete sc hands f (sync_slot_of sc.sizes) → IsAtWindow sc hands (suc f) 0
-first-window sc hands law f complete =
-    let t : IsTurn sc hands f = frame_turns sc hands law f complete in
-    let p : IsPlaced sc hands (suc f) 0 1 = placed sc hands law (suc f) 0 1 (omega arith) (omega arith) (omega arith) t.running in
+first-window : {sc hands : _} → IsLawful sc → {f : ℕ} → IsComplete sc hands f (sync_slot_of sc.sizes) → IsAtWindow sc hands (suc f) 0
+first-window {sc} {hands} law {f} complete =
+    let t : IsTurn sc hands f = frame_turns law complete in
+    let p : IsPlaced sc hands (suc f) 0 1 = placed hands law (suc f) 0 1 (omega arith) (omega arith) (omega arith) t.running in
     let e : first_of_frame sc (suc f) ≡ 0 + first_of_frame sc (suc f) = omega arith in
     let open_before : (next sc (after_slot sc hands f (sync_slot_of sc.sizes))).book.ended ≡ false = ap (λ b. b.ended) (book_tail sc (after_slot sc hands f (sync_slot_of sc.sizes)) (tail-window sc hands law f complete)) ∙ complete in
     record {
@@ -72,7 +72,7 @@ first-window sc hands law f complete =
     }
   where
     tail-window : (sc : Scenario) (hands : List HandIn) → IsLawful sc → (f : ℕ) → IsComplete sc hands f (sync_slot_of sc.sizes) → (after_slot sc hands f (sync_slot_of sc.sizes)).window ≡ 3 * sync_slot_of sc.sizes + 3
-    tail-window sc hands law f complete = (placed sc hands law f (sync_slot_of sc.sizes) 4 (omega arith) (omega arith) (omega arith) complete).window_is
+    tail-window sc hands law f complete = (placed hands law f (sync_slot_of sc.sizes) 4 (omega arith) (omega arith) (omega arith) complete).window_is
 
 -- the step of moment `k` goes through a window below the tail
 pub record IsStepped (sc : Scenario) (hands : List HandIn) (k : ℕ) : Type 0 where
@@ -84,14 +84,14 @@ stepped sc hands k below running =
     let is : step sc hands (moment sc hands k) ≡ next sc (moment sc hands k) = step_through sc hands (moment sc hands k) (omega (arith, below)) running in
     record { is = is; judged = judged sc (moment sc hands k) below (ap (λ m. m.book.ended) (sym is) ∙ running) }
 
-pub at-window : (sc : Scenario) (hands : List HandIn) → IsLawful sc → (f : ℕ) → IsComplete sc hands f (sync_slot_of sc.sizes) → (w : ℕ) → w ≤ 3 * sync_slot_of sc.sizes + 3
+pub at-window : {sc hands : _} → IsLawful sc → {f : ℕ} → IsComplete sc hands f (sync_slot_of sc.sizes) → (w : ℕ) → w ≤ 3 * sync_slot_of sc.sizes + 3
     → IsRunning (moment sc hands (w + first_of_frame sc (suc f))) → IsAtWindow sc hands (suc f) w
-at-window sc hands law f complete zero few running = first-window sc hands law f complete
-at-window sc hands law f complete (suc w) few running =
+at-window law complete zero few running = first-window law complete
+at-window {sc} {hands} law {f} complete (suc w) few running =
     let e : suc (w + first_of_frame sc (suc f)) ≡ suc w + first_of_frame sc (suc f) = omega arith in
     let on : IsRunning (moment sc hands (suc (w + first_of_frame sc (suc f)))) = subst (λ k. IsRunning (moment sc hands k)) (sym e) running in
     let before : IsAtWindow sc hands (suc f) w =
-    at-window sc hands law f complete w (omega (arith, few)) (running_before sc hands (moment sc hands (w + first_of_frame sc (suc f))) on) in
+    at-window law complete w (omega (arith, few)) (running_before sc hands (moment sc hands (w + first_of_frame sc (suc f))) on) in
     let s : IsStepped sc hands (w + first_of_frame sc (suc f)) = stepped sc hands (w + first_of_frame sc (suc f)) (omega (arith, few, before.window_is)) on in
     record {
       window_is = ap (λ k. (moment sc hands k).window) (sym e)
@@ -105,22 +105,22 @@ pub record Grows (sc : Scenario) (hands : List HandIn) (n k : ℕ) : Type 0 wher
   pub more : List JudgedStage
   pub is : (moment sc hands k).book.stages ≡ more ++ (moment sc hands n).book.stages
 
-pub grows : (sc : Scenario) (hands : List HandIn) → IsLawful sc → (f : ℕ) → IsComplete sc hands f (sync_slot_of sc.sizes) → (d w : ℕ) → d + w ≤ 3 * sync_slot_of sc.sizes + 3
+pub grows : {sc hands : _} → IsLawful sc → (f : ℕ) → IsComplete sc hands f (sync_slot_of sc.sizes) → (d w : ℕ) → d + w ≤ 3 * sync_slot_of sc.sizes + 3
     → IsRunning (moment sc hands (d + (w + first_of_frame sc (suc f)))) → Grows sc hands (w + first_of_frame sc (suc f)) (d + (w + first_of_frame sc (suc f)))
-grows sc hands law f complete zero w few running =
+grows {sc} {hands} law f complete zero w few running =
     let e : w + first_of_frame sc (suc f) ≡ 0 + (w + first_of_frame sc (suc f)) = omega arith in
     record { more = []; is = ap (λ k. (moment sc hands k).book.stages) (sym e) }
-grows sc hands law f complete (suc d) w few running =
+grows {sc} {hands} law f complete (suc d) w few running =
     let k : ℕ = d + (w + first_of_frame sc (suc f)) in
     let e : suc (d + (w + first_of_frame sc (suc f))) ≡ suc d + (w + first_of_frame sc (suc f)) = omega arith in
     let g : d + (w + first_of_frame sc (suc f)) ≡ d + w + first_of_frame sc (suc f) = omega arith in
     let on : IsRunning (moment sc hands (suc (d + (w + first_of_frame sc (suc f))))) = subst (λ k. IsRunning (moment sc hands k)) (sym e) running in
     let open_before : IsRunning (moment sc hands (d + (w + first_of_frame sc (suc f)))) = running_before sc hands (moment sc hands (d + (w + first_of_frame sc (suc f)))) on in
     let at : IsAtWindow sc hands (suc f) (d + w) =
-    at-window sc hands law f complete (d + w) (omega (arith, few)) (subst (λ k. IsRunning (moment sc hands k)) g open_before) in
+    at-window law complete (d + w) (omega (arith, few)) (subst (λ k. IsRunning (moment sc hands k)) g open_before) in
     let s : IsStepped sc hands (d + (w + first_of_frame sc (suc f))) =
     stepped sc hands (d + (w + first_of_frame sc (suc f))) (omega (arith, few, ap (λ k. (moment sc hands k).window) g, at.window_is)) on in
-    let before : Grows sc hands (w + first_of_frame sc (suc f)) (d + (w + first_of_frame sc (suc f))) = grows sc hands law f complete d w (omega (arith, few)) open_before in
+    let before : Grows sc hands (w + first_of_frame sc (suc f)) (d + (w + first_of_frame sc (suc f))) = grows law f complete d w (omega (arith, few)) open_before in
     record {
       more = judged_of sc (place_at sc (moment sc hands (d + (w + first_of_frame sc (suc f))))) (rows_of sc (moment sc hands (d + (w + first_of_frame sc (suc f))))) ∷ before.more;
       is =
@@ -138,23 +138,23 @@ fewer-none p seen (s ∷ more) stages h =
 -- The last stage.
 
 -- the judge is told whom all good nodes trust
-pub told-now : (sc : Scenario) (m : Moment) (slot stage : ℕ) (ws : Windows sc m slot stage) (p : Place) (trusted : Side → ℕ)
+pub told-now : {sc m slot stage : _} (ws : Windows sc m slot stage) (p : Place) (trusted : Side → ℕ)
     → ((me : Side) (i : ℕ) (st : NodeState) → slice_get (of_kind me m.nodes) i ≡ Some st → is_good sc me i m.frame slot ≡ true → (side : Side) → trusted_of side me st ≡ trusted side)
     → verdict_of (judged_of sc p (rows_of sc m) ∷ m.book.stages) ≡ None → (kind : Side) → (judged_of sc p (rows_of sc m)).trusted kind ≡ trusted kind
-told-now sc m slot stage ws p trusted all none kind = go (present (in_order (rows_of sc m))) refl
+told-now {sc} {m} ws p trusted all none kind = go (present (in_order (rows_of sc m))) refl
   where
     go : (rows : List Row) → present (in_order (rows_of sc m)) ≡ rows → (judged_of sc p (rows_of sc m)).trusted kind ≡ trusted kind
     go [] is =
         let nobody : Premise sc p.frame p.slot (λ kind. 0) (judged_of sc p (rows_of sc m) ∷ m.book.stages) =
         premise_holds sc p.frame p.slot (λ kind. 0) (judged_of sc p (rows_of sc m) ∷ m.book.stages) (λ kind. ap (trusted_by kind) is) (λ kind. refl) none in
         absurd (nobody_trusted (λ j. is_good sc Biu j p.frame p.slot) (omega (arith, nobody.most Biu)))
-    go (r ∷ rs) is = ap (trusted_by kind) is ∙ first_row_trusts sc m slot stage ws trusted all r rs is kind
+    go (r ∷ rs) is = ap (trusted_by kind) is ∙ first_row_trusts ws trusted all r rs is kind
 
 -- after the last stage of a frame a trusted node that is not good is suspect
-pub last-suspects : (sc : Scenario) (hands : List HandIn) → IsLawful sc → (k : ℕ) → (moment sc hands k).window ≡ 3 * sync_slot_of sc.sizes + 2 → IsRunning (moment sc hands (suc k)) → (kind : Side) (j : ℕ) → j < 16
+pub last-suspects : {sc : _} (hands : List HandIn) → IsLawful sc → (k : ℕ) → (moment sc hands k).window ≡ 3 * sync_slot_of sc.sizes + 2 → IsRunning (moment sc hands (suc k)) → (kind : Side) (j : ℕ) → j < 16
     → (trusted : Side → ℕ) → ((me : Side) (i : ℕ) (st : NodeState) → IsGoodNode sc (moment sc hands k) me i st → (side : Side) → trusted_of side me st ≡ trusted side)
     → has (trusted kind) j ≡ true → is_good sc kind j (moment sc hands k).frame (sync_slot_of sc.sizes) ≡ false → is_suspect kind (moment sc hands (suc k)).book.stages j ≡ true
-last-suspects sc hands law k at running kind j small trusted all t faulty =
+last-suspects {sc} hands law k at running kind j small trusted all t faulty =
     subst (λ l. is_suspect kind l j ≡ true) (sym (ap (λ m. m.book.stages) s.is ∙ s.judged.stages))
     (and_from (has newest_trusted j) (not (has newest_good j)) (ap (λ x. has x j) told ∙ t)
     (not_from_false (has newest_good j)
@@ -174,6 +174,6 @@ last-suspects sc hands law k at running kind j small trusted all t faulty =
 
     told : (judged_of sc (place_at sc (moment sc hands k)) (rows_of sc (moment sc hands k))).trusted kind ≡ trusted kind
     told =
-        told-now sc (moment sc hands k) (sync_slot_of sc.sizes) (2 + 1) (sync_windows_are sc (moment sc hands k) 2 (omega arith) at) (place_at sc (moment sc hands k)) trusted
+        told-now (sync_windows_are sc (moment sc hands k) 2 (omega arith) at) (place_at sc (moment sc hands k)) trusted
         (λ me i st there good side.
-        all me i st (record { there = there; good = ap (is_good sc me i (moment sc hands k).frame) (slot_last sc.sizes (moment sc hands k).window 2 at) ∙ good }) side) s.judged.none kind
+        all me i st (record { there = there; good = ap (is_good sc me i (moment sc hands k).frame) (slot_last sc.sizes 2 at) ∙ good }) side) s.judged.none kind

@@ -9,7 +9,7 @@ use Rattle.rb_rules.specs.{Clock.{IsStamp, stamp_of}, Goodness.{Scenario, is_bef
 use Rattle.rb_rules.proofs.{Spellings.read_back, Stamps.stamp_of-is, Middles.IsBetween}
 use Rattle.rb_laws_agreement.proofs.{Tests.{Passing, passes_at, passing}, Agreement.agreement, Places.running_earlier}
 use Rattle.rb_laws_synchrony.proofs.{EpochTicks.within_run, Middles.{HasLeast, least_of}}
-use Rattle.rb_listen.specs.{Lessons.frame_after, Passes.{are_most, calling, falls_in, pass_of, reach_of}, declared.passes.Call.Call, declared.search.Search.Search}
+use Rattle.rb_listen.specs.{Lessons.frame_after, Passes.{are_most, calling, falls_in, pass_of, reach_of}, declared.passes.Call.Call}
 use Rattle.rb_laws_listener_learns.specs.{Calling.IsHeardToCall, Ears.{Ear, HearsTheRun, IsEar, IsHeard, SendsIn, comes_to, coming_to, is_always_good}}
 use Rattle.rb_laws_listener_learns.proofs.{Apart.come-apart, Calling.heard-to-call, Deciding.{IsHeardCall, IsWell}, Latest.{IsCallAt, IsLate}, Meeting.meet, Moments.same-frame, PassSets.{AreOfRmus, BeginsAt, FallsIn, FallsThere, all-falls, begins-pass, in-set, more-than, new-or-old, of-rmus, pass-at}, Recorded.IsEarlier, Seeks.{always-counts, good-inside, good-rmus, good-set}, Sendings.in-place, Together.{come-together, steady-ear}}
 
@@ -24,44 +24,44 @@ pub record IsGoodCall (sc : Scenario) (hands : List HandIn) (ear : Ear) (number 
 next-number : (a b most : ℕ) → a ≤ most → b ≤ most → most ≤ 4096 → b % 65536 ≡ (a % 65536 + 1) % 65536 → b ≡ a + 1
 next-number a b most le_a le_b small e = omega (arith, e, le_a, le_b, small)
 
-pub frame-of : (sc : Scenario) (hands : List HandIn) (ear : Ear) (j number at : ℕ) → IsHeardCall sc hands ear j number at → ℕ
-frame-of sc hands ear j number at c = (moment sc hands c.n).frame
+pub frame-of : {sc hands ear j number at : _} → IsHeardCall sc hands ear j number at → ℕ
+frame-of {sc} {hands} c = (moment sc hands c.n).frame
 
-within : (sc : Scenario) (hands : List HandIn) (ear : Ear) (j number at : ℕ) (c : IsHeardCall sc hands ear j number at) → (moment sc hands c.n).frame ≤ sc.frames
-within sc hands ear j number at c = within_run sc hands c.n c.sent.running
+within : {sc hands ear j number at : _} (c : IsHeardCall sc hands ear j number at) → (moment sc hands c.n).frame ≤ sc.frames
+within {sc} {hands} c = within_run sc hands c.n c.sent.running
 
-pub same-frame-number : (sc : Scenario) (hands : List HandIn) → IsLawful sc → (ear : Ear) (i j p q a b : ℕ) (c : IsHeardCall sc hands ear i p a) (d : IsHeardCall sc hands ear j q b) → p ≡ q
+pub same-frame-number : {sc hands : _} → IsLawful sc → {ear i j p q a b : _} (c : IsHeardCall sc hands ear i p a) (d : IsHeardCall sc hands ear j q b) → p ≡ q
     → (moment sc hands c.n).frame ≡ (moment sc hands d.n).frame
-same-frame-number sc hands law ear i j p q a b c d e =
-    same-frame (moment sc hands c.n).frame (moment sc hands d.n).frame sc.frames (within sc hands ear i p a c) (within sc hands ear j q b d) law.frames.1
+same-frame-number {sc} {hands} law c d e =
+    same-frame (moment sc hands c.n).frame (moment sc hands d.n).frame sc.frames (within c) (within d) law.frames.1
     (sym c.number_is ∙ e ∙ d.number_is)
 
-pub next-frame-number : (sc : Scenario) (hands : List HandIn) → IsLawful sc → (ear : Ear) (i j p q a b : ℕ) (c : IsHeardCall sc hands ear i p a) (d : IsHeardCall sc hands ear j q b)
+pub next-frame-number : {sc hands : _} → IsLawful sc → {ear i j p q a b : _} (c : IsHeardCall sc hands ear i p a) (d : IsHeardCall sc hands ear j q b)
     → q ≡ frame_after p → (moment sc hands d.n).frame ≡ (moment sc hands c.n).frame + 1
-next-frame-number sc hands law ear i j p q a b c d e =
-    next-number (moment sc hands c.n).frame (moment sc hands d.n).frame sc.frames (within sc hands ear i p a c) (within sc hands ear j q b d) law.frames.1
+next-frame-number {sc} {hands} law c d e =
+    next-number (moment sc hands c.n).frame (moment sc hands d.n).frame sc.frames (within c) (within d) law.frames.1
     (sym d.number_is ∙ e ∙ ap frame_after c.number_is)
 
 -- Calls in order.
 
-pub calls-apart : (sc : Scenario) (hands : List HandIn) → IsLawful sc → (ear : Ear) → IsEar sc ear → (i j p q a b : ℕ) (c : IsHeardCall sc hands ear i p a) (d : IsHeardCall sc hands ear j q b)
+pub calls-apart : {sc hands : _} → IsLawful sc → {ear : _} → IsEar sc ear → {i j p q a b : ℕ} (c : IsHeardCall sc hands ear i p a) (d : IsHeardCall sc hands ear j q b)
     → (moment sc hands c.n).frame < (moment sc hands d.n).frame → a + reach_of sc.plan < b
-calls-apart sc hands law ear is i j p q a b c d less =
+calls-apart {sc} {hands} law {ear} is {i} {j} {a} {b} c d less =
     come-apart sc hands law ear is c.n d.n i j c.sending d.sending c.window_is d.window_is less c.sent d.sent a b c.some c.stamped d.stamped
 
 -- two calls of one frame are of one moment
-pub same-moment : (sc : Scenario) (hands : List HandIn) → IsLawful sc → (ear : Ear) (i j p q a b : ℕ) (c : IsHeardCall sc hands ear i p a) (d : IsHeardCall sc hands ear j q b)
+pub same-moment : {sc hands : _} → IsLawful sc → {ear i j p q a b : _} (c : IsHeardCall sc hands ear i p a) (d : IsHeardCall sc hands ear j q b)
     → (moment sc hands c.n).frame ≡ (moment sc hands d.n).frame → c.n ≡ d.n
-same-moment sc hands law ear i j p q a b c d same =
-    (agreement sc hands law c.n c.sent.running).agree.place
+same-moment {sc} {hands} law c d same =
+    (agreement hands law c.n c.sent.running).agree.place
     ∙ ap (λ f. f * (windows_in sc.sizes + 1) + (moment sc hands c.n).window) same
     ∙ ap (λ w. (moment sc hands d.n).frame * (windows_in sc.sizes + 1) + w) (c.window_is ∙ sym d.window_is)
-    ∙ sym (agreement sc hands law d.n d.sent.running).agree.place
+    ∙ sym (agreement hands law d.n d.sent.running).agree.place
 
-pub calls-together : (sc : Scenario) (hands : List HandIn) → IsLawful sc → (ear : Ear) → IsEar sc ear → (i j p q a b : ℕ) (c : IsHeardCall sc hands ear i p a) (d : IsHeardCall sc hands ear j q b)
+pub calls-together : {sc hands : _} → IsLawful sc → {ear : _} → IsEar sc ear → {i j p q a b : ℕ} (c : IsHeardCall sc hands ear i p a) (d : IsHeardCall sc hands ear j q b)
     → (moment sc hands c.n).frame ≡ (moment sc hands d.n).frame → b ≤ a + reach_of sc.plan
-calls-together sc hands law ear is i j p q a b c d same =
-    let one : c.n ≡ d.n = same-moment sc hands law ear i j p q a b c d same in
+calls-together {sc} {hands} law {ear} is {i} {j} {a} {b} c d same =
+    let one : c.n ≡ d.n = same-moment law c d same in
     come-together sc hands law ear is d.n i j c.sending d.sending d.window_is (subst (λ k. SendsIn sc hands k i c.sending) one c.sent) d.sent a b c.some
     (subst (λ k. IsStamp ear.clock (coming_to sc ear i (moment sc hands k).frame c.sending).time a) one c.stamped) d.stamped
 
@@ -86,15 +86,15 @@ not-later size sync f s frame slot small le h =
     ]
 
 -- the onsets of a lawful scenario are of slots that there are
-pub onset-in : (sc : Scenario) → IsLawful sc → (j frame slot : ℕ) → j < sc.sizes.rmus → get_or sc.rmu_onsets j None ≡ Some (frame, slot) → slot ≤ sync_slot_of sc.sizes
-onset-in sc law j frame slot counted is =
+pub onset-in : {sc : _} → IsLawful sc → (j frame slot : ℕ) → j < sc.sizes.rmus → get_or sc.rmu_onsets j None ≡ Some (frame, slot) → slot ≤ sync_slot_of sc.sizes
+onset-in {sc} law j frame slot counted is =
     let enough : sc.sizes.rmus ≤ length sc.rmu_onsets = law.rmu_onsets.enough in
     (subst (IsOnsetOf sc) is (law.rmu_onsets.each j None (omega (arith, counted, enough)))).1
 
 -- an RMU that is good in the whole run is so in each slot to which the run comes
-pub always-good-in : (sc : Scenario) (hands : List HandIn) → IsLawful sc → (j frame slot : ℕ) → IsRunning (before_slot sc hands frame slot) → is_always_good sc hands j ≡ true
+pub always-good-in : {sc : _} (hands : List HandIn) → IsLawful sc → (j frame slot : ℕ) → IsRunning (before_slot sc hands frame slot) → is_always_good sc hands j ≡ true
     → is_good sc Rmu j frame slot ≡ true
-always-good-in sc hands law j frame slot running good =
+always-good-in {sc} hands law j frame slot running good =
     and_from (nat_lt j sc.sizes.rmus) (is_before (get_or sc.rmu_onsets j None) frame slot)
     (and_first (nat_lt j sc.sizes.rmus) (not (comes_to sc hands (get_or sc.rmu_onsets j None))) good)
     (by (get_or sc.rmu_onsets j None) refl
@@ -105,39 +105,39 @@ always-good-in sc hands law j frame slot running good =
     by (Some onset) is never = not-false (is_before (Some onset) frame slot) (false_from_ne_true (not (is_before (Some onset) frame slot)) (λ later.
         let began : IsRunning (before_slot sc hands onset.0 onset.1) =
         running_earlier sc hands (onset.0 * (windows_in sc.sizes + 1) + 3 * onset.1 + 1 - 1) (frame * (windows_in sc.sizes + 1) + 3 * slot + 1 - 1)
-        (not-later (windows_in sc.sizes + 1) (sync_slot_of sc.sizes) onset.0 onset.1 frame slot (omega arith) (onset-in sc law j onset.0 onset.1 (always-counts sc hands j good) is) (not-true (is_before (Some onset) frame slot) later)) running in
+        (not-later (windows_in sc.sizes + 1) (sync_slot_of sc.sizes) onset.0 onset.1 frame slot (omega arith) (onset-in law j onset.0 onset.1 (always-counts sc hands j good) is) (not-true (is_before (Some onset) frame slot) later)) running in
         let both : true ≡ false = sym (ap not began) ∙ never in cc))
 
 -- an RMU that is good in the whole run is good up to the slot of each moment of the run
-pub always-good-at : (sc : Scenario) (hands : List HandIn) → IsLawful sc → (j n slot : ℕ) → IsRunning (moment sc hands n) → 3 * slot ≤ (moment sc hands n).window
+pub always-good-at : {sc : _} (hands : List HandIn) → IsLawful sc → (j n slot : ℕ) → IsRunning (moment sc hands n) → 3 * slot ≤ (moment sc hands n).window
     → is_always_good sc hands j ≡ true → is_good sc Rmu j (moment sc hands n).frame slot ≡ true
-always-good-at sc hands law j n slot running le good =
-    always-good-in sc hands law j (moment sc hands n).frame slot
-    (running_earlier sc hands ((moment sc hands n).frame * (windows_in sc.sizes + 1) + 3 * slot + 1 - 1) n (omega (arith, (agreement sc hands law n running).agree.place, le)) running) good
+always-good-at {sc} hands law j n slot running le good =
+    always-good-in hands law j (moment sc hands n).frame slot
+    (running_earlier sc hands ((moment sc hands n).frame * (windows_in sc.sizes + 1) + 3 * slot + 1 - 1) n (omega (arith, (agreement hands law n running).agree.place, le)) running) good
 
 -- an RMU that is good in the whole run calls in each sync slot to which the run comes
-pub call-of : (sc : Scenario) (hands : List HandIn) → IsLawful sc → (ear : Ear) → IsEar sc ear → HearsTheRun sc hands ear → (n : ℕ) → IsRunning (moment sc hands n)
+pub call-of : {sc hands : _} → IsLawful sc → {ear : _} → IsEar sc ear → HearsTheRun sc hands ear → (n : ℕ) → IsRunning (moment sc hands n)
     → (moment sc hands n).window ≡ 3 * sync_slot_of sc.sizes + 1 → (j : ℕ) → is_always_good sc hands j ≡ true → (at : ℕ) × CallsToo sc hands ear n j at
-call-of sc hands law ear is run n running window_is j good =
+call-of {sc} {hands} law {ear} is run n running window_is j good =
     let calls : IsHeardToCall sc hands ear n j =
-    heard-to-call sc hands law ear run n j running window_is (always-good-at sc hands law j n (sync_slot_of sc.sizes) running (omega (arith, window_is)) good) in
+    heard-to-call sc hands law ear run n j running window_is (always-good-at hands law j n (sync_slot_of sc.sizes) running (omega (arith, window_is)) good) in
     let time : ℕ = (coming_to sc ear j (moment sc hands n).frame calls.sending).time in
-    (stamp_of ear.clock time, record { calls = calls; stamped = stamp_of-is ear.clock (steady-ear sc law ear is).moves time })
+    (stamp_of ear.clock time, record { calls = calls; stamped = stamp_of-is ear.clock (steady-ear law is).moves time })
 
-pub call-at : (sc : Scenario) (hands : List HandIn) → IsLawful sc → (ear : Ear) → IsEar sc ear → HearsTheRun sc hands ear → (i number a : ℕ) (c : IsHeardCall sc hands ear i number a)
+pub call-at : {sc hands : _} → IsLawful sc → {ear : _} → IsEar sc ear → HearsTheRun sc hands ear → {i number a : ℕ} (c : IsHeardCall sc hands ear i number a)
     → (j : ℕ) → is_always_good sc hands j ≡ true → (at : ℕ) × CallsToo sc hands ear c.n j at
-call-at sc hands law ear is run i number a c j good = call-of sc hands law ear is run c.n c.sent.running c.window_is j good
+call-at law is run c j good = call-of law is run c.n c.sent.running c.window_is j good
 
 -- the call is among what the listener hears with its stamp
-pub call-there : (sc : Scenario) (hands : List HandIn) → IsLawful sc → (ear : Ear) → (n j at : ℕ) → CallsToo sc hands ear n j at → 1 ≤ at → at < ear.ticks → (i : ℕ) × IsCallAt sc ear at i j
-call-there sc hands law ear n j at too some in_time = (
+pub call-there : {sc hands : _} → IsLawful sc → {ear : _} → {n j at : ℕ} → CallsToo sc hands ear n j at → 1 ≤ at → at < ear.ticks → (i : ℕ) × IsCallAt sc ear at i j
+call-there {sc} {hands} law {ear} {n} {j} {at} too some in_time = (
   heard.nth,
   record {
     coming = coming_to sc ear j (moment sc hands n).frame too.calls.sending;
     there = heard.there;
     from = refl;
     message = too.calls.sending.message;
-    reads = read_back sc.plan.version too.calls.sending.message (in-place sc hands law n j too.calls.sending too.calls.sent).fits;
+    reads = read_back sc.plan.version too.calls.sending.message (in-place law too.calls.sent).fits;
     call = too.calls.call;
   },
 )
@@ -146,9 +146,9 @@ call-there sc hands law ear n j at too some in_time = (
     heard = too.calls.heard at some in_time too.stamped
 
 -- a time is the same as a call that comes
-abbrev pub as-call : (sc : Scenario) (hands : List HandIn) (ear : Ear) (i number a : ℕ) (c : IsHeardCall sc hands ear i number a) (j at : ℕ) → CallsToo sc hands ear c.n j at → 1 ≤ at
+abbrev pub as-call : {sc hands ear i number a : _} (c : IsHeardCall sc hands ear i number a) {j at : ℕ} → CallsToo sc hands ear c.n j at → 1 ≤ at
     → IsHeardCall sc hands ear j number at
-as-call sc hands ear i number a c j at too some =
+as-call c too some =
     record { n = c.n; sending = too.calls.sending; sent = too.calls.sent; window_is = c.window_is; number_is = c.number_is; stamped = too.stamped; some = some }
 
 -- The newest calls before a message.
@@ -158,8 +158,8 @@ pub record AreKnown (sc : Scenario) (hands : List HandIn) (ear : Ear) (k : ℕ) 
   pub inside : AreOfRmus sc.sizes newest
   pub known : (j : ℕ) (c : Call) → is_always_good sc hands j ≡ true → get_or newest j None ≡ Some c → IsHeardCall sc hands ear j c.frame c.at × (c.at ≤ k)
 
-pub well-known : (sc : Scenario) (hands : List HandIn) (ear : Ear) (k n : ℕ) (s : Search) → IsWell sc hands ear k n s → AreKnown sc hands ear k s.newest
-well-known sc hands ear k n s h = record { inside = h.inside; known = h.newest }
+pub well-known : {sc hands ear k n s : _} → IsWell sc hands ear k n s → AreKnown sc hands ear k s.newest
+well-known h = record { inside = h.inside; known = h.newest }
 
 -- a pass comes soon after a good call of its frame
 pub record IsSoon (sc : Scenario) (hands : List HandIn) (ear : Ear) (number k : ℕ) : Type 0 where
@@ -181,10 +181,10 @@ pub record GoodInPass (sc : Scenario) (hands : List HandIn) (newest : List (Opti
   pub good : is_always_good sc hands j ≡ true
   pub there : FallsThere (reach_of sc.plan) frame from (get_or newest j None)
 
-pub good-in-pass : (sc : Scenario) (hands : List HandIn) → IsShape sc.sizes → are_most sc.sizes (set_of (is_always_good sc hands)) ≡ true → (newest : List (Option Call)) (frame : ℕ) → AreOfRmus sc.sizes newest
+pub good-in-pass : (sc : Scenario) (hands : List HandIn) → IsShape sc.sizes → are_most sc.sizes (set_of (is_always_good sc hands)) ≡ true → {newest frame : _} → AreOfRmus sc.sizes newest
     → (b : BeginsAt sc.sizes sc.plan newest frame) → GoodInPass sc hands newest b.call.frame b.call.at
 unfolding good-set
-good-in-pass sc hands shape most newest frame inside b =
+good-in-pass sc hands shape most {newest} inside b =
     by (meet sc.sizes (good-set sc hands) (calling (reach_of sc.plan) b.call.frame b.call.at newest) shape.most_rmus (good-inside sc hands)
     (of-rmus sc.sizes (reach_of sc.plan) b.call.frame b.call.at newest inside) most b.most)
   where
@@ -198,22 +198,22 @@ good-in-pass sc hands shape most newest frame inside b =
         }
 
 -- if a call makes a pass that was not there, `IsSoon` holds for it
-pub pass-is-soon : (sc : Scenario) (hands : List HandIn) (ear : Ear) → IsShape sc.sizes → are_most sc.sizes (set_of (is_always_good sc hands)) ≡ true → (k from q : ℕ) (call : Call)
+pub pass-is-soon : {sc : Scenario} {hands : List HandIn} {ear : Ear} → IsShape sc.sizes → are_most sc.sizes (set_of (is_always_good sc hands)) ≡ true → {k : ℕ} (from : ℕ) {q : ℕ} (call : Call)
     → (newest : List (Option Call)) → from < length newest → call.at ≡ k → AreOfRmus sc.sizes newest → AreKnown sc hands ear k (slice_set newest from (Some call))
     → (pass_of sc.sizes sc.plan newest ≡ Some q → ⊥) → pass_of sc.sizes sc.plan (slice_set newest from (Some call)) ≡ Some q → IsSoon sc hands ear q k
-pass-is-soon sc hands ear shape most k from q call newest within at inside known none is = by (new-or-old sc.sizes sc.plan newest from q call within b)
+pass-is-soon {sc} {hands} {ear} shape most {k} from {q} call newest within at inside known none is = by (new-or-old newest from call within b)
   where
     b : BeginsAt sc.sizes sc.plan (slice_set newest from (Some call)) q
-    b = pass-at sc.sizes sc.plan (slice_set newest from (Some call)) q is
+    b = pass-at sc.sizes sc.plan (slice_set newest from (Some call)) is
 
     g : GoodInPass sc hands (slice_set newest from (Some call)) b.call.frame b.call.at
-    g = good-in-pass sc hands shape most (slice_set newest from (Some call)) q known.inside b
+    g = good-in-pass sc hands shape most known.inside b
 
     heard : IsHeardCall sc hands ear g.j g.there.call.frame g.there.call.at × (g.there.call.at ≤ k)
     heard = known.known g.j g.there.call g.good g.there.is
 
     by : FallsIn (reach_of sc.plan) b.call.frame b.call.at call ⊎ BeginsAt sc.sizes sc.plan newest q → IsSoon sc hands ear q k
-    by (inr old) = absurd (none (begins-pass sc.sizes sc.plan newest q shape.most_rmus inside old))
+    by (inr old) = absurd (none (begins-pass shape.most_rmus inside old))
     by (inl f) = record {
       at = g.there.call.at;
       call = record { j = g.j; good = g.good; call = subst (λ x. IsHeardCall sc hands ear g.j x g.there.call.at) (g.there.falls.frame_is ∙ b.frame_is) heard.0 };
@@ -245,11 +245,11 @@ called-of newest q j None e h = cc
 called-of newest q j (Some c) e h = record { call = c; there = e; frame_is = eqb-true c.frame q h }
 
 -- if the call of no good RMU is missing, there is a pass
-pub none-missing : (sc : Scenario) (hands : List HandIn) → IsLawful sc → (ear : Ear) → IsEar sc ear → are_most sc.sizes (set_of (is_always_good sc hands)) ≡ true → (k q : ℕ) (newest : List (Option Call))
+pub none-missing : {sc hands : _} → IsLawful sc → {ear : _} → IsEar sc ear → are_most sc.sizes (set_of (is_always_good sc hands)) ≡ true → {k : ℕ} (q : ℕ) {newest : _}
     → AreKnown sc hands ear k newest → (i : ℕ) → is_always_good sc hands i ≡ true → ((j : ℕ) → is_always_good sc hands j ≡ true → HasCalled newest q j)
     → pass_of sc.sizes sc.plan newest ≡ Some q
 unfolding good-set
-none-missing sc hands law ear is most k q newest known i good called = by least.held
+none-missing {sc} {hands} law {ear} is most q {newest} known i good called = by least.held
   where
     time : ℕ → ℕ
     time j = at_of (get_or newest j None)
@@ -265,8 +265,8 @@ none-missing sc hands law ear is most k q newest known i good called = by least.
         let x : HasCalled newest q a = called a ga in
         let y : HasCalled newest q b = called b gb in
         let close : x.call.at ≤ y.call.at + reach_of sc.plan =
-        calls-together sc hands law ear is b a q q y.call.at x.call.at (heard b gb y) (heard a ga x)
-        (same-frame-number sc hands law ear b a q q y.call.at x.call.at (heard b gb y) (heard a ga x) refl) in
+        calls-together law is (heard b gb y) (heard a ga x)
+        (same-frame-number law (heard b gb y) (heard a ga x) refl) in
         omega (arith, close, time-is a x, time-is b y)
 
     least : HasLeast (is_always_good sc hands) (λ j. at_of (get_or newest j None)) (reach_of sc.plan) 16
@@ -287,7 +287,7 @@ none-missing sc hands law ear is most k q newest known i good called = by least.
               let c : HasCalled newest q j = called j mine in
               let between : IsBetween least.least (least.least + reach_of sc.plan) (at_of (get_or newest j None)) = least.at j below mine in
               let falls : falls_in (reach_of sc.plan) h.call.frame h.call.at (Some c.call) ≡ true =
-              all-falls (reach_of sc.plan) h.call.frame h.call.at c.call (record {
+              all-falls (record {
                 frame_is = c.frame_is ∙ sym h.frame_is;
                 low = omega (arith, between.least, time-is j c, time-is o h, e);
                 high = omega (arith, between.most, time-is j c, time-is o h, e);
@@ -300,7 +300,7 @@ none-missing sc hands law ear is most k q newest known i good called = by least.
 
     by : ((j : ℕ) → j < 16 → is_always_good sc hands j ≡ false) ⊎ ((j : ℕ) × (is_always_good sc hands j ≡ true) × (at_of (get_or newest j None) ≡ least.least)) → pass_of sc.sizes sc.plan newest ≡ Some q
     by (inl nobody) = let both : true ≡ false = sym good ∙ nobody i (below-16 sc hands law.sizes i good) in absurd (cc)
-    by (inr one) = begins-pass sc.sizes sc.plan newest q law.sizes.most_rmus known.inside (begins one.0 one.1 one.2)
+    by (inr one) = begins-pass law.sizes.most_rmus known.inside (begins one.0 one.1 one.2)
 
 -- a good call of the frame comes at tick `k` or later
 pub record IsStillToCome (sc : Scenario) (hands : List HandIn) (ear : Ear) (number k : ℕ) : Type 0 where
@@ -311,32 +311,32 @@ pub record IsStillToCome (sc : Scenario) (hands : List HandIn) (ear : Ear) (numb
 abbrev pub AreLatest : Scenario → Ear → ℕ → ℕ → List (Option Call) → Type 0
 AreLatest sc ear k n newest = (j at i : ℕ) → j < sc.sizes.rmus → IsCallAt sc ear at i j → IsEarlier at i k n → IsLate at (get_or newest j None)
 
-pub still-to-come : (sc : Scenario) (hands : List HandIn) → IsLawful sc → (ear : Ear) → IsEar sc ear → HearsTheRun sc hands ear → (k n p q : ℕ) (newest : List (Option Call)) → k < ear.ticks
-    → AreKnown sc hands ear k newest → AreLatest sc ear k n newest → (before : ℕ) → IsGoodCall sc hands ear p before → q ≡ frame_after p → IsSoon sc hands ear q k
+pub still-to-come : {sc hands : _} → IsLawful sc → {ear : _} → IsEar sc ear → HearsTheRun sc hands ear → {k n p q newest : _} → k < ear.ticks
+    → AreKnown sc hands ear k newest → AreLatest sc ear k n newest → {before : ℕ} → IsGoodCall sc hands ear p before → q ≡ frame_after p → IsSoon sc hands ear q k
     → (pass_of sc.sizes sc.plan newest ≡ Some q → ⊥) → IsStillToCome sc hands ear q k
-still-to-come sc hands law ear is run k n p q newest in_time known latest before prior next soon none = by (list_any (is_missing sc hands newest q) (numbers 16)) refl
+still-to-come {sc} {hands} law {ear} is run {k} {q} {newest} in_time known latest {before} prior next soon none = by (list_any (is_missing sc hands newest q) (numbers 16)) refl
   where
     later : (moment sc hands prior.call.n).frame < (moment sc hands soon.call.call.n).frame
-    later = omega (arith, next-frame-number sc hands law ear prior.j soon.call.j p q before soon.at prior.call soon.call.call next)
+    later = omega (arith, next-frame-number law prior.call soon.call.call next)
 
     -- an RMU whose newest call is of another frame has called in this one at this tick or later
     absent : (j at : ℕ) → is_always_good sc hands j ≡ true → is_of q (get_or newest j None) ≡ false → (too : CallsToo sc hands ear soon.call.call.n j at) → 1 ≤ at → at < k → ⊥
     absent j at good other too some early = late (get_or newest j None) refl (latest j at there.0 (always-counts sc hands j good) there.1 (inl early))
       where
         there : (i : ℕ) × IsCallAt sc ear at i j
-        there = call-there sc hands law ear soon.call.call.n j at too some (omega (arith, early, in_time))
+        there = call-there law too some (omega (arith, early, in_time))
 
         mine : IsHeardCall sc hands ear j q at
-        mine = as-call sc hands ear soon.call.j q soon.at soon.call.call j at too some
+        mine = as-call soon.call.call too some
 
         late : (o : Option Call) → get_or newest j None ≡ o → IsLate at o → ⊥
         late None e h = h
         late (Some c) e h =
             let known_it : IsHeardCall sc hands ear j c.frame c.at × (c.at ≤ k) = known.known j c good e in
             elim (cases_lt (moment sc hands known_it.0.n).frame (moment sc hands soon.call.call.n).frame) [
-              | inl less ↦ omega (arith, h, calls-apart sc hands law ear is j j c.frame q c.at at known_it.0 mine less)
+              | inl less ↦ omega (arith, h, calls-apart law is known_it.0 mine less)
               | inr ge ↦ elim (cases_lt (moment sc hands soon.call.call.n).frame (moment sc hands known_it.0.n).frame) [
-                | inl more ↦ omega (arith, soon.high, known_it.1, calls-apart sc hands law ear is soon.call.j j q c.frame soon.at c.at soon.call.call known_it.0 more)
+                | inl more ↦ omega (arith, soon.high, known_it.1, calls-apart law is soon.call.call known_it.0 more)
                 | inr le ↦
                     let frames : (moment sc hands known_it.0.n).frame ≡ (moment sc hands soon.call.call.n).frame = omega (arith, ge, le) in
                     let of_q : c.frame ≡ q = known_it.0.number_is ∙ ap (λ f. f % 65536) frames ∙ sym soon.call.call.number_is in
@@ -347,7 +347,7 @@ still-to-come sc hands law ear is run k n p q newest in_time known latest before
 
     comes : (j : ℕ) → is_always_good sc hands j ≡ true → is_of q (get_or newest j None) ≡ false → IsStillToCome sc hands ear q k
     comes j good other =
-        let at = call-at sc hands law ear is run soon.call.j q soon.at soon.call.call j good in
+        let at = call-at law is run soon.call.call j good in
         let after : before + reach_of sc.plan < at.0 =
         come-apart sc hands law ear is prior.call.n soon.call.call.n prior.j j prior.call.sending at.1.calls.sending prior.call.window_is soon.call.call.window_is later prior.call.sent at.1.calls.sent
         before at.0 prior.call.some prior.call.stamped at.1.stamped in
@@ -355,7 +355,7 @@ still-to-come sc hands law ear is run k n p q newest in_time known latest before
           | inl early ↦ absurd (absent j at.0 good other at.1 (omega (arith, after)) early)
           | inr late ↦ record {
             at = at.0;
-            call = record { j = j; good = good; call = as-call sc hands ear soon.call.j q soon.at soon.call.call j at.0 at.1 (omega (arith, after)) };
+            call = record { j = j; good = good; call = as-call soon.call.call at.1 (omega (arith, after)) };
             late = late;
           }
         ]
@@ -374,4 +374,4 @@ still-to-come sc hands law ear is run k n p q newest in_time known latest before
         let one : Passing (is_missing sc hands newest q) 0 16 = passing (is_missing sc hands newest q) 0 16 e in
         comes one.at (and_first (is_always_good sc hands one.at) (not (is_of q (get_or newest one.at None))) one.passes)
         (not-true (is_of q (get_or newest one.at None)) (and_second (is_always_good sc hands one.at) (not (is_of q (get_or newest one.at None))) one.passes))
-    by false e = absurd (none (none-missing sc hands law ear is run.most_good k q newest known soon.call.j soon.call.good (all e)))
+    by false e = absurd (none (none-missing law is run.most_good q known soon.call.j soon.call.good (all e)))

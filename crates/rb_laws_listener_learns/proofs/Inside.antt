@@ -41,8 +41,8 @@ timed-none sizes tick lesson h = by (is_some lesson.decides)
     by true = h
     by false = h
 
-pass-inside : (sc : Scenario) (k n frame : ℕ) (s : Search) → IsInside sc k n s → IsInside sc k n (with_pass sc.plan frame s)
-pass-inside sc k n frame s h = by (s.learns && (frame == s.lesson.frame)) (s.learns && (frame_after frame == s.lesson.frame))
+pass-inside : {sc k n : _} (frame : ℕ) {s : _} → IsInside sc k n s → IsInside sc k n (with_pass sc.plan frame s)
+pass-inside {sc} {k} {n} frame {s} h = by (s.learns && (frame == s.lesson.frame)) (s.learns && (frame_after frame == s.lesson.frame))
   where
     by : (a b : Bool)
         → IsInside sc k n (elim a as (λ _. Search) [
@@ -53,48 +53,48 @@ pass-inside sc k n frame s h = by (s.learns && (frame == s.lesson.frame)) (s.lea
     by false true = h
     by false false = record { had = h.had; none = begun-none sc.sizes (frame_after frame) s }
 
-may-pass-inside : (sc : Scenario) (k n : ℕ) (o : Option ℕ) (s : Search) → IsInside sc k n s → IsInside sc k n (if_pass sc.plan o s)
-may-pass-inside sc k n None s h = h
-may-pass-inside sc k n (Some frame) s h = pass-inside sc k n frame s h
+may-pass-inside : {sc k n : _} (o : Option ℕ) {s : _} → IsInside sc k n s → IsInside sc k n (if_pass sc.plan o s)
+may-pass-inside None h = h
+may-pass-inside (Some frame) h = pass-inside frame h
 
-recorded-inside : (sc : Scenario) (k n j : ℕ) (m : Message) (s : Search) → j < sc.sizes.rmus → sc.sizes.rmus ≤ 16 → IsInside sc k n s → IsInside sc k n (recorded sc.sizes j m s)
-recorded-inside sc k n j m s within few h = by s.learns
+recorded-inside : {sc : Scenario} {k n : ℕ} (j : ℕ) (m : Message) {s : Search} → j < sc.sizes.rmus → sc.sizes.rmus ≤ 16 → IsInside sc k n s → IsInside sc k n (recorded sc.sizes j m s)
+recorded-inside {sc} {k} {n} j m {s} within few h = by s.learns
   where
     by : (b : Bool) → IsInside sc k n (elim b as (λ _. Search) [ true ↦ record s { lesson = noted sc.sizes j s.had m s.lesson } | false ↦ s ])
     by true = record { had = h.had; none = noted-none sc.sizes j s.had m s.lesson within few h.none }
     by false = h
 
-message-inside : (sc : Scenario) (k n j : ℕ) (o : Option Message) (s : Search) → j < sc.sizes.rmus → sc.sizes.rmus ≤ 16 → IsInside sc k n s
+message-inside : {sc : Scenario} {k n : ℕ} (j : ℕ) (o : Option Message) {s : Search} → j < sc.sizes.rmus → sc.sizes.rmus ≤ 16 → IsInside sc k n s
     → IsInside sc k n (if_message sc.sizes sc.plan j o s)
 unfolding hearing_of
-message-inside sc k n j None s within few h = h
-message-inside sc k n j (Some m) s within few h = by (is_call sc.sizes m) (recorded-inside sc k n j m s within few h)
+message-inside j None within few h = h
+message-inside {sc} {k} {n} j (Some m) {s} within few h = by (is_call sc.sizes m) (recorded-inside j m within few h)
   where
     by : (b : Bool) → IsInside sc k n (recorded sc.sizes j m s)
         → IsInside sc k n (elim b as (λ _. Search) [ true ↦ passing sc.sizes sc.plan (newest_with j m.frame (recorded sc.sizes j m s)) | false ↦ recorded sc.sizes j m s ])
     by true r =
-        may-pass-inside sc k n (pass_of sc.sizes sc.plan (newest_with j m.frame (recorded sc.sizes j m s)).newest) (newest_with j m.frame (recorded sc.sizes j m s))
+        may-pass-inside (pass_of sc.sizes sc.plan (newest_with j m.frame (recorded sc.sizes j m s)).newest)
         (record { had = r.had; none = r.none })
     by false r = r
 
-heard-inside : (sc : Scenario) → IsShape sc.sizes → (k n : ℕ) (c : Coming) (s : Search) → IsInside sc k n s → IsInside sc k (suc n) (searching sc.sizes sc.plan c.from c.bytes s)
+heard-inside : {sc : Scenario} → IsShape sc.sizes → {k n : ℕ} (c : Coming) {s : Search} → IsInside sc k n s → IsInside sc k (suc n) (searching sc.sizes sc.plan c.from c.bytes s)
 unfolding searching
-heard-inside sc shape k n c s h = by (nat_lt c.from sc.sizes.rmus) refl (nat_lt s.had (2 ^ 31))
+heard-inside {sc} shape {k} {n} c {s} h = by (nat_lt c.from sc.sizes.rmus) refl (nat_lt s.had (2 ^ 31))
   where
     by : (a : Bool) → nat_lt c.from sc.sizes.rmus ≡ a → (b : Bool)
         → IsInside sc k (suc n) (elim (a && b) as (λ _. Search) [ true ↦ if_message sc.sizes sc.plan c.from (message_in sc.plan.version c.bytes) s | false ↦ s ])
     by true e true =
         let x : IsInside sc k n (if_message sc.sizes sc.plan c.from (message_in sc.plan.version c.bytes) s) =
-        message-inside sc k n c.from (message_in sc.plan.version c.bytes) s (ltb-true c.from sc.sizes.rmus e) shape.most_rmus h in
+        message-inside c.from (message_in sc.plan.version c.bytes) (ltb-true c.from sc.sizes.rmus e) shape.most_rmus h in
         record { had = x.had; none = x.none }
     by true e false = record { had = h.had; none = h.none }
     by false e b = record { had = h.had; none = h.none }
 
-pub kept-inside : (sc : Scenario) → IsShape sc.sizes → (ear : Ear) → IsEar sc ear → IsKept sc ear (IsInside sc)
-kept-inside sc shape ear is = record {
+pub kept-inside : {sc : Scenario} → IsShape sc.sizes → {ear : Ear} → IsEar sc ear → IsKept sc ear (IsInside sc)
+kept-inside {sc} shape is = record {
   first = first-inside sc;
-  heard = λ k n c in_time there s h. heard-inside sc shape k n c s h;
+  heard = λ k n c in_time there s h. heard-inside shape c h;
   decided = λ k n s in_time whole h deciding. record { had = omega (arith, h.had); none = begun-none sc.sizes (frame_after s.lesson.frame) (later s) };
   later = λ k n s in_time whole h going. record { had = omega (arith, h.had); none = h.none };
-  lasts = λ k n s in_time h. not-yet sc ear is k s.had in_time h.had;
+  lasts = λ k n s in_time h. not-yet is in_time h.had;
 }

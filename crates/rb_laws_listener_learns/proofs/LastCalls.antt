@@ -30,8 +30,8 @@ new-last : (good : ℕ → Bool) (P : ℕ → ℕ → Type 0) (n at : ℕ) → g
 new-last good P n at is p below = record { j = n; at = at; good_is = is; holds = p; each = up-to-next good P n at below (λ g. (at, (p, omega arith))) }
 
 -- the last one of those below `n` stays the last one, if `n` has no greater number
-same-last : (good : ℕ → Bool) (P : ℕ → ℕ → Type 0) (n : ℕ) → (h : HasLast good P n) → (good n ≡ true → (b : ℕ) × (P n b × (b ≤ h.at))) → HasLast good P (suc n)
-same-last good P n h here = record { j = h.j; at = h.at; good_is = h.good_is; holds = h.holds; each = up-to-next good P n h.at h.each here }
+same-last : {good : _} (P : ℕ → ℕ → Type 0) {n : ℕ} → (h : HasLast good P n) → (good n ≡ true → (b : ℕ) × (P n b × (b ≤ h.at))) → HasLast good P (suc n)
+same-last {good} P {n} h here = record { j = h.j; at = h.at; good_is = h.good_is; holds = h.holds; each = up-to-next good P n h.at h.each here }
 
 pub last-of : (good : ℕ → Bool) (P : ℕ → ℕ → Type 0) → ((j : ℕ) → good j ≡ true → (at : ℕ) × P j at) → (n : ℕ) → ((j : ℕ) → j < n → good j ≡ false) ⊎ HasLast good P n
 last-of good P each zero = inl (λ j lt. absurd (omega (arith, lt)))
@@ -42,11 +42,11 @@ last-of good P each (suc n) = by (good n) refl (last-of good P each n)
     by true is (inr h) =
         let own : (at : ℕ) × P n at = each n is in
         inr (elim (cases_lt own.0 h.at) [
-          | inl less ↦ same-last good P n h (λ g. (own.0, (own.1, omega (arith, less))))
+          | inl less ↦ same-last P h (λ g. (own.0, (own.1, omega (arith, less))))
           | inr late ↦ new-last good P n own.0 is own.1 (λ i lt g. let e : (b : ℕ) × (P i b × (b ≤ h.at)) = h.each i lt g in (e.0, (e.1.0, omega (arith, e.1.1, late))))
         ])
     by false is (inl none) = inl (λ j lt. elim (cases_lt j n) [ inl before ↦ none j before | inr ge ↦ let same : j ≡ n = omega (arith, lt, ge) in ap good same ∙ is ])
-    by false is (inr h) = inr (same-last good P n h (λ g. let both : true ≡ false = sym g ∙ is in absurd (cc)))
+    by false is (inr h) = inr (same-last P h (λ g. let both : true ≡ false = sym g ∙ is in absurd (cc)))
 
 -- The last call of a frame.
 
@@ -54,10 +54,10 @@ last-of good P each (suc n) = by (good n) refl (last-of good P each n)
 abbrev pub call_moment : Scenario → ℕ → ℕ
 call_moment sc frame = frame * (windows_in sc.sizes + 1) + 3 * sync_slot_of sc.sizes + 2 - 1
 
-pub call-place : (sc : Scenario) (hands : List HandIn) → IsLawful sc → (frame : ℕ) → HasCalls sc hands frame
+pub call-place : {sc : _} (hands : List HandIn) → IsLawful sc → {frame : ℕ} → HasCalls sc hands frame
     → ((moment sc hands (call_moment sc frame)).frame ≡ frame) × ((moment sc hands (call_moment sc frame)).window ≡ 3 * sync_slot_of sc.sizes + 1)
-call-place sc hands law frame called =
-    let p : IsPlaced sc hands frame (sync_slot_of sc.sizes) 2 = placed sc hands law frame (sync_slot_of sc.sizes) 2 (omega arith) (omega arith) (omega arith) called in
+call-place {sc} hands law {frame} called =
+    let p : IsPlaced sc hands frame (sync_slot_of sc.sizes) 2 = placed hands law frame (sync_slot_of sc.sizes) 2 (omega arith) (omega arith) (omega arith) called in
     (p.frame_is, omega (arith, p.window_is))
 
 -- the last call of the frame comes with this stamp, and no call of it before the first tick
@@ -68,16 +68,16 @@ pub record IsLastCall (sc : Scenario) (hands : List HandIn) (ear : Ear) (frame l
   pub frame_is : (moment sc hands call.n).frame ≡ frame
   pub each : (j : ℕ) → is_always_good sc hands j ≡ true → (at : ℕ) × (CallsToo sc hands ear call.n j at × ((1 ≤ at) × (at ≤ last)))
 
-pub last-call : (sc : Scenario) (hands : List HandIn) → IsLawful sc → (ear : Ear) → IsEar sc ear → HearsTheRun sc hands ear → (frame : ℕ) → HasCalls sc hands frame
+pub last-call : {sc hands : _} → IsLawful sc → {ear : _} → IsEar sc ear → HearsTheRun sc hands ear → {frame : ℕ} → HasCalls sc hands frame
     → ((j at : ℕ) → is_always_good sc hands j ≡ true → CallsToo sc hands ear (call_moment sc frame) j at → 1 ≤ at) → (last : ℕ) × IsLastCall sc hands ear frame last
-last-call sc hands law ear is run frame called some =
-    by (last-of (is_always_good sc hands) (λ j at. CallsToo sc hands ear (call_moment sc frame) j at) (call-of sc hands law ear is run (call_moment sc frame) called place.1) 16)
+last-call {sc} {hands} law {ear} is run {frame} called some =
+    by (last-of (is_always_good sc hands) (λ j at. CallsToo sc hands ear (call_moment sc frame) j at) (call-of law is run (call_moment sc frame) called place.1) 16)
   where
     place : ((moment sc hands (call_moment sc frame)).frame ≡ frame) × ((moment sc hands (call_moment sc frame)).window ≡ 3 * sync_slot_of sc.sizes + 1)
-    place = call-place sc hands law frame called
+    place = call-place hands law called
 
     g : SomeGood sc hands
-    g = some-good sc hands law run.most_good
+    g = some-good hands law run.most_good
 
     by : ((j : ℕ) → j < 16 → is_always_good sc hands j ≡ false) ⊎ HasLast (is_always_good sc hands) (λ j at. CallsToo sc hands ear (call_moment sc frame) j at) 16
         → (last : ℕ) × IsLastCall sc hands ear frame last
@@ -103,21 +103,21 @@ last-call sc hands law ear is run frame called some =
       },
     )
 
-pub no-later : (sc : Scenario) (hands : List HandIn) → IsLawful sc → (ear : Ear) → (frame last : ℕ) → IsLastCall sc hands ear frame last → (j at : ℕ) → is_always_good sc hands j ≡ true
+pub no-later : {sc hands : _} → IsLawful sc → {ear : _} → {frame last : ℕ} → IsLastCall sc hands ear frame last → {j at : ℕ} → is_always_good sc hands j ≡ true
     → IsHeardCall sc hands ear j (frame % 65536) at → at ≤ last
-no-later sc hands law ear frame last l j at good c = omega (arith, e.1.1.1, stamps)
+no-later {sc} {hands} law {ear} {last} l {j} {at} good c = omega (arith, e.1.1.1, stamps)
   where
     e : (b : ℕ) × (CallsToo sc hands ear l.call.n j b × ((1 ≤ b) × (b ≤ last)))
     e = l.each j good
 
     moments : l.call.n ≡ c.n
     moments =
-        same-moment sc hands law ear l.i j (frame % 65536) (frame % 65536) last at l.call c
-        (same-frame-number sc hands law ear l.i j (frame % 65536) (frame % 65536) last at l.call c refl)
+        same-moment law l.call c
+        (same-frame-number law l.call c refl)
 
     sendings : e.1.0.calls.sending ≡ c.sending
     sendings =
-        same-sent sc hands c.n j e.1.0.calls.sending c.sending (subst (λ k. SendsIn sc hands k j e.1.0.calls.sending) moments e.1.0.calls.sent) c.sent
+        same-sent (subst (λ k. SendsIn sc hands k j e.1.0.calls.sending) moments e.1.0.calls.sent) c.sent
 
     stamps : e.0 ≡ at
     stamps =

@@ -51,7 +51,7 @@ first-learns : (sc : Scenario) (hands : List HandIn) (ear : Ear) → LearnsWell 
 unfolding first_search
 first-learns sc hands ear = record {
   pass = λ q is.
-      let b : BeginsAt sc.sizes sc.plan (replicate 16 (let none : Option Call = None in none)) q = pass-at sc.sizes sc.plan (replicate 16 (let none : Option Call = None in none)) q is in
+      let b : BeginsAt sc.sizes sc.plan (replicate 16 (let none : Option Call = None in none)) q = pass-at sc.sizes sc.plan (replicate 16 (let none : Option Call = None in none)) is in
       let both : None ≡ Some b.call = sym (none-there 16 b.i) ∙ b.there in absurd (cc);
   lesson = λ learns. let e : false ≡ true = learns in cc;
 }
@@ -62,9 +62,9 @@ nothing-long : length nothing_recorded ≡ 1808
 unfolding nothing_recorded
 nothing-long = length-replicate 1808 Silent
 
-begun : (sc : Scenario) (hands : List HandIn) (ear : Ear) (k n number since at : ℕ) → IsGoodCall sc hands ear number at → since ≤ at + reach_of sc.plan
+begun : {sc hands ear : _} (k n : ℕ) {number : ℕ} (since : ℕ) {at : ℕ} → IsGoodCall sc hands ear number at → since ≤ at + reach_of sc.plan
     → ((b o : ℕ) → IsEarlier b o k n → b ≤ since) → LearnsFrom sc hands ear k n (lesson_on (frame_after number))
-begun sc hands ear k n number since at call soon before = record {
+begun {sc} {ear} k n {number} since {at} call soon before = record {
   number = number;
   next = refl;
   at = at;
@@ -79,9 +79,9 @@ begun sc hands ear k n number since at call soon before = record {
 -- A lesson goes on.
 
 -- `LearnsFrom` holds with the records of later messages too
-with-noted : (sc : Scenario) (hands : List HandIn) (ear : Ear) (k n l o : ℕ) (a b : Lesson) → (h : LearnsFrom sc hands ear k n a) → b.frame ≡ a.frame → b.decides ≡ a.decides
+with-noted : {sc : Scenario} {hands : List HandIn} {ear : Ear} {k n l o : ℕ} {a b : Lesson} → (h : LearnsFrom sc hands ear k n a) → b.frame ≡ a.frame → b.decides ≡ a.decides
     → length b.records ≡ length a.records → AreNotedBy sc ear h.since l o b → LearnsFrom sc hands ear l o b
-with-noted sc hands ear k n l o a b h frame decides long noted = record {
+with-noted {sc} {hands} {ear} h frame decides long noted = record {
   number = h.number;
   next = frame ∙ h.next;
   at = h.at;
@@ -109,22 +109,22 @@ room : (sc : Scenario) → IsShape sc.sizes → (lesson : Lesson) → length les
 room sc shape lesson long = omega (arith, long, shape.most_bius, shape.most_rmus, shape.most_slots)
 
 -- message n is of no RMU, or no message
-not-there : (sc : Scenario) (hands : List HandIn) (ear : Ear) (k n : ℕ) (c : Coming) (s : Search) → slice_get (ear.heard k) n ≡ Some c
+not-there : {sc : Scenario} {hands : List HandIn} {ear : Ear} {k n : ℕ} {c : Coming} {s : Search} → slice_get (ear.heard k) n ≡ Some c
     → (c.from < sc.sizes.rmus → (m : Message) → message_in sc.plan.version c.bytes ≡ Some m → ⊥) → LearnsWell sc hands ear k n s → LearnsWell sc hands ear k (suc n) s
-not-there sc hands ear k n c s there none h = record {
+not-there {sc} {hands} {ear} {k} {n} {c} {s} there none h = record {
   pass = h.pass;
   lesson = λ learns.
       let l : LearnsFrom sc hands ear k n s.lesson = h.lesson learns in
-      with-noted sc hands ear k n k (suc n) s.lesson s.lesson l refl refl refl
-      (none-noted sc ear l.since k n s.lesson (λ slot j m within placed.
+      with-noted l refl refl refl
+      (none-noted l.since s.lesson (λ slot j m within placed.
       let same : placed.coming ≡ c = same_Some placed.coming c (sym placed.there ∙ there) in
       let from : j ≡ c.from = sym placed.from ∙ ap (λ (x : Coming). x.from) same in
       none (omega (arith, within, from)) m (ap (λ (x : Coming). message_in sc.plan.version x.bytes) (sym same) ∙ placed.reads)) l.noted);
 }
 
-recorded-learns : (sc : Scenario) (hands : List HandIn) (ear : Ear) → IsShape sc.sizes → (k n : ℕ) (c : Coming) (m : Message) (s : Search) → slice_get (ear.heard k) n ≡ Some c
+recorded-learns : {sc : Scenario} {hands : List HandIn} {ear : Ear} → IsShape sc.sizes → {k n : ℕ} {c : Coming} {m : Message} {s : Search} → slice_get (ear.heard k) n ≡ Some c
     → c.from < sc.sizes.rmus → message_in sc.plan.version c.bytes ≡ Some m → s.had ≡ k → LearnsWell sc hands ear k n s → LearnsWell sc hands ear k (suc n) (recorded sc.sizes c.from m s)
-recorded-learns sc hands ear shape k n c m s there within reads had h = record {
+recorded-learns {sc} {hands} {ear} shape {k} {n} {c} {m} {s} there within reads had h = record {
   pass = λ q is.
       let known = h.pass q (ap (pass_of sc.sizes sc.plan) (sym only.newest) ∙ is) in
       (only.learns ∙ known.0, elim known.1 [ inl both ↦ inl (only.frame ∙ both.0, ap is_some only.decides ∙ both.1) | inr after ↦ inr (only.frame ∙ after) ]);
@@ -137,9 +137,9 @@ recorded-learns sc hands ear shape k n c m s there within reads had h = record {
     with-it : LearnsFrom sc hands ear k n s.lesson → LearnsFrom sc hands ear k (suc n) (noted sc.sizes c.from s.had m s.lesson)
     with-it l =
         let parts : NotedParts s.lesson (noted sc.sizes c.from s.had m s.lesson) = noted-parts sc.sizes c.from s.had m s.lesson in
-        with-noted sc hands ear k n k (suc n) s.lesson (noted sc.sizes c.from s.had m s.lesson) l parts.frame parts.decides parts.long
+        with-noted l parts.frame parts.decides parts.long
         (subst (λ t. AreNotedBy sc ear l.since k (suc n) (noted sc.sizes c.from t m s.lesson)) (sym had)
-        (noted-noted sc ear l.since k n c.from m s.lesson shape within (room sc shape s.lesson l.long) c there refl reads l.noted))
+        (noted-noted sc ear l.since k n s.lesson shape within (room sc shape s.lesson l.long) there refl reads l.noted))
 
     by : (b : Bool) → s.learns ≡ b → b ≡ true → LearnsFrom sc hands ear k (suc n) (elim b as (λ _. Search) [ true ↦ record s { lesson = noted sc.sizes c.from s.had m s.lesson } | false ↦ s ]).lesson
     by true e learns = with-it (h.lesson e)
@@ -154,9 +154,9 @@ timed-some tick lesson = by (is_some lesson.decides) refl
     by true e = e
     by false e = refl
 
-timed-learns : (sc : Scenario) (hands : List HandIn) (ear : Ear) (k n tick : ℕ) (lesson : Lesson) → (is_some lesson.decides ≡ false → IsFixed sc hands ear lesson.frame tick)
+timed-learns : {sc : Scenario} {hands : List HandIn} {ear : Ear} {k n : ℕ} (tick : ℕ) {lesson : Lesson} → (is_some lesson.decides ≡ false → IsFixed sc hands ear lesson.frame tick)
     → LearnsFrom sc hands ear k n lesson → LearnsFrom sc hands ear k n (timed tick lesson)
-timed-learns sc hands ear k n tick lesson fixed h = by (is_some lesson.decides) refl
+timed-learns {sc} {hands} {ear} {k} {n} tick {lesson} fixed h = by (is_some lesson.decides) refl
   where
     by : (b : Bool) → is_some lesson.decides ≡ b → LearnsFrom sc hands ear k n (elim b as (λ _. Lesson) [ true ↦ lesson | false ↦ record lesson { decides = Some tick } ])
     by true e = h
@@ -172,8 +172,8 @@ timed-learns sc hands ear k n tick lesson fixed h = by (is_some lesson.decides) 
       fixed = λ t is. subst (IsFixed sc hands ear lesson.frame) (same_Some tick t is) (fixed e);
     }
 
-not-after : (q : ℕ) → q ≡ frame_after q → ⊥
-not-after q e = omega (arith, e)
+not-after : {q : ℕ} → q ≡ frame_after q → ⊥
+not-after e = omega (arith, e)
 
 both-false : (a b : Bool) → (a && b) ≡ false → a ≡ true → b ≡ true → ⊥
 both-false true true h p q = cc
@@ -181,11 +181,11 @@ both-false true false h p q = cc
 both-false false b h p q = cc
 
 -- a call, and the pass that it may make
-pass-learns : (sc : Scenario) (hands : List HandIn) → IsLawful sc → (ear : Ear) → IsEar sc ear → HearsTheRun sc hands ear → (k n from q : ℕ) (m : Message) (s : Search) → k < ear.ticks
+pass-learns : {sc hands : _} → IsLawful sc → {ear : _} → IsEar sc ear → HearsTheRun sc hands ear → {k n : ℕ} (from : ℕ) {q : ℕ} (m : Message) (s : Search) → k < ear.ticks
     → from < sc.sizes.rmus → IsWell sc hands ear k n (recorded sc.sizes from m s) → IsWell sc hands ear k n (with_call sc.sizes from m s) → IsLatest sc ear k n (recorded sc.sizes from m s)
     → LearnsWell sc hands ear k (suc n) (recorded sc.sizes from m s) → pass_of sc.sizes sc.plan (with_call sc.sizes from m s).newest ≡ Some q
     → LearnsWell sc hands ear k (suc n) (if_pass sc.plan (Some q) (with_call sc.sizes from m s))
-pass-learns sc hands law ear is run k n from q m s in_time within before after latest h made =
+pass-learns {sc} {hands} law {ear} is run {k} {n} from {q} m s in_time within before after latest h made =
     pass-by sc.plan q w (LearnsWell sc hands ear k (suc n)) (record { fixes = fixes; stays = stays; begins = begins })
   where
     w : Search
@@ -196,8 +196,8 @@ pass-learns sc hands law ear is run k n from q m s in_time within before after l
 
     soon : (pass_of sc.sizes sc.plan (recorded sc.sizes from m s).newest ≡ Some q → ⊥) → IsSoon sc hands ear q k
     soon none =
-        pass-is-soon sc hands ear law.sizes run.most_good k from q call (recorded sc.sizes from m s).newest (omega (arith, latest.long, within, law.sizes.most_rmus)) before.had before.inside
-        (well-known sc hands ear k n (with_call sc.sizes from m s) after) none made
+        pass-is-soon law.sizes run.most_good from call (recorded sc.sizes from m s).newest (omega (arith, latest.long, within, law.sizes.most_rmus)) before.had before.inside
+        (well-known after) none made
 
     same-pass : (p : ℕ) → pass_of sc.sizes sc.plan (with_call sc.sizes from m s).newest ≡ Some p → q ≡ p
     same-pass p is_p = same_Some q p (sym made ∙ is_p)
@@ -213,7 +213,7 @@ pass-learns sc hands law ear is run k n from q m s in_time within before after l
         ),
       );
       lesson = λ again.
-          timed-learns sc hands ear k (suc n) ((with_call sc.sizes from m s).had + reach_of sc.plan) (with_call sc.sizes from m s).lesson (fixed (h.lesson learns)) (h.lesson learns);
+          timed-learns ((with_call sc.sizes from m s).had + reach_of sc.plan) (fixed (h.lesson learns)) (h.lesson learns);
     }
       where
         fixed : LearnsFrom sc hands ear k (suc n) (recorded sc.sizes from m s).lesson → is_some (with_call sc.sizes from m s).lesson.decides ≡ false
@@ -222,13 +222,13 @@ pass-learns sc hands law ear is run k n from q m s in_time within before after l
             let no_pass : pass_of sc.sizes sc.plan (recorded sc.sizes from m s).newest ≡ Some q → ⊥ =
             λ was. elim (h.pass q was).1 [
               | inl both ↦ let clash : false ≡ true = sym none ∙ both.1 in cc
-              | inr next ↦ not-after q (frame ∙ next)
+              | inr next ↦ not-after (frame ∙ next)
             ] in
             record {
               first = k;
               tick_is = ap (λ t. t + reach_of sc.plan) before.had;
               call = subst (λ f. IsStillToCome sc hands ear f k) frame
-                  (still-to-come sc hands law ear is run k n l.number q (recorded sc.sizes from m s).newest in_time (well-known sc hands ear k n (recorded sc.sizes from m s) before) latest.latest l.at l.call
+                  (still-to-come law is run in_time (well-known before) latest.latest l.call
                   (frame ∙ l.next) (soon no_pass) no_pass);
             }
 
@@ -255,37 +255,37 @@ pass-learns sc hands law ear is run k n from q m s in_time within before after l
         let s1 : IsSoon sc hands ear q k = soon no_pass in
         record {
           pass = λ p is_p. (refl, inr (ap frame_after (same-pass p is_p)));
-          lesson = λ learns. begun sc hands ear k (suc n) q k s1.at s1.call s1.high (λ t o e. earlier-le t o k (suc n) e);
+          lesson = λ learns. begun k (suc n) k s1.call s1.high (λ t o e. earlier-le t o k (suc n) e);
         }
 
-call-learns : (sc : Scenario) (hands : List HandIn) → IsLawful sc → (ear : Ear) → IsEar sc ear → HearsTheRun sc hands ear → (k n from : ℕ) (m : Message) (s : Search) → k < ear.ticks
+call-learns : {sc hands : _} → IsLawful sc → {ear : _} → IsEar sc ear → HearsTheRun sc hands ear → {k n : ℕ} (from : ℕ) (m : Message) (s : Search) → k < ear.ticks
     → from < sc.sizes.rmus → IsWell sc hands ear k n (recorded sc.sizes from m s) → IsWell sc hands ear k n (with_call sc.sizes from m s) → IsLatest sc ear k n (recorded sc.sizes from m s)
     → LearnsWell sc hands ear k (suc n) (recorded sc.sizes from m s) → (o : Option ℕ) → pass_of sc.sizes sc.plan (with_call sc.sizes from m s).newest ≡ o
     → LearnsWell sc hands ear k (suc n) (if_pass sc.plan o (with_call sc.sizes from m s))
-call-learns sc hands law ear is run k n from m s in_time within before after latest h None made =
+call-learns law is run from m s in_time within before after latest h None made =
     record { pass = λ q is_q. let both : None ≡ Some q = sym made ∙ is_q in absurd (cc); lesson = h.lesson }
-call-learns sc hands law ear is run k n from m s in_time within before after latest h (Some q) made =
-    pass-learns sc hands law ear is run k n from q m s in_time within before after latest h made
+call-learns law is run from m s in_time within before after latest h (Some q) made =
+    pass-learns law is run from m s in_time within before after latest h made
 
-heard-learns : (sc : Scenario) (hands : List HandIn) → IsLawful sc → (ear : Ear) → IsEar sc ear → HearsTheRun sc hands ear → (k n : ℕ) (c : Coming) → k < ear.ticks
-    → slice_get (ear.heard k) n ≡ Some c → (s : Search) → IsFresh sc hands ear k n s → LearnsWell sc hands ear k (suc n) (searching sc.sizes sc.plan c.from c.bytes s)
-heard-learns sc hands law ear is run k n c in_time there s h =
-    search-by sc.sizes sc.plan c.from c.bytes s (LearnsWell sc hands ear k (suc n)) (going sc ear is k s.had in_time h.well.had) (record {
-      nothing = λ none. not-there sc hands ear k n c s there none h.learns;
-      message = λ within m reads other. recorded-learns sc hands ear law.sizes k n c m s there within reads h.well.had h.learns;
+heard-learns : {sc hands : _} → IsLawful sc → {ear : _} → IsEar sc ear → HearsTheRun sc hands ear → {k n c : _} → k < ear.ticks
+    → slice_get (ear.heard k) n ≡ Some c → {s : _} → IsFresh sc hands ear k n s → LearnsWell sc hands ear k (suc n) (searching sc.sizes sc.plan c.from c.bytes s)
+heard-learns {sc} {hands} law {ear} is run {k} {n} {c} in_time there {s} h =
+    search-by c.bytes (LearnsWell sc hands ear k (suc n)) (going is in_time h.well.had) (record {
+      nothing = λ none. not-there there none h.learns;
+      message = λ within m reads other. recorded-learns law.sizes there within reads h.well.had h.learns;
       call = λ within m reads calls o made.
-          let before : IsWell sc hands ear k n (recorded sc.sizes c.from m s) = recorded-well sc hands ear k n c.from m s h.well in
-          call-learns sc hands law ear is run k n c.from m s in_time within before
-          (newest-well sc hands ear k n c.from m.frame (recorded sc.sizes c.from m s) within (λ good. known within m reads calls good) before)
-          (recorded-latest sc ear k n c.from m s h.latest) (recorded-learns sc hands ear law.sizes k n c m s there within reads h.well.had h.learns) o made;
+          let before : IsWell sc hands ear k n (recorded sc.sizes c.from m s) = recorded-well c.from m h.well in
+          call-learns law is run c.from m s in_time within before
+          (newest-well c.from m.frame within (λ good. known within m reads calls good) before)
+          (recorded-latest c.from m h.latest) (recorded-learns law.sizes there within reads h.well.had h.learns) o made;
     })
   where
     known : c.from < sc.sizes.rmus → (m : Message) → message_in sc.plan.version c.bytes ≡ Some m → is_call sc.sizes m ≡ true → is_always_good sc hands c.from ≡ true
         → IsHeardCall sc hands ear c.from m.frame k
     known within m reads calls good =
         elim (run.only k c in_time (record { nth = n; there = there }) within) [
-          | inl of_good ↦ heard-call sc hands law ear is k c in_time (record { nth = n; there = there }) of_good m reads calls
-          | inr faulty ↦ absurd (no-onset sc hands c good faulty)
+          | inl of_good ↦ heard-call law is in_time (record { nth = n; there = there }) of_good reads calls
+          | inr faulty ↦ absurd (no-onset good faulty)
         ]
 
 -- Ticks.
@@ -295,17 +295,17 @@ ticked None k h = cc
 ticked (Some t) k h = ap (λ x. Some x) (eqb-true t k h)
 
 -- if the search decides, there is no pass of the frame before
-decides-late : (sc : Scenario) (hands : List HandIn) → IsLawful sc → (ear : Ear) → IsEar sc ear → HearsTheRun sc hands ear → (k n : ℕ) (s : Search) → k < ear.ticks
-    → slice_get (ear.heard k) n ≡ None → IsWell sc hands ear k n s → IsLatest sc ear k n s → s.lesson.decides ≡ Some k → (q : ℕ) → pass_of sc.sizes sc.plan s.newest ≡ Some q
+decides-late : {sc hands : _} → IsLawful sc → {ear : _} → IsEar sc ear → HearsTheRun sc hands ear → {k n s : _} → k < ear.ticks
+    → slice_get (ear.heard k) n ≡ None → IsWell sc hands ear k n s → IsLatest sc ear k n s → s.lesson.decides ≡ Some k → {q : ℕ} → pass_of sc.sizes sc.plan s.newest ≡ Some q
     → s.lesson.frame ≡ frame_after q → ⊥
-decides-late sc hands law ear is run k n s in_time whole well latest decides q made next =
-    late (latest.latest g.j at.0 there.0 (always-counts sc hands g.j g.good) there.1 (whole-earlier ear at.0 there.0 k n there.1.coming there.1.there whole by_now))
+decides-late {sc} {hands} law {ear} is run {k} {n} {s} in_time whole well latest decides {q} made next =
+    late (latest.latest g.j at.0 there.0 (always-counts sc hands g.j g.good) there.1 (whole-earlier ear at.0 there.0 k n there.1.there whole by_now))
   where
     b : BeginsAt sc.sizes sc.plan s.newest q
-    b = pass-at sc.sizes sc.plan s.newest q made
+    b = pass-at sc.sizes sc.plan s.newest made
 
     g : GoodInPass sc hands s.newest b.call.frame b.call.at
-    g = good-in-pass sc hands law.sizes run.most_good s.newest q well.inside b
+    g = good-in-pass sc hands law.sizes run.most_good well.inside b
 
     old : IsHeardCall sc hands ear g.j g.there.call.frame g.there.call.at × (g.there.call.at ≤ k)
     old = well.newest g.j g.there.call g.good g.there.is
@@ -314,14 +314,14 @@ decides-late sc hands law ear is run k n s in_time whole well latest decides q m
     after = well.decides k decides
 
     at : (t : ℕ) × CallsToo sc hands ear after.call.n g.j t
-    at = call-at sc hands law ear is run after.j s.lesson.frame after.at after.call g.j g.good
+    at = call-at law is run after.call g.j g.good
 
     of_q : g.there.call.frame ≡ q
     of_q = g.there.falls.frame_is ∙ b.frame_is
 
     frames : (moment sc hands after.call.n).frame ≡ (moment sc hands old.0.n).frame + 1
     frames =
-        next-frame-number sc hands law ear g.j after.j g.there.call.frame s.lesson.frame g.there.call.at after.at old.0 after.call (next ∙ ap frame_after (sym of_q))
+        next-frame-number law old.0 after.call (next ∙ ap frame_after (sym of_q))
 
     gap : g.there.call.at + reach_of sc.plan < at.0
     gap =
@@ -329,35 +329,35 @@ decides-late sc hands law ear is run k n s in_time whole well latest decides q m
         g.there.call.at at.0 old.0.some old.0.stamped at.1.stamped
 
     mine : IsHeardCall sc hands ear g.j s.lesson.frame at.0
-    mine = as-call sc hands ear after.j s.lesson.frame after.at after.call g.j at.0 at.1 (omega (arith, gap))
+    mine = as-call after.call at.1 (omega (arith, gap))
 
     by_now : at.0 ≤ k
     by_now =
         omega (
           arith,
           after.late,
-          calls-together sc hands law ear is after.j g.j s.lesson.frame s.lesson.frame after.at at.0 after.call mine
-              (same-frame-number sc hands law ear after.j g.j s.lesson.frame s.lesson.frame after.at at.0 after.call mine refl),
+          calls-together law is after.call mine
+              (same-frame-number law after.call mine refl),
         )
 
     there : (i : ℕ) × IsCallAt sc ear at.0 i g.j
-    there = call-there sc hands law ear after.call.n g.j at.0 at.1 (omega (arith, gap)) (omega (arith, by_now, in_time))
+    there = call-there law at.1 (omega (arith, gap)) (omega (arith, by_now, in_time))
 
     late : IsLate at.0 (get_or s.newest g.j None) → ⊥
     late l = let now : IsLate at.0 (Some g.there.call) = subst (IsLate at.0) g.there.is l in let le : at.0 ≤ g.there.call.at = now in omega (arith, le, gap)
 
-decided-learns : (sc : Scenario) (hands : List HandIn) → IsLawful sc → (ear : Ear) → IsEar sc ear → HearsTheRun sc hands ear → (k n : ℕ) (s : Search) → k < ear.ticks
+decided-learns : {sc hands : _} → IsLawful sc → {ear : _} → IsEar sc ear → HearsTheRun sc hands ear → {k n s : _} → k < ear.ticks
     → slice_get (ear.heard k) n ≡ None → IsFresh sc hands ear k n s → is_deciding s ≡ true → LearnsWell sc hands ear (suc k) 0 (learning (frame_after s.lesson.frame) (later s))
-decided-learns sc hands law ear is run k n s in_time whole h deciding = record {
+decided-learns {sc} {hands} law {ear} is run {k} {s} in_time whole h deciding = record {
   pass = λ q made. (
     refl,
     inr (elim (h.learns.pass q made).1 [
       | inl both ↦ ap frame_after both.0
-      | inr next ↦ absurd (decides-late sc hands law ear is run k n s in_time whole h.well h.latest at_k q made next)
+      | inr next ↦ absurd (decides-late law is run in_time whole h.well h.latest at_k made next)
     ]),
   );
   lesson = λ again.
-      begun sc hands ear (suc k) 0 s.lesson.frame k fixed.call.at fixed.call.call (omega (arith, fixed.tick_is, fixed.call.late)) (λ t o e. earlier-by t o k e);
+      begun (suc k) 0 k fixed.call.call (omega (arith, fixed.tick_is, fixed.call.late)) (λ t o e. earlier-by t o k e);
 }
   where
     learns : s.learns ≡ true
@@ -369,40 +369,40 @@ decided-learns sc hands law ear is run k n s in_time whole h deciding = record {
     fixed : IsFixed sc hands ear s.lesson.frame k
     fixed = (h.learns.lesson learns).fixed k at_k
 
-later-learns : (sc : Scenario) (hands : List HandIn) (ear : Ear) (k n : ℕ) (s : Search) → slice_get (ear.heard k) n ≡ None → LearnsWell sc hands ear k n s → LearnsWell sc hands ear (suc k) 0 (later s)
-later-learns sc hands ear k n s whole h = record {
+later-learns : {sc : Scenario} {hands : List HandIn} {ear : Ear} {k n : ℕ} {s : Search} → slice_get (ear.heard k) n ≡ None → LearnsWell sc hands ear k n s → LearnsWell sc hands ear (suc k) 0 (later s)
+later-learns {sc} {hands} {ear} {k} {n} {s} whole h = record {
   pass = h.pass;
   lesson = λ learns.
       let l : LearnsFrom sc hands ear k n s.lesson = h.lesson learns in
-      with-noted sc hands ear k n (suc k) 0 s.lesson s.lesson l refl refl refl (tick-noted sc ear l.since k n s.lesson whole l.noted);
+      with-noted l refl refl refl (tick-noted sc ear l.since k n s.lesson whole l.noted);
 }
 
-pub kept-fresh : (sc : Scenario) (hands : List HandIn) → IsLawful sc → (ear : Ear) → IsEar sc ear → HearsTheRun sc hands ear → IsKept sc ear (IsFresh sc hands ear)
-kept-fresh sc hands law ear is run = record {
+pub kept-fresh : {sc hands : _} → IsLawful sc → {ear : _} → IsEar sc ear → HearsTheRun sc hands ear → IsKept sc ear (IsFresh sc hands ear)
+kept-fresh {sc} {hands} law {ear} is run = record {
   first = record { well = wells.first; latest = latests.first; learns = first-learns sc hands ear };
   heard = λ k n c in_time there s h. record {
     well = wells.heard k n c in_time there s h.well;
     latest = latests.heard k n c in_time there s h.latest;
-    learns = heard-learns sc hands law ear is run k n c in_time there s h;
+    learns = heard-learns law is run in_time there h;
   };
   decided = λ k n s in_time whole h deciding. record {
     well = wells.decided k n s in_time whole h.well deciding;
     latest = latests.decided k n s in_time whole h.latest deciding;
-    learns = decided-learns sc hands law ear is run k n s in_time whole h deciding;
+    learns = decided-learns law is run in_time whole h deciding;
   };
   later = λ k n s in_time whole h on. record {
     well = wells.later k n s in_time whole h.well on;
     latest = latests.later k n s in_time whole h.latest on;
-    learns = later-learns sc hands ear k n s whole h.learns;
+    learns = later-learns whole h.learns;
   };
-  lasts = λ k n s in_time h. not-yet sc ear is k s.had in_time h.well.had;
+  lasts = λ k n s in_time h. not-yet is in_time h.well.had;
 }
   where
     wells : IsKept sc ear (IsWell sc hands ear)
-    wells = kept-well sc hands law ear is run
+    wells = kept-well law is run
 
     latests : IsKept sc ear (IsLatest sc ear)
-    latests = kept-latest sc ear law.sizes is
+    latests = kept-latest law.sizes is
 
-pub fresh-at : (sc : Scenario) (hands : List HandIn) → IsLawful sc → (ear : Ear) → IsEar sc ear → HearsTheRun sc hands ear → (k : ℕ) → k < ear.ticks → HoldsAt ear (IsFresh sc hands ear) k (listening_at sc ear k)
-fresh-at sc hands law ear is run k in_time = always-at sc ear (IsFresh sc hands ear) (kept-fresh sc hands law ear is run) k in_time
+pub fresh-at : {sc hands : _} → IsLawful sc → {ear : _} → IsEar sc ear → HearsTheRun sc hands ear → (k : ℕ) → k < ear.ticks → HoldsAt ear (IsFresh sc hands ear) k (listening_at sc ear k)
+fresh-at {sc} {hands} law {ear} is run k in_time = always-at (IsFresh sc hands ear) (kept-fresh law is run) k in_time

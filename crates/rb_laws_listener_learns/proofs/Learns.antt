@@ -13,32 +13,32 @@ use Rattle.rb_laws_listener_learns.proofs.{Ahead.{FindsFirst, call-place, finds-
 
 -- The premise, by what is recorded.
 
-pub learned-verdict : (sc : Scenario) (ear : Ear) (learned frame : ℕ) (records : List Sense) (stages : List JudgedStage) → frame ≡ learned → verdict_with (seen_in sc ear learned records frame) stages ≡ None
+pub learned-verdict : (sc : Scenario) (ear : Ear) {learned frame : ℕ} (records : List Sense) (stages : List JudgedStage) → frame ≡ learned → verdict_with (seen_in sc ear learned records frame) stages ≡ None
     → verdict_with (seen_learned sc ear learned records) stages ≡ None
-learned-verdict sc ear learned frame records stages is h =
+learned-verdict sc ear {learned} records stages is h =
     subst (λ (b : Bool). verdict_with (λ window s. if b then seen_learned sc ear learned records window s else seen_closed sc ear learned (seen_by sc ear learned window ear.ticks)) stages ≡ None)
     (eq_self learned) (subst (λ x. verdict_with (seen_in sc ear learned records x) stages ≡ None) is h)
 
 -- The whole.
 
-frame-number : (frame learned most number : ℕ) → learned ≤ most → most ≤ 4096 → number ≡ learned % 65536 → frame ≡ (number + 1) % 65536 → frame ≡ learned + 1
-frame-number frame learned most number le small is e = omega (arith, le, small, is, e)
+frame-number : {frame : ℕ} (learned most : ℕ) {number : ℕ} → learned ≤ most → most ≤ 4096 → number ≡ learned % 65536 → frame ≡ (number + 1) % 65536 → frame ≡ learned + 1
+frame-number learned most le small is e = omega (arith, le, small, is, e)
 
-learns-after : (sc : Scenario) (hands : List HandIn) → IsLawful sc → (ear : Ear) → IsEar sc ear → HearsTheRun sc hands ear → (f tick : ℕ) (s : Search) → DecidesBy sc hands ear (suc f) tick s
+learns-after : {sc hands : _} → IsLawful sc → {ear : _} → IsEar sc ear → HearsTheRun sc hands ear → (f : ℕ) {tick s : _} → DecidesBy sc hands ear (suc f) tick s
     → IsCalm sc hands ear (suc f) s.lesson.records (suc f) (sync_slot_of sc.sizes)
     → (first : First) × ((first_of sc.sizes sc.plan s.lesson ≡ Some first) × HasLearned sc hands ear (suc f) tick s.lesson.records first)
-learns-after sc hands law ear is run f tick s decides calm = (
+learns-after {sc} {hands} law {ear} is run f {tick} {s} decides calm = (
   first_by sc.sizes sc.plan s.lesson bius rmus found.middle,
   (
     found.first_is,
     record {
-      frame = frame-number ((s.lesson.frame + 1) % 65536) (suc f) sc.frames s.lesson.frame (in-run sc hands law (suc f) decides.called) law.frames.1 decides.lesson refl;
+      frame = frame-number (suc f) sc.frames (in-run hands law (suc f) decides.called) law.frames.1 decides.lesson refl;
       ahead = found.ahead;
-      trusted = trusted-in-sync sc hands law ear (suc f) s.lesson.records k;
+      trusted = trusted-in-sync law k;
       trusted_next = record { biu = λ me i st h. next-bius me i st h; rmu = λ me i st h. next-rmus me i st h };
       calls = calls;
       stamped = λ j stamp within recorded.
-          stamped-call sc hands ear is (suc f) tick l.0 l.1.from.since j stamp decides.in_time (record_of s.lesson.records (sync_slot_of sc.sizes) j)
+          stamped-call hands is (suc f) l.0 l.1.from.since j decides.in_time (record_of s.lesson.records (sync_slot_of sc.sizes) j)
           (subst (λ x. IsNotedBy sc ear l.1.from.since tick l.0 x (sync_slot_of sc.sizes) j (record_of s.lesson.records (sync_slot_of sc.sizes) j)) decides.lesson
           (l.1.from.noted j within (sync_slot_of sc.sizes) (omega arith))) recorded;
       middle = found.middle;
@@ -55,24 +55,24 @@ learns-after sc hands law ear is run f tick s decides calm = (
     rmus = trusted_rmus sc.sizes s.lesson.records
 
     l : (o : ℕ) × HasLesson sc hands ear (suc f) tick o s
-    l = has-lesson sc hands law ear is run (suc f) tick s decides
+    l = has-lesson law is run decides
 
     k : KnowsAt sc hands ear (suc f) s.lesson.records
-    k = knows-at sc hands law ear is run (suc f) tick s decides
+    k = knows-at law is run decides
 
     found : FindsFirst sc s tick
-    found = finds-first sc hands law ear is run (suc f) tick s decides
+    found = finds-first law is run decides
 
     before : IsComplete sc hands f (sync_slot_of sc.sizes)
     before =
         running_earlier sc hands (f * (windows_in sc.sizes + 1) + 3 * sync_slot_of sc.sizes + 4 - 1) (suc f * (windows_in sc.sizes + 1) + 3 * sync_slot_of sc.sizes + 2 - 1) (omega arith) decides.called
 
     end : EndOf sc hands (suc f)
-    end = end-of sc hands law (suc f) calm.complete
+    end = end-of law calm.complete
 
     last : IsAtWindow sc hands (suc f) (3 * sync_slot_of sc.sizes + 3)
     last =
-        at-window sc hands law f before (3 * sync_slot_of sc.sizes + 3) (omega arith)
+        at-window law before (3 * sync_slot_of sc.sizes + 3) (omega arith)
         (running_earlier sc hands (3 * sync_slot_of sc.sizes + 3 + first_of_frame sc (suc f)) end.n (omega (arith, end.place)) end.running)
 
     c : Learner sc hands ear f s.lesson.records
@@ -86,13 +86,13 @@ learns-after sc hands law ear is run f tick s decides calm = (
       rmus = λ n here me i st node. k.trust n here me i st node Rmu;
       end = end;
       verdict =
-          learned-verdict sc ear (suc f) (moment sc hands (3 * sync_slot_of sc.sizes + 3 + first_of_frame sc (suc f))).frame s.lesson.records
+          learned-verdict sc ear s.lesson.records
           (moment sc hands (3 * sync_slot_of sc.sizes + 3 + first_of_frame sc (suc f))).book.stages last.frame_is
           (calm.holds (3 * sync_slot_of sc.sizes + 3 + first_of_frame sc (suc f)) (omega arith) (omega (arith, last.frame_is)) (omega (arith, last.window_is)));
     }
 
     g : GoodThere sc hands end.n k.some_good.j
-    g = good-there sc hands law end.n k.some_good.j end.running k.some_good.good
+    g = good-there hands law end.n k.some_good.j end.running k.some_good.good
 
     here : IsIn sc hands (suc f) end.n
     here = record { running = end.running; frame_is = end.frame_is }
@@ -113,7 +113,7 @@ learns-after sc hands law ear is run f tick s decides calm = (
         (λ j. vote_on s.lesson.records (trusted_rmus sc.sizes s.lesson.records) (first_diagnosis_of Rmu sc.sizes + j)) (λ j. end.shared.values (vector_slot sc.sizes Rmu j))
         (λ j below t.
         let there : has (end.shared.trusted Rmu) j ≡ true = ap (λ x. has x j) (sym rmus_are) ∙ t in
-        rmu-vote sc hands ear f s.lesson.records c j (end.end.agree.inside Rmu j there) there)
+        rmu-vote c j (end.end.agree.inside Rmu j there) there)
         ∙ ap (λ t. convicted_by sc.sizes.bius t (end.shared.trusted Biu) (λ j. end.shared.values (vector_slot sc.sizes Rmu j))) rmus_are
 
     convicts-rmus : convicted_rmus sc.sizes s.lesson.records (trusted_bius sc.sizes s.lesson.records) (trusted_rmus sc.sizes s.lesson.records) ≡ convicted_all sc.sizes end.shared Rmu
@@ -122,7 +122,7 @@ learns-after sc hands law ear is run f tick s decides calm = (
         (λ j. vote_on s.lesson.records (trusted_rmus sc.sizes s.lesson.records) (first_diagnosis_of Biu sc.sizes + j)) (λ j. end.shared.values (vector_slot sc.sizes Biu j))
         (λ j below t.
         let there : has (end.shared.trusted Biu) j ≡ true = ap (λ x. has x j) (sym bius_are) ∙ t in
-        biu-vote sc hands ear f s.lesson.records c j (end.end.agree.inside Biu j there) there)
+        biu-vote c j (end.end.agree.inside Biu j there) there)
         ∙ ap (λ t. convicted_by sc.sizes.rmus t (trusted_rmus sc.sizes s.lesson.records) (λ j. end.shared.values (vector_slot sc.sizes Biu j))) bius_are
         ∙ ap (λ t. convicted_by sc.sizes.rmus (end.shared.trusted Biu) t (λ j. end.shared.values (vector_slot sc.sizes Biu j))) rmus_are
 
@@ -146,7 +146,7 @@ learns-after sc hands law ear is run f tick s decides calm = (
       stamped = at_learned;
       recorded = ap (λ t. stamp_in (record_of s.lesson.records t j)) (sym parts.0) ∙ ap stamp_in r.is;
       time =
-          found-call sc hands law ear is run (suc f) tick l.0 s decides.in_time l.1 j good r.stamp heard.nth (coming_to sc ear j (suc f) called.sending) early
+          found-call law is run decides.in_time l.1 j good r.stamp heard.nth early
           (heard.there ∙ ap (λ x. Some (coming_to sc ear j x called.sending)) l.1.frame) is_found;
     }
       where
@@ -160,7 +160,7 @@ learns-after sc hands law ear is run f tick s decides calm = (
 
         index : n ≡ suc f * (windows_in sc.sizes + 1) + (3 * sync_slot_of sc.sizes + 1)
         index =
-            (agreement sc hands law n l.1.fixed.call.call.call.sent.running).agree.place
+            (agreement hands law n l.1.fixed.call.call.call.sent.running).agree.place
             ∙ ap (λ x. x * (windows_in sc.sizes + 1) + (moment sc hands n).window) l.1.frame
             ∙ ap (λ w. suc f * (windows_in sc.sizes + 1) + w) l.1.fixed.call.call.call.window_is
 
@@ -168,7 +168,7 @@ learns-after sc hands law ear is run f tick s decides calm = (
         parts = call-place sc.sizes called.sending.message called.call
 
         put : IsInPlace sc (moment sc hands n) called.sending.message
-        put = in-place sc hands law n j called.sending called.sent
+        put = in-place law called.sent
 
         r : IsRecorded sc hands ear s.lesson.records n j called.sending
         r =
@@ -179,7 +179,7 @@ learns-after sc hands law ear is run f tick s decides calm = (
         at_learned = subst (λ x. IsStamp ear.clock (coming_to sc ear j x called.sending).time r.stamp) l.1.frame r.stamped
 
         early : r.stamp ≤ tick
-        early = come-by sc hands law ear is (suc f) tick l.0 s l.1 j called.sending called.sent r.stamp r.stamped
+        early = come-by law is l.1 called.sent r.stamped
 
         heard : IsHeard ear r.stamp (coming_to sc ear j (moment sc hands n).frame called.sending)
         heard = called.heard r.stamp r.some (omega (arith, early, decides.in_time)) r.stamped
@@ -194,5 +194,5 @@ learns-after sc hands law ear is run f tick s decides calm = (
 pub learns : (sc : Scenario) (hands : List HandIn) → IsLawful sc → (ear : Ear) → IsEar sc ear → HearsTheRun sc hands ear → (learned tick : ℕ) (s : Search) → DecidesBy sc hands ear learned tick s
     → IsCalm sc hands ear learned s.lesson.records learned (sync_slot_of sc.sizes)
     → (first : First) × ((first_of sc.sizes sc.plan s.lesson ≡ Some first) × HasLearned sc hands ear learned tick s.lesson.records first)
-learns sc hands law ear is run zero tick s decides calm = let l = has-lesson sc hands law ear is run zero tick s decides in absurd (omega (arith, l.1.before))
-learns sc hands law ear is run (suc f) tick s decides calm = learns-after sc hands law ear is run f tick s decides calm
+learns sc hands law ear is run zero tick s decides calm = let l = has-lesson law is run decides in absurd (omega (arith, l.1.before))
+learns sc hands law ear is run (suc f) tick s decides calm = learns-after law is run f decides calm

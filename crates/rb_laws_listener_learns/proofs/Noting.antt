@@ -61,55 +61,55 @@ begun-noted sc ear since k n lesson none before j below slot few =
 -- A lesson goes on.
 
 -- what is noted stays right if the places that are earlier now were so before
-pub on-noted : (sc : Scenario) (ear : Ear) (since k n l o frame slot j : ℕ) → ((at i : ℕ) → IsEarlier at i k n → IsEarlier at i l o)
+pub on-noted : {sc ear : _} (since : ℕ) {k n : ℕ} (l o : ℕ) {frame slot j : ℕ} → ((at i : ℕ) → IsEarlier at i k n → IsEarlier at i l o)
     → ((at i : ℕ) (m : Message) → IsPlacedAt sc ear frame slot j at i m → IsEarlier at i l o → IsEarlier at i k n) → (r : Sense) → IsNotedBy sc ear since k n frame slot j r
     → IsNotedBy sc ear since l o frame slot j r
-on-noted sc ear since k n l o frame slot j onward back Silent h = λ at i m span placed. h at i m (span.0, back at i m placed span.1) placed
-on-noted sc ear since k n l o frame slot j onward back (One at m) h = record {
+on-noted since l o onward back Silent h = λ at i m span placed. h at i m (span.0, back at i m placed span.1) placed
+on-noted since l o onward back (One at m) h = record {
   i = h.i;
   placed = h.placed;
   earlier = onward at h.i h.earlier;
   suits = h.suits;
   only = λ b p x span placed. h.only b p x (span.0, back b p x placed span.1) placed;
 }
-on-noted sc ear since k n l o frame slot j onward back Bad h =
+on-noted since l o onward back Bad h =
     record { at = h.at; i = h.i; message = h.message; placed = h.placed; earlier = onward h.at h.i h.earlier; by = h.by }
 
-step-earlier : (k n at i : ℕ) → IsEarlier at i k n → IsEarlier at i k (suc n)
-step-earlier k n at i (inl less) = inl less
-step-earlier k n at i (inr same) = inr (same.0, omega (arith, same.1))
+step-earlier : {k n : ℕ} (at i : ℕ) → IsEarlier at i k n → IsEarlier at i k (suc n)
+step-earlier at i (inl less) = inl less
+step-earlier at i (inr same) = inr (same.0, omega (arith, same.1))
 
-tick-earlier : (k n at i : ℕ) → IsEarlier at i k n → IsEarlier at i (suc k) 0
-tick-earlier k n at i (inl less) = inl (omega (arith, less))
-tick-earlier k n at i (inr same) = inl (omega (arith, same.0))
+tick-earlier : {k n : ℕ} (at i : ℕ) → IsEarlier at i k n → IsEarlier at i (suc k) 0
+tick-earlier at i (inl less) = inl (omega (arith, less))
+tick-earlier at i (inr same) = inl (omega (arith, same.0))
 
 pub tick-noted : (sc : Scenario) (ear : Ear) (since k n : ℕ) (lesson : Lesson) → slice_get (ear.heard k) n ≡ None → AreNotedBy sc ear since k n lesson
     → AreNotedBy sc ear since (suc k) 0 lesson
 tick-noted sc ear since k n lesson whole h j below slot few =
-    on-noted sc ear since k n (suc k) 0 lesson.frame slot j (tick-earlier k n)
-    (λ at i m placed before. whole-earlier ear at i k n placed.coming placed.there whole (earlier-by at i k before)) (record_of lesson.records slot j) (h j below slot few)
+    on-noted since (suc k) 0 tick-earlier
+    (λ at i m placed before. whole-earlier ear at i k n placed.there whole (earlier-by at i k before)) (record_of lesson.records slot j) (h j below slot few)
 
 -- a message without a place in the slot keeps `IsNotedBy`
-other-noted : (sc : Scenario) (ear : Ear) (since k n frame slot j : ℕ) → ((m : Message) → IsPlacedAt sc ear frame slot j k n m → ⊥) → (r : Sense)
+other-noted : {sc ear : _} (since : ℕ) {k n frame slot j : ℕ} → ((m : Message) → IsPlacedAt sc ear frame slot j k n m → ⊥) → (r : Sense)
     → IsNotedBy sc ear since k n frame slot j r → IsNotedBy sc ear since k (suc n) frame slot j r
-other-noted sc ear since k n frame slot j none =
-    on-noted sc ear since k n k (suc n) frame slot j (step-earlier k n)
+other-noted {sc} {ear} since {k} {n} {frame} {slot} {j} none =
+    on-noted since k (suc n) step-earlier
     (λ at i m placed before. elim (earlier-split at i k n before) [
       | inl earlier ↦ earlier
       | inr here ↦
           absurd (none m (subst (λ x. IsPlacedAt sc ear frame slot j k x m) here.1 (subst (λ x. IsPlacedAt sc ear frame slot j x i m) here.0 placed)))
     ])
 
-pub none-noted : (sc : Scenario) (ear : Ear) (since k n : ℕ) (lesson : Lesson) → ((slot j : ℕ) (m : Message) → j < sc.sizes.rmus → IsPlacedAt sc ear lesson.frame slot j k n m → ⊥)
+pub none-noted : {sc : Scenario} {ear : Ear} (since : ℕ) {k n : ℕ} (lesson : Lesson) → ((slot j : ℕ) (m : Message) → j < sc.sizes.rmus → IsPlacedAt sc ear lesson.frame slot j k n m → ⊥)
     → AreNotedBy sc ear since k n lesson → AreNotedBy sc ear since k (suc n) lesson
-none-noted sc ear since k n lesson none h j below slot few =
-    other-noted sc ear since k n lesson.frame slot j (λ m placed. none slot j m below placed) (record_of lesson.records slot j) (h j below slot few)
+none-noted since lesson none h j below slot few =
+    other-noted since (λ m placed. none slot j m below placed) (record_of lesson.records slot j) (h j below slot few)
 
 -- A message more.
 
-more-noted : (sc : Scenario) (ear : Ear) (since k n frame slot j : ℕ) (m : Message) → IsPlacedAt sc ear frame slot j k n m → (r : Sense) → IsNotedBy sc ear since k n frame slot j r
+more-noted : {sc ear : _} (since : ℕ) {k n frame slot j m : _} → IsPlacedAt sc ear frame slot j k n m → (r : Sense) → IsNotedBy sc ear since k n frame slot j r
     → IsNotedBy sc ear since k (suc n) frame slot j (with_message (m.slot == sync_slot_of sc.sizes) k m r)
-more-noted sc ear since k n frame slot j m placed Silent h = by (tag_suits (m.slot == sync_slot_of sc.sizes) m.tag) refl
+more-noted {sc} {ear} since {k} {n} {frame} {slot} {j} {m} placed Silent h = by (tag_suits (m.slot == sync_slot_of sc.sizes) m.tag) refl
   where
     by : (b : Bool) → tag_suits (m.slot == sync_slot_of sc.sizes) m.tag ≡ b → IsNotedBy sc ear since k (suc n) frame slot j (if b then One k m else Bad)
     by true e = record {
@@ -121,10 +121,10 @@ more-noted sc ear since k n frame slot j m placed Silent h = by (tag_suits (m.sl
           elim (earlier-split b o k n span.1) [ inl earlier ↦ absurd (h b o x (span.0, earlier) there) | inr here ↦ here ];
     }
     by false e = record { at = k; i = n; message = m; placed = placed; earlier = inr (refl, omega arith); by = inl e }
-more-noted sc ear since k n frame slot j m placed (One at old) h =
+more-noted since {k} {n} {m} placed (One at old) h =
     record { at = k; i = n; message = m; placed = placed; earlier = inr (refl, omega arith); by = inr (at, (h.i, (old, (h.placed, h.earlier)))) }
-more-noted sc ear since k n frame slot j m placed Bad h =
-    record { at = h.at; i = h.i; message = h.message; placed = h.placed; earlier = step-earlier k n h.at h.i h.earlier; by = h.by }
+more-noted since placed Bad h =
+    record { at = h.at; i = h.i; message = h.message; placed = h.placed; earlier = step-earlier h.at h.i h.earlier; by = h.by }
 
 -- after item `p` is set, item `q` is the new one, or another one and as before
 set-either-apart : (xs : List Sense) (p q : ℕ) (x : Sense) → p < length xs
@@ -140,15 +140,15 @@ set-either-apart (y ∷ ys) (suc p) (suc q) x within =
 abbrev pub HasRoom : Sizes → Lesson → Type 0
 HasRoom sizes lesson = 16 * sync_slot_of sizes + 16 ≤ length lesson.records
 
-recorded-noted : (sc : Scenario) (ear : Ear) (since k n from : ℕ) (m : Message) (lesson : Lesson) → IsShape sc.sizes → from < sc.sizes.rmus → has_place sc.sizes lesson.frame m ≡ true → HasRoom sc.sizes lesson
-    → (coming : Coming) → slice_get (ear.heard k) n ≡ Some coming → coming.from ≡ from → message_in sc.plan.version coming.bytes ≡ Some m
+recorded-noted : (sc : Scenario) (ear : Ear) (since k n : ℕ) {from m : _} (lesson : Lesson) → IsShape sc.sizes → from < sc.sizes.rmus → has_place sc.sizes lesson.frame m ≡ true → HasRoom sc.sizes lesson
+    → {coming : _} → slice_get (ear.heard k) n ≡ Some coming → coming.from ≡ from → message_in sc.plan.version coming.bytes ≡ Some m
     → AreNotedBy sc ear since k n lesson → AreNotedBy sc ear since k (suc n) (record lesson { records = with_record sc.sizes from k m lesson.records })
-recorded-noted sc ear since k n from m lesson shape below place room coming there is_from reads h j below_j slot within =
+recorded-noted sc ear since k n {from} {m} lesson shape below place room {coming} there is_from reads h j below_j slot within =
     elim (set-either-apart lesson.records (place_of m.slot from) (place_of slot j) new in_list) [
       | inl both ↦ here both.1 (same-place slot j m.slot from (few j below_j) (few from below) both.0).0 (same-place slot j m.slot from (few j below_j) (few from below) both.0).1
       | inr same ↦
           subst (IsNotedBy sc ear since k (suc n) lesson.frame slot j) (sym same.1)
-          (other-noted sc ear since k n lesson.frame slot j (λ x placed. same.0 (elsewhere x placed)) (record_of lesson.records slot j) (h j below_j slot within))
+          (other-noted since (λ x placed. same.0 (elsewhere x placed)) (record_of lesson.records slot j) (h j below_j slot within))
     ]
   where
     few : (i : ℕ) → i < sc.sizes.rmus → i < 16
@@ -175,20 +175,20 @@ recorded-noted sc ear since k n from m lesson shape below place room coming ther
     here is_new same nodes =
         let placed : IsPlacedAt sc ear lesson.frame m.slot from k n m = record { coming = coming; there = there; from = is_from; reads = reads; place = place; slot_is = refl } in
         let noted_one : IsNotedBy sc ear since k (suc n) lesson.frame m.slot from new =
-        more-noted sc ear since k n lesson.frame m.slot from m placed (record_of lesson.records m.slot from) (h from below m.slot slots) in
+        more-noted since placed (record_of lesson.records m.slot from) (h from below m.slot slots) in
         subst (IsNotedBy sc ear since k (suc n) lesson.frame slot j) (sym is_new)
         (subst (λ x. IsNotedBy sc ear since k (suc n) lesson.frame x j new) (sym same) (subst (λ x. IsNotedBy sc ear since k (suc n) lesson.frame m.slot x new) (sym nodes) noted_one))
 
-pub noted-noted : (sc : Scenario) (ear : Ear) (since k n from : ℕ) (m : Message) (lesson : Lesson) → IsShape sc.sizes → from < sc.sizes.rmus → HasRoom sc.sizes lesson
-    → (coming : Coming) → slice_get (ear.heard k) n ≡ Some coming → coming.from ≡ from → message_in sc.plan.version coming.bytes ≡ Some m
+pub noted-noted : (sc : Scenario) (ear : Ear) (since k n : ℕ) {from m : _} (lesson : Lesson) → IsShape sc.sizes → from < sc.sizes.rmus → HasRoom sc.sizes lesson
+    → {coming : _} → slice_get (ear.heard k) n ≡ Some coming → coming.from ≡ from → message_in sc.plan.version coming.bytes ≡ Some m
     → AreNotedBy sc ear since k n lesson → AreNotedBy sc ear since k (suc n) (noted sc.sizes from k m lesson)
-noted-noted sc ear since k n from m lesson shape below room coming there is_from reads h = by (has_place sc.sizes lesson.frame m) refl
+noted-noted sc ear since k n {from} {m} lesson shape below room {coming} there is_from reads h = by (has_place sc.sizes lesson.frame m) refl
   where
     by : (b : Bool) → has_place sc.sizes lesson.frame m ≡ b
         → AreNotedBy sc ear since k (suc n) (if b then record lesson { records = with_record sc.sizes from k m lesson.records } else lesson)
-    by true e = recorded-noted sc ear since k n from m lesson shape below e room coming there is_from reads h
+    by true e = recorded-noted sc ear since k n lesson shape below e room there is_from reads h
     by false e =
-        none-noted sc ear since k n lesson
+        none-noted since lesson
         (λ slot j x within placed.
         let same : placed.coming ≡ coming = same_Some placed.coming coming (sym placed.there ∙ there) in
         let read : x ≡ m = same_Some x m (sym placed.reads ∙ ap (λ (c : Coming). message_in sc.plan.version c.bytes) same ∙ reads) in

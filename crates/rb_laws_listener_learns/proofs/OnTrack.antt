@@ -23,10 +23,10 @@ pub number-after : (frame : ℕ) → frame_after (frame % 65536) ≡ (frame + 1)
 number-after frame = omega arith
 
 -- a pass at that time is of one of the two frames
-pass-number : (sc : Scenario) (hands : List HandIn) → IsLawful sc → (ear : Ear) → IsEar sc ear → HearsTheRun sc hands ear → (frame last next : ℕ) → IsLastCall sc hands ear frame last
-    → IsLastCall sc hands ear (frame + 1) next → (k n q : ℕ) (newest : List (Option Call)) → k < ear.ticks → last < k → k ≤ next + reach_of sc.plan → AreKnown sc hands ear k newest
+pass-number : {sc hands : _} → IsLawful sc → {ear : _} → IsEar sc ear → HearsTheRun sc hands ear → {frame last next : ℕ} → IsLastCall sc hands ear frame last
+    → IsLastCall sc hands ear (frame + 1) next → {k n q newest : _} → k < ear.ticks → last < k → k ≤ next + reach_of sc.plan → AreKnown sc hands ear k newest
     → AreLatest sc ear k n newest → pass_of sc.sizes sc.plan newest ≡ Some q → (q ≡ (frame + 1) % 65536) ⊎ (frame_after q ≡ (frame + 1) % 65536)
-pass-number sc hands law ear is run frame last next l1 l2 k n q newest in_time after soon known latest made =
+pass-number {sc} {hands} law {ear} is run {frame} {last} l1 l2 {k} {n} {q} {newest} in_time after soon known latest made =
     elim (cases_lt frame (moment sc hands f.heard.n).frame) [
       | inl less ↦
           let same : (moment sc hands f.heard.n).frame ≡ frame + 1 = omega (arith, less, le) in inl (q_is ∙ ap (λ x. x % 65536) same)
@@ -36,23 +36,23 @@ pass-number sc hands law ear is run frame last next l1 l2 k n q newest in_time a
     ]
   where
     b : BeginsAt sc.sizes sc.plan newest q
-    b = pass-at sc.sizes sc.plan newest q made
+    b = pass-at sc.sizes sc.plan newest made
 
     g : GoodInPass sc hands newest b.call.frame b.call.at
-    g = good-in-pass sc hands law.sizes run.most_good newest q known.inside b
+    g = good-in-pass sc hands law.sizes run.most_good known.inside b
 
     come : HasCome ear last k n
     come = λ t i c early there. inl (omega (arith, early, after))
 
     f : IsFromOn sc hands ear frame k newest g.j
-    f = from-on sc hands law ear is frame last l1 (omega (arith, after, in_time)) k n newest known latest come g.j g.good
+    f = from-on law is l1 (omega (arith, after, in_time)) known latest come g.j g.good
 
     q_is : q ≡ (moment sc hands f.heard.n).frame % 65536
     q_is =
         sym b.frame_is ∙ sym g.there.falls.frame_is ∙ ap (λ (x : Call). x.frame) (same_Some g.there.call f.call (sym g.there.is ∙ f.there)) ∙ f.heard.number_is
 
     le : (moment sc hands f.heard.n).frame ≤ frame + 1
-    le = up-to sc hands law ear is (frame + 1) next l2 g.j f.call.frame f.call.at f.heard (omega (arith, f.by_now, soon))
+    le = up-to law is l2 f.heard (omega (arith, f.by_now, soon))
 
 recorded-next : (sc : Scenario) (frame j : ℕ) (m : Message) (s : Search) → LearnsNext frame s → LearnsNext frame (recorded sc.sizes j m s)
 recorded-next sc frame j m s l =
@@ -70,11 +70,11 @@ pass-next sc frame q w l one = pass-by sc.plan q w (LearnsNext frame) (record {
   ]);
 })
 
-heard-next : (sc : Scenario) (hands : List HandIn) → IsLawful sc → (ear : Ear) → IsEar sc ear → HearsTheRun sc hands ear → (frame last next : ℕ) → IsLastCall sc hands ear frame last
-    → IsLastCall sc hands ear (frame + 1) next → (k n : ℕ) (c : Coming) → k < ear.ticks → slice_get (ear.heard k) n ≡ Some c → last < k → k ≤ next + reach_of sc.plan → (s : Search)
+heard-next : {sc hands : _} → IsLawful sc → {ear : _} → IsEar sc ear → HearsTheRun sc hands ear → {frame last next : ℕ} → IsLastCall sc hands ear frame last
+    → IsLastCall sc hands ear (frame + 1) next → {k n c : _} → k < ear.ticks → slice_get (ear.heard k) n ≡ Some c → last < k → k ≤ next + reach_of sc.plan → {s : _}
     → IsFresh sc hands ear k n s → LearnsNext frame s → LearnsNext frame (searching sc.sizes sc.plan c.from c.bytes s)
-heard-next sc hands law ear is run frame last next l1 l2 k n c in_time there after soon s h l =
-    search-by sc.sizes sc.plan c.from c.bytes s (LearnsNext frame) (going sc ear is k s.had in_time h.well.had) (record {
+heard-next {sc} {hands} law {ear} is run {frame} l1 l2 {k} {n} {c} in_time there after soon {s} h l =
+    search-by c.bytes (LearnsNext frame) (going is in_time h.well.had) (record {
       nothing = λ none. l;
       message = λ within m reads other. recorded-next sc frame c.from m s l;
       call = called;
@@ -84,37 +84,37 @@ heard-next sc hands law ear is run frame last next l1 l2 k n c in_time there aft
         → IsHeardCall sc hands ear c.from m.frame k
     known within m reads calls good =
         elim (run.only k c in_time (record { nth = n; there = there }) within) [
-          | inl of_good ↦ heard-call sc hands law ear is k c in_time (record { nth = n; there = there }) of_good m reads calls
-          | inr faulty ↦ absurd (no-onset sc hands c good faulty)
+          | inl of_good ↦ heard-call law is in_time (record { nth = n; there = there }) of_good reads calls
+          | inr faulty ↦ absurd (no-onset good faulty)
         ]
 
     well : c.from < sc.sizes.rmus → (m : Message) → message_in sc.plan.version c.bytes ≡ Some m → is_call sc.sizes m ≡ true → IsWell sc hands ear k n (with_call sc.sizes c.from m s)
     well within m reads calls =
-        newest-well sc hands ear k n c.from m.frame (recorded sc.sizes c.from m s) within (λ good. known within m reads calls good)
-        (recorded-well sc hands ear k n c.from m s h.well)
+        newest-well c.from m.frame within (λ good. known within m reads calls good)
+        (recorded-well c.from m h.well)
 
     mine : (j : ℕ) → IsCallAt sc ear k n j → j ≡ c.from
     mine j call = sym call.from ∙ ap (λ (x : Coming). x.from) (same_Some call.coming c (sym call.there ∙ there))
 
     latest : c.from < sc.sizes.rmus → (m : Message) → IsLatest sc ear k (suc n) (with_call sc.sizes c.from m s)
-    latest within m = call-latest sc ear k n c.from m s law.sizes within mine h.latest
+    latest within m = call-latest c.from m law.sizes within mine h.latest
 
     called : c.from < sc.sizes.rmus → (m : Message) → message_in sc.plan.version c.bytes ≡ Some m → is_call sc.sizes m ≡ true → (o : Option ℕ)
         → pass_of sc.sizes sc.plan (with_call sc.sizes c.from m s).newest ≡ o → LearnsNext frame (if_pass sc.plan o (with_call sc.sizes c.from m s))
     called within m reads calls None made = recorded-next sc frame c.from m s l
     called within m reads calls (Some q) made =
         pass-next sc frame q (with_call sc.sizes c.from m s) (recorded-next sc frame c.from m s l)
-        (pass-number sc hands law ear is run frame last next l1 l2 k (suc n) q (with_call sc.sizes c.from m s).newest in_time after soon
-        (well-known sc hands ear k n (with_call sc.sizes c.from m s) (well within m reads calls)) (latest within m).latest made)
+        (pass-number law is run l1 l2 in_time after soon
+        (well-known (well within m reads calls)) (latest within m).latest made)
 
-pub kept-on-track : (sc : Scenario) (hands : List HandIn) → IsLawful sc → (ear : Ear) → IsEar sc ear → HearsTheRun sc hands ear → (frame last next : ℕ) → IsLastCall sc hands ear frame last
+pub kept-on-track : {sc hands : _} → IsLawful sc → {ear : _} → IsEar sc ear → HearsTheRun sc hands ear → {frame last next : ℕ} → IsLastCall sc hands ear frame last
     → IsLastCall sc hands ear (frame + 1) next → IsKeptOn sc ear (IsOnTrack sc hands ear frame last next)
-kept-on-track sc hands law ear is run frame last next l1 l2 = record {
+kept-on-track {sc} {hands} law {ear} is run l1 l2 = record {
   heard = λ k n c in_time there s h. record {
     fresh = fresh.heard k n c in_time there s h.fresh;
     stays = stays.heard k n c in_time there s h.stays;
     after = h.after;
-    learns = λ soon. heard-next sc hands law ear is run frame last next l1 l2 k n c in_time there h.after soon s h.fresh (h.learns soon);
+    learns = λ soon. heard-next law is run l1 l2 in_time there h.after soon h.fresh (h.learns soon);
   };
   later = λ k n s in_time whole h on. record {
     fresh = fresh.later k n s in_time whole h.fresh on;
@@ -126,7 +126,7 @@ kept-on-track sc hands law ear is run frame last next l1 l2 = record {
 }
   where
     fresh : IsKept sc ear (IsFresh sc hands ear)
-    fresh = kept-fresh sc hands law ear is run
+    fresh = kept-fresh law is run
 
     stays : IsKept sc ear StaysAt
-    stays = kept-stays sc ear is
+    stays = kept-stays is

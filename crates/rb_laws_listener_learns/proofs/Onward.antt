@@ -31,20 +31,20 @@ pub record DecidesIn (sc : Scenario) (ear : Ear) (P : ℕ → ℕ → Search →
   pub at : SearchesAt sc ear P tick
   pub deciding : is_deciding at.s ≡ true
 
-hears-on : (sc : Scenario) (ear : Ear) (P : ℕ → ℕ → Search → Type 0) → IsKeptOn sc ear P → (k n : ℕ) (cs : List Coming) → k < ear.ticks
+hears-on : {sc ear : _} (P : ℕ → ℕ → Search → Type 0) → IsKeptOn sc ear P → (k n : ℕ) (cs : List Coming) → k < ear.ticks
     → ((i : ℕ) → slice_get (ear.heard k) (i + n) ≡ slice_get cs i) → (s : Search) → P k n s → SearchesBy ear P k (hears sc cs (now.Searching s))
 unfolding hear
-hears-on sc ear P kept k n [] in_time are s h =
+hears-on {ear} P kept k n [] in_time are s h =
     record { s = s; is = refl; n = n; holds = h; whole = let e : n ≡ 0 + n = omega arith in ap (slice_get (ear.heard k)) e ∙ are zero }
-hears-on sc ear P kept k n (c ∷ cs) in_time are s h =
-    hears-on sc ear P kept k (suc n) cs in_time (λ i. let e : i + suc n ≡ suc i + n = omega arith in ap (slice_get (ear.heard k)) e ∙ are (suc i))
+hears-on {sc} {ear} P kept k n (c ∷ cs) in_time are s h =
+    hears-on P kept k (suc n) cs in_time (λ i. let e : i + suc n ≡ suc i + n = omega arith in ap (slice_get (ear.heard k)) e ∙ are (suc i))
     (searching sc.sizes sc.plan c.from c.bytes s)
     (kept.heard k n c in_time (let e : n ≡ 0 + n = omega arith in ap (slice_get (ear.heard k)) e ∙ are zero) s h)
 
-all-heard : (sc : Scenario) (ear : Ear) (P : ℕ → ℕ → Search → Type 0) → IsKeptOn sc ear P → (k : ℕ) → k < ear.ticks → (s : Search) → P k 0 s
+all-heard : {sc ear : _} (P : ℕ → ℕ → Search → Type 0) → IsKeptOn sc ear P → (k : ℕ) → k < ear.ticks → (s : Search) → P k 0 s
     → SearchesBy ear P k (hears sc (ear.heard k) (now.Searching s))
-all-heard sc ear P kept k in_time s h =
-    hears-on sc ear P kept k 0 (ear.heard k) in_time (λ i. let e : i + 0 ≡ i = omega arith in ap (slice_get (ear.heard k)) e) s h
+all-heard {ear} P kept k in_time s h =
+    hears-on P kept k 0 (ear.heard k) in_time (λ i. let e : i + 0 ≡ i = omega arith in ap (slice_get (ear.heard k)) e) s h
 
 goes-on : (sc : Scenario) (s : Search) → is_over s.had ≡ false → is_deciding s ≡ false → (heed sc.sizes sc.plan (now.Searching s)).listening ≡ now.Searching (later s)
 unfolding heed search_on
@@ -53,29 +53,29 @@ goes-on sc s over deciding =
     ∙ ap (λ b. elim b as (λ _. Listening) [ true ↦ decided s (first_of sc.sizes sc.plan s.lesson) | false ↦ now.Searching (later s) ]) deciding
 
 -- a listener that does not decide searches at the next tick
-next-at : (sc : Scenario) (ear : Ear) (P : ℕ → ℕ → Search → Type 0) → IsKeptOn sc ear P → (k : ℕ) → suc k < ear.ticks → (at : SearchesAt sc ear P k) → is_deciding at.s ≡ false
+next-at : {sc ear : _} (P : ℕ → ℕ → Search → Type 0) → IsKeptOn sc ear P → {k : ℕ} → suc k < ear.ticks → (at : SearchesAt sc ear P k) → is_deciding at.s ≡ false
     → SearchesAt sc ear P (suc k)
-next-at sc ear P kept k in_time at on =
+next-at {sc} {ear} P kept {k} in_time at on =
     let before : k < ear.ticks = omega (arith, in_time) in
     let step : (heed sc.sizes sc.plan (listening_at sc ear k)).listening ≡ now.Searching (later at.s) =
     ap (λ l. (heed sc.sizes sc.plan l).listening) at.is ∙ goes-on sc at.s (kept.lasts k at.n at.s before at.holds) on in
     subst (λ l. SearchesBy ear P (suc k) (hears sc (ear.heard (suc k)) l)) (sym step)
-    (all-heard sc ear P kept (suc k) in_time (later at.s) (kept.later k at.n at.s before at.whole at.holds on))
+    (all-heard P kept (suc k) in_time (later at.s) (kept.later k at.n at.s before at.whole at.holds on))
 
-pub at-first : (sc : Scenario) (ear : Ear) (P : ℕ → ℕ → Search → Type 0) → IsKeptOn sc ear P → 0 < ear.ticks → P 0 0 first_search → SearchesAt sc ear P 0
-at-first sc ear P kept in_time h = all-heard sc ear P kept 0 in_time first_search h
+pub at-first : {sc ear : _} (P : ℕ → ℕ → Search → Type 0) → IsKeptOn sc ear P → 0 < ear.ticks → P 0 0 first_search → SearchesAt sc ear P 0
+at-first P kept in_time h = all-heard P kept 0 in_time first_search h
 
-pub on-at : (sc : Scenario) (ear : Ear) (P : ℕ → ℕ → Search → Type 0) → IsKeptOn sc ear P → (k d : ℕ) → d + k < ear.ticks → SearchesAt sc ear P k
+pub on-at : {sc ear : _} (P : ℕ → ℕ → Search → Type 0) → IsKeptOn sc ear P → {k : ℕ} (d : ℕ) → d + k < ear.ticks → SearchesAt sc ear P k
     → DecidesIn sc ear P (d + k) ⊎ SearchesAt sc ear P (d + k)
-on-at sc ear P kept k zero in_time at = let e : k ≡ 0 + k = omega arith in inr (subst (SearchesAt sc ear P) e at)
-on-at sc ear P kept k (suc d) in_time at = by (on-at sc ear P kept k d (omega (arith, in_time)) at)
+on-at {sc} {ear} P kept {k} zero in_time at = let e : k ≡ 0 + k = omega arith in inr (subst (SearchesAt sc ear P) e at)
+on-at {sc} {ear} P kept {k} (suc d) in_time at = by (on-at P kept d (omega (arith, in_time)) at)
   where
     e : suc (d + k) ≡ suc d + k
     e = omega arith
 
     split : (here : SearchesAt sc ear P (d + k)) (b : Bool) → is_deciding here.s ≡ b → DecidesIn sc ear P (suc d + k) ⊎ SearchesAt sc ear P (suc d + k)
     split here true is = inl (record { tick = d + k; before = omega arith; at = here; deciding = is })
-    split here false is = inr (subst (SearchesAt sc ear P) e (next-at sc ear P kept (d + k) (omega (arith, in_time)) here is))
+    split here false is = inr (subst (SearchesAt sc ear P) e (next-at P kept (omega (arith, in_time)) here is))
 
     by : DecidesIn sc ear P (d + k) ⊎ SearchesAt sc ear P (d + k) → DecidesIn sc ear P (suc d + k) ⊎ SearchesAt sc ear P (suc d + k)
     by (inl done) = inl (record { tick = done.tick; before = omega (arith, done.before); at = done.at; deciding = done.deciding })

@@ -22,11 +22,11 @@ AreOfRmus sizes newest = (j : ℕ) → sizes.rmus ≤ j → get_or newest j None
 
 -- A pass is found.
 
-among-at : (sizes : Sizes) (plan : Plan) (newest calls : List (Option Call)) (d : ℕ) → ((i : ℕ) → get_or calls i None ≡ get_or newest (i + d) None) → (frame : ℕ)
+among-at : (sizes : Sizes) (plan : Plan) (newest calls : List (Option Call)) (d : ℕ) → ((i : ℕ) → get_or calls i None ≡ get_or newest (i + d) None) → {frame : ℕ}
     → pass_among sizes plan newest calls ≡ Some frame → BeginsAt sizes plan newest frame
-among-at sizes plan newest [] d are frame h = cc
-among-at sizes plan newest (call ∷ others) d are frame h =
-    by (among-at sizes plan newest others (suc d) (λ i. let e : suc i + d ≡ i + suc d = omega arith in are (suc i) ∙ ap (λ t. get_or newest t None) e) frame)
+among-at sizes plan newest [] d are h = cc
+among-at sizes plan newest (call ∷ others) d are {frame} h =
+    by (among-at sizes plan newest others (suc d) (λ i. let e : suc i + d ≡ i + suc d = omega arith in are (suc i) ∙ ap (λ t. get_or newest t None) e))
     (begins_pass sizes plan newest call) refl h
   where
     here : (o : Option Call) → o ≡ get_or newest (zero + d) None → begins_pass sizes plan newest o ≡ true → frame_in o ≡ Some frame → BeginsAt sizes plan newest frame
@@ -38,22 +38,22 @@ among-at sizes plan newest (call ∷ others) d are frame h =
     by rest true is e = here call (are zero) is e
     by rest false is e = rest e
 
-pub pass-at : (sizes : Sizes) (plan : Plan) (newest : List (Option Call)) (frame : ℕ) → pass_of sizes plan newest ≡ Some frame → BeginsAt sizes plan newest frame
+pub pass-at : (sizes : Sizes) (plan : Plan) (newest : List (Option Call)) {frame : ℕ} → pass_of sizes plan newest ≡ Some frame → BeginsAt sizes plan newest frame
 unfolding pass_of
-pass-at sizes plan newest frame h = among-at sizes plan newest newest 0 (λ i. let e : i ≡ i + 0 = omega arith in ap (λ t. get_or newest t None) e) frame h
+pass-at sizes plan newest h = among-at sizes plan newest newest 0 (λ i. let e : i ≡ i + 0 = omega arith in ap (λ t. get_or newest t None) e) h
 
 abbrev FindsOne : Sizes → Plan → List (Option Call) → List (Option Call) → Type 0
 FindsOne sizes plan newest calls = (frame : ℕ) × (pass_among sizes plan newest calls ≡ Some frame)
 
-among-some : (sizes : Sizes) (plan : Plan) (newest calls : List (Option Call)) (i : ℕ) (call : Call) → get_or calls i None ≡ Some call → begins_pass sizes plan newest (Some call) ≡ true
+among-some : (sizes : Sizes) (plan : Plan) (newest calls : List (Option Call)) (i : ℕ) {call : _} → get_or calls i None ≡ Some call → begins_pass sizes plan newest (Some call) ≡ true
     → FindsOne sizes plan newest calls
-among-some sizes plan newest [] i call is b = let none : None ≡ Some call = is in cc
-among-some sizes plan newest (o ∷ others) zero call is b = (
+among-some sizes plan newest [] i {call} is b = let none : None ≡ Some call = is in cc
+among-some sizes plan newest (o ∷ others) zero {call} is b = (
   call.frame,
   ap (λ x. elim (begins_pass sizes plan newest x) as (λ _. Option ℕ) [ true ↦ frame_in x | false ↦ pass_among sizes plan newest others ]) is
       ∙ ap (λ x. elim x as (λ _. Option ℕ) [ true ↦ Some call.frame | false ↦ pass_among sizes plan newest others ]) b,
 )
-among-some sizes plan newest (o ∷ others) (suc i) call is b = front o (begins_pass sizes plan newest o) refl (among-some sizes plan newest others i call is b)
+among-some sizes plan newest (o ∷ others) (suc i) is b = front o (begins_pass sizes plan newest o) refl (among-some sizes plan newest others i is b)
   where
     front : (o : Option Call) (c : Bool) → begins_pass sizes plan newest o ≡ c → FindsOne sizes plan newest others
         → (frame : ℕ) × ((elim c as (λ _. Option ℕ) [ true ↦ frame_in o | false ↦ pass_among sizes plan newest others ]) ≡ Some frame)
@@ -78,8 +78,8 @@ falls-all reach frame from c h =
       high = omega (arith, near);
     }
 
-pub all-falls : (reach frame from : ℕ) (c : Call) → FallsIn reach frame from c → falls_in reach frame from (Some c) ≡ true
-all-falls reach frame from c h =
+pub all-falls : {reach frame from c : _} → FallsIn reach frame from c → falls_in reach frame from (Some c) ≡ true
+all-falls {reach} {frame} {from} {c} h =
     let a : (c.frame == frame) ≡ true = grind (arith, nat_tests, h.frame_is) in
     let b : nat_le from c.at ≡ true = grind (arith, nat_tests, h.low) in
     let far : c.at - from ≤ reach = omega (arith, h.high) in
@@ -108,8 +108,8 @@ of-rmus sizes reach frame from newest inside j below is =
           let both : None ≡ Some f.call = sym (inside j out) ∙ f.is in absurd (cc)
     ]
 
-same-pass : (sizes : Sizes) (plan : Plan) (newest : List (Option Call)) (p q : ℕ) → sizes.rmus ≤ 16 → AreOfRmus sizes newest → BeginsAt sizes plan newest p → BeginsAt sizes plan newest q → p ≡ q
-same-pass sizes plan newest p q few inside a b = by (meet sizes in_a in_b few (of-rmus sizes reach a.call.frame a.call.at newest inside) (of-rmus sizes reach b.call.frame b.call.at newest inside) a.most b.most)
+same-pass : {sizes : Sizes} {plan : Plan} {newest : List (Option Call)} {p q : ℕ} → sizes.rmus ≤ 16 → AreOfRmus sizes newest → BeginsAt sizes plan newest p → BeginsAt sizes plan newest q → p ≡ q
+same-pass {sizes} {plan} {newest} {p} {q} few inside a b = by (meet sizes in_a in_b few (of-rmus sizes reach a.call.frame a.call.at newest inside) (of-rmus sizes reach b.call.frame b.call.at newest inside) a.most b.most)
   where
     reach : ℕ
     reach = reach_of plan
@@ -132,12 +132,12 @@ same-pass sizes plan newest p q few inside a b = by (meet sizes in_a in_b few (o
         let same : x.call ≡ y.call = same_Some x.call y.call (sym x.is ∙ y.is) in
         sym a.frame_is ∙ sym x.falls.frame_is ∙ ap (λ (z : Call). z.frame) same ∙ y.falls.frame_is ∙ b.frame_is
 
-pub begins-pass : (sizes : Sizes) (plan : Plan) (newest : List (Option Call)) (frame : ℕ) → sizes.rmus ≤ 16 → AreOfRmus sizes newest → BeginsAt sizes plan newest frame
+pub begins-pass : {sizes : Sizes} {plan : Plan} {newest : List (Option Call)} {frame : ℕ} → sizes.rmus ≤ 16 → AreOfRmus sizes newest → BeginsAt sizes plan newest frame
     → pass_of sizes plan newest ≡ Some frame
 unfolding pass_of
-begins-pass sizes plan newest frame few inside b =
-    let found : FindsOne sizes plan newest newest = among-some sizes plan newest newest b.i b.call b.there b.most in
-    let same : found.0 ≡ frame = same-pass sizes plan newest found.0 frame few inside (pass-at sizes plan newest found.0 found.1) b in
+begins-pass {sizes} {plan} {newest} {frame} few inside b =
+    let found : FindsOne sizes plan newest newest = among-some sizes plan newest newest b.i b.there b.most in
+    let same : found.0 ≡ frame = same-pass few inside (pass-at sizes plan newest found.1) b in
     found.1 ∙ ap (λ f. Some f) same
 
 -- One call more.
@@ -146,9 +146,9 @@ pub more-than : (rmus a b : ℕ) → a ≤ b → nat_lt rmus (2 * a) ≡ true �
 more-than rmus a b le h = lt-ltb rmus (2 * b) (omega (arith, le, ltb-true rmus (2 * a) h))
 
 -- a new call is one of the pass, or the pass was there before
-pub new-or-old : (sizes : Sizes) (plan : Plan) (newest : List (Option Call)) (j frame : ℕ) (call : Call) → j < length newest → (b : BeginsAt sizes plan (slice_set newest j (Some call)) frame)
+pub new-or-old : {sizes plan : _} (newest : List (Option Call)) (j : ℕ) {frame : ℕ} (call : Call) → j < length newest → (b : BeginsAt sizes plan (slice_set newest j (Some call)) frame)
     → FallsIn (reach_of plan) b.call.frame b.call.at call ⊎ BeginsAt sizes plan newest frame
-new-or-old sizes plan newest j frame call within b = by (falls_in (reach_of plan) b.call.frame b.call.at (Some call)) refl
+new-or-old {sizes} {plan} newest j {frame} call within b = by (falls_in (reach_of plan) b.call.frame b.call.at (Some call)) refl
   where
     new : get_or (slice_set newest j (Some call)) j None ≡ Some call
     new = get_or-set_same newest j (Some call) None within
@@ -170,7 +170,7 @@ new-or-old sizes plan newest j frame call within b = by (falls_in (reach_of plan
       call = b.call;
       there =
           sym (set-other newest j b.i (Some call)
-          (apart b.i e (ap (falls_in (reach_of plan) b.call.frame b.call.at) b.there ∙ all-falls (reach_of plan) b.call.frame b.call.at b.call own)))
+          (apart b.i e (ap (falls_in (reach_of plan) b.call.frame b.call.at) b.there ∙ all-falls own)))
           ∙ b.there;
       most =
           more-than sizes.rmus (size (calling (reach_of plan) b.call.frame b.call.at (slice_set newest j (Some call)))) (size (calling (reach_of plan) b.call.frame b.call.at newest))

@@ -59,19 +59,19 @@ earlier-tick : (at nth k n : ℕ) → IsEarlier at nth k n → IsEarlier at nth 
 earlier-tick at nth k n (inl less) = inl (omega (arith, less))
 earlier-tick at nth k n (inr same) = inl (omega (arith, same.0))
 
-moved : (sc : Scenario) (hands : List HandIn) (ear : Ear) (k n l o j at : ℕ) (m : Message) → (c : CameBefore sc hands ear k n j at m) → IsEarlier at c.nth l o
+moved : {sc hands ear k n l o j at m : _} → (c : CameBefore sc hands ear k n j at m) → IsEarlier at c.nth l o
     → CameBefore sc hands ear l o j at m
-moved sc hands ear k n l o j at m c e =
+moved c e =
     record { coming = c.coming; nth = c.nth; there = c.there; in_time = c.in_time; from = c.from; good = c.good; is = c.is; earlier = e }
 
 next-true : (sc : Scenario) (hands : List HandIn) (ear : Ear) (k n frame slot j : ℕ) (r : Sense) → IsTrueBy sc hands ear k n frame slot j r → IsTrueBy sc hands ear k (suc n) frame slot j r
 next-true sc hands ear k n frame slot j Silent h = tt
-next-true sc hands ear k n frame slot j (One at m) h = (moved sc hands ear k n k (suc n) j at m h.0 (earlier-next at h.0.nth k n h.0.earlier), h.1)
+next-true sc hands ear k n frame slot j (One at m) h = (moved h.0 (earlier-next at h.0.nth k n h.0.earlier), h.1)
 next-true sc hands ear k n frame slot j Bad h = h
 
 tick-true : (sc : Scenario) (hands : List HandIn) (ear : Ear) (k n frame slot j : ℕ) (r : Sense) → IsTrueBy sc hands ear k n frame slot j r → IsTrueBy sc hands ear (suc k) 0 frame slot j r
 tick-true sc hands ear k n frame slot j Silent h = tt
-tick-true sc hands ear k n frame slot j (One at m) h = (moved sc hands ear k n (suc k) 0 j at m h.0 (earlier-tick at h.0.nth k n h.0.earlier), h.1)
+tick-true sc hands ear k n frame slot j (One at m) h = (moved h.0 (earlier-tick at h.0.nth k n h.0.earlier), h.1)
 tick-true sc hands ear k n frame slot j Bad h = h
 
 pub all-next : (sc : Scenario) (hands : List HandIn) (ear : Ear) (k n : ℕ) (lesson : Lesson) → AreTrueBy sc hands ear k n lesson → AreTrueBy sc hands ear k (suc n) lesson
@@ -97,11 +97,11 @@ pub record IsNext (sc : Scenario) (hands : List HandIn) (ear : Ear) (k n j : ℕ
   pub good : IsOfGood sc hands ear coming
   pub reads : message_in sc.plan.version coming.bytes ≡ Some m
 
-pub reads-sent : (sc : Scenario) (hands : List HandIn) → IsLawful sc → (ear : Ear) (c : Coming) (good : IsOfGood sc hands ear c) (m : Message)
+pub reads-sent : {sc hands : _} → IsLawful sc → {ear c : _} (good : IsOfGood sc hands ear c) {m : _}
     → message_in sc.plan.version c.bytes ≡ Some m → good.sending.message ≡ m
-reads-sent sc hands law ear c good m reads =
+reads-sent {sc} law good {m} reads =
     same_Some good.sending.message m
-    (sym (read_back sc.plan.version good.sending.message (in-place sc hands law good.n c.from good.sending good.sent).fits)
+    (sym (read_back sc.plan.version good.sending.message (in-place law good.sent).fits)
     ∙ ap (λ (x : Coming). message_in sc.plan.version x.bytes) (sym good.is) ∙ reads)
 
 pub three : (a b c : Bool) → (a && b && c) ≡ true → (a ≡ true) × (c ≡ true)
@@ -115,16 +115,16 @@ placed sc frame m h =
     record { frame_is = eqb-true m.frame frame parts.0; slot_is = refl; stage_is = eqb-true m.stage (stage_recorded (role_of sc.sizes m.slot)) parts.1 }
 
 -- a message of a place does not come a second time
-no-second : (sc : Scenario) (hands : List HandIn) → IsLawful sc → (ear : Ear) → IsEar sc ear → HearsTheRun sc hands ear → (k n frame slot j at : ℕ) (old m : Message)
+no-second : {sc hands : _} → IsLawful sc → {ear : _} → IsEar sc ear → HearsTheRun sc hands ear → {k n frame slot j at old m : _}
     → CameBefore sc hands ear k n j at old → IsOfPlace sc frame slot old → IsNext sc hands ear k n j m → IsOfPlace sc frame slot m → ⊥
-no-second sc hands law ear is run k n frame slot j at old m before place next here = by before.earlier
+no-second law {ear} is run {k} {n} {at} {m} before place next here = by before.earlier
   where
     sent : next.good.sending.message ≡ m
-    sent = reads-sent sc hands law ear next.coming next.good m next.reads
+    sent = reads-sent law next.good next.reads
 
     same : before.coming ≡ next.coming
     same =
-        same-coming sc hands law ear before.coming next.coming before.good next.good (before.from ∙ sym next.from)
+        same-coming law before.good next.good (before.from ∙ sym next.from)
         (ap (λ x. x.frame) before.is ∙ place.frame_is ∙ sym here.frame_is ∙ ap (λ x. x.frame) (sym sent))
         (ap (λ x. x.slot) before.is ∙ place.slot_is ∙ sym here.slot_is ∙ ap (λ x. x.slot) (sym sent))
         (ap (λ x. x.stage) before.is ∙ place.stage_is ∙ sym here.stage_is ∙ ap (λ x. x.stage) (sym sent))
@@ -143,39 +143,39 @@ no-second sc hands law ear is run k n frame slot j at old m before place next he
         let at_k : slice_get (ear.heard k) before.nth ≡ Some next.coming = subst (λ t. slice_get (ear.heard t) before.nth ≡ Some next.coming) stamps there in
         let once : before.nth ≡ n = run.once k before.nth n next.coming next.in_time next.good at_k next.there in absurd (omega (arith, once, before_it.1))
 
-came : (sc : Scenario) (hands : List HandIn) → IsLawful sc → (ear : Ear) (k n j : ℕ) (m : Message) → IsNext sc hands ear k n j m → CameBefore sc hands ear k (suc n) j k m
-came sc hands law ear k n j m next = record {
+came : {sc hands : _} → IsLawful sc → {ear k n j m : _} → IsNext sc hands ear k n j m → CameBefore sc hands ear k (suc n) j k m
+came law {n} next = record {
   coming = next.coming;
   nth = n;
   there = next.there;
   in_time = next.in_time;
   from = next.from;
   good = next.good;
-  is = reads-sent sc hands law ear next.coming next.good m next.reads;
+  is = reads-sent law next.good next.reads;
   earlier = inr (refl, omega arith);
 }
 
-suited : (sc : Scenario) (hands : List HandIn) → IsLawful sc → (ear : Ear) (k n j : ℕ) (m : Message) → IsNext sc hands ear k n j m → tag_suits (m.slot == sync_slot_of sc.sizes) m.tag ≡ true
-suited sc hands law ear k n j m next =
-    subst (λ x. tag_suits (x.slot == sync_slot_of sc.sizes) x.tag ≡ true) (reads-sent sc hands law ear next.coming next.good m next.reads)
-    (in-place sc hands law next.good.n next.coming.from next.good.sending next.good.sent).suits
+suited : {sc hands : _} → IsLawful sc → {ear k n j m : _} → IsNext sc hands ear k n j m → tag_suits (m.slot == sync_slot_of sc.sizes) m.tag ≡ true
+suited {sc} law next =
+    subst (λ x. tag_suits (x.slot == sync_slot_of sc.sizes) x.tag ≡ true) (reads-sent law next.good next.reads)
+    (in-place law next.good.sent).suits
 
-one-more : (sc : Scenario) (hands : List HandIn) → IsLawful sc → (ear : Ear) → IsEar sc ear → HearsTheRun sc hands ear → (k n frame j : ℕ) (m : Message) → IsNext sc hands ear k n j m
+one-more : {sc hands : _} → IsLawful sc → {ear : _} → IsEar sc ear → HearsTheRun sc hands ear → {k n frame j m : _} → IsNext sc hands ear k n j m
     → IsOfPlace sc frame m.slot m → (old : Sense) → IsTrueBy sc hands ear k n frame m.slot j old
     → IsTrueBy sc hands ear k (suc n) frame m.slot j (with_message (m.slot == sync_slot_of sc.sizes) k m old)
-one-more sc hands law ear is run k n frame j m next here Silent h =
-    subst (λ b. IsTrueBy sc hands ear k (suc n) frame m.slot j (if b then One k m else Bad)) (sym (suited sc hands law ear k n j m next)) (came sc hands law ear k n j m next, here)
-one-more sc hands law ear is run k n frame j m next here (One at old) h =
-    absurd (no-second sc hands law ear is run k n frame m.slot j at old m h.0 h.1 next here)
-one-more sc hands law ear is run k n frame j m next here Bad h = absurd h
+one-more {sc} {hands} law {ear} is run {k} {n} {frame} {j} {m} next here Silent h =
+    subst (λ b. IsTrueBy sc hands ear k (suc n) frame m.slot j (if b then One k m else Bad)) (sym (suited law next)) (came law next, here)
+one-more law is run next here (One at old) h =
+    absurd (no-second law is run h.0 h.1 next here)
+one-more law is run next here Bad h = absurd h
 
 pub same-place : (slot j other i : ℕ) → j < 16 → i < 16 → 16 * slot + j ≡ 16 * other + i → (slot ≡ other) × (j ≡ i)
 same-place slot j other i a b e = (omega (arith, a, b, e), omega (arith, a, b, e))
 
-recorded-true : (sc : Scenario) (hands : List HandIn) → IsLawful sc → (ear : Ear) → IsEar sc ear → HearsTheRun sc hands ear → (k n j : ℕ) (m : Message) (lesson : Lesson) → j < 16
+recorded-true : {sc hands : _} → IsLawful sc → {ear : _} → IsEar sc ear → HearsTheRun sc hands ear → {k n : ℕ} (j : ℕ) (m : Message) (lesson : Lesson) → j < 16
     → (is_always_good sc hands j ≡ true → IsNext sc hands ear k n j m) → has_place sc.sizes lesson.frame m ≡ true → AreTrueBy sc hands ear k n lesson
     → AreTrueBy sc hands ear k (suc n) (record lesson { records = with_record sc.sizes j k m lesson.records })
-recorded-true sc hands law ear is run k n j m lesson below next place h i below_i good slot =
+recorded-true {sc} {hands} law {ear} is run {k} {n} j m lesson below next place h i below_i good slot =
     elim (set-either lesson.records (place_of m.slot j) (place_of slot i) new) [
       | inl both ↦ here both.1 (same-place slot i m.slot j below_i below both.0).0 (same-place slot i m.slot j below_i below both.0).1
       | inr same ↦
@@ -191,16 +191,16 @@ recorded-true sc hands law ear is run k n j m lesson below next place h i below_
     here is_new slots nodes =
         let mine : is_always_good sc hands j ≡ true = subst (λ x. is_always_good sc hands x ≡ true) nodes good in
         let true_one : IsTrueBy sc hands ear k (suc n) lesson.frame m.slot j new =
-        one-more sc hands law ear is run k n lesson.frame j m (next mine) (placed sc lesson.frame m place) (record_of lesson.records m.slot j) (h j below mine m.slot) in
+        one-more law is run (next mine) (placed sc lesson.frame m place) (record_of lesson.records m.slot j) (h j below mine m.slot) in
         subst (IsTrueBy sc hands ear k (suc n) lesson.frame slot i) (sym is_new)
         (subst (λ x. IsTrueBy sc hands ear k (suc n) lesson.frame x i new) (sym slots)
         (subst (λ x. IsTrueBy sc hands ear k (suc n) lesson.frame m.slot x new) (sym nodes) true_one))
 
-pub noted-true : (sc : Scenario) (hands : List HandIn) → IsLawful sc → (ear : Ear) → IsEar sc ear → HearsTheRun sc hands ear → (k n j : ℕ) (m : Message) (lesson : Lesson) → j < 16
+pub noted-true : {sc hands : _} → IsLawful sc → {ear : _} → IsEar sc ear → HearsTheRun sc hands ear → {k n : ℕ} (j : ℕ) (m : Message) (lesson : Lesson) → j < 16
     → (is_always_good sc hands j ≡ true → IsNext sc hands ear k n j m) → AreTrueBy sc hands ear k n lesson → AreTrueBy sc hands ear k (suc n) (noted sc.sizes j k m lesson)
-noted-true sc hands law ear is run k n j m lesson below next h = by (has_place sc.sizes lesson.frame m) refl
+noted-true {sc} {hands} law {ear} is run {k} {n} j m lesson below next h = by (has_place sc.sizes lesson.frame m) refl
   where
     by : (b : Bool) → has_place sc.sizes lesson.frame m ≡ b
         → AreTrueBy sc hands ear k (suc n) (if b then record lesson { records = with_record sc.sizes j k m lesson.records } else lesson)
-    by true e = recorded-true sc hands law ear is run k n j m lesson below next e h
+    by true e = recorded-true law is run j m lesson below next e h
     by false e = all-next sc hands ear k n lesson h

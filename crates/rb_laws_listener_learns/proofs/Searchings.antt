@@ -76,22 +76,22 @@ pub record MessageCases (sizes : Sizes) (plan : Plan) (j : ℕ) (bytes : Option 
   pub call : j < sizes.rmus → (m : Message) → bytes ≡ Some m → is_call sizes m ≡ true → (o : Option ℕ) → pass_of sizes plan (with_call sizes j m s).newest ≡ o
       → Q (if_pass plan o (with_call sizes j m s))
 
-message-by : (sizes : Sizes) (plan : Plan) (j : ℕ) (o : Option Message) (s : Search) (Q : Search → Type 0) → j < sizes.rmus → MessageCases sizes plan j o s Q → Q (if_message sizes plan j o s)
+message-by : {sizes : Sizes} {plan : Plan} {j : ℕ} (o : Option Message) {s : Search} (Q : Search → Type 0) → j < sizes.rmus → MessageCases sizes plan j o s Q → Q (if_message sizes plan j o s)
 unfolding with_message
-message-by sizes plan j None s Q within cases = cases.nothing (λ w m e. let none : None ≡ Some m = e in cc)
-message-by sizes plan j (Some m) s Q within cases = by (is_call sizes m) refl
+message-by None Q within cases = cases.nothing (λ w m e. let none : None ≡ Some m = e in cc)
+message-by {sizes} {plan} {j} (Some m) {s} Q within cases = by (is_call sizes m) refl
   where
     by : (b : Bool) → is_call sizes m ≡ b → Q (elim b as (λ _. Search) [ true ↦ passing sizes plan (newest_with j m.frame (recorded sizes j m s)) | false ↦ recorded sizes j m s ])
     by true e = cases.call within m refl e (pass_of sizes plan (with_call sizes j m s).newest) refl
     by false e = cases.message within m refl e
 
-pub search-by : (sizes : Sizes) (plan : Plan) (j : ℕ) (bytes : List ℕ) (s : Search) (Q : Search → Type 0) → nat_lt s.had (2 ^ 31) ≡ true
+pub search-by : {sizes : Sizes} {plan : Plan} {j : ℕ} (bytes : List ℕ) {s : Search} (Q : Search → Type 0) → nat_lt s.had (2 ^ 31) ≡ true
     → MessageCases sizes plan j (message_in plan.version bytes) s Q → Q (searching sizes plan j bytes s)
 unfolding searching
-search-by sizes plan j bytes s Q going cases = by (nat_lt j sizes.rmus) refl (nat_lt s.had (2 ^ 31)) going
+search-by {sizes} {plan} {j} bytes {s} Q going cases = by (nat_lt j sizes.rmus) refl (nat_lt s.had (2 ^ 31)) going
   where
     by : (a : Bool) → nat_lt j sizes.rmus ≡ a → (b : Bool) → b ≡ true
         → Q (elim (a && b) as (λ _. Search) [ true ↦ if_message sizes plan j (message_in plan.version bytes) s | false ↦ s ])
-    by true e true f = message-by sizes plan j (message_in plan.version bytes) s Q (ltb-true j sizes.rmus e) cases
+    by true e true f = message-by (message_in plan.version bytes) Q (ltb-true j sizes.rmus e) cases
     by true e false f = let both : false ≡ true = f in absurd (cc)
     by false e b f = cases.nothing (λ within m is. let both : false ≡ true = sym e ∙ lt-ltb j sizes.rmus within in absurd (cc))

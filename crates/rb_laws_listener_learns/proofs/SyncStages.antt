@@ -14,9 +14,9 @@ pub record StageIs (sc : Scenario) (hands : List HandIn) (k : ℕ) (s : Shared) 
   pub set : SyncSetting sc hands k (moment sc hands k) s q (sync_windows_are sc (moment sc hands k) q passes.stage.small passes.stage.at)
   pub agree : Agree sc hands (suc k) (moment sc hands (suc k)) s
 
-pub stage_is : (sc : Scenario) (hands : List HandIn) → IsLawful sc → (k : ℕ) (s : Shared) (q : ℕ) → Agree sc hands k (moment sc hands k) s → q < 3
+pub stage_is : {sc hands : _} → IsLawful sc → {k s : _} (q : ℕ) → Agree sc hands k (moment sc hands k) s → q < 3
     → (moment sc hands k).window ≡ 3 * sync_slot_of sc.sizes + q → IsRunning (moment sc hands (suc k)) → StageIs sc hands k s q
-stage_is sc hands law k s q agree small at running =
+stage_is {sc} {hands} law {k} {s} q agree small at running =
     elim (step_is sc hands (moment sc hands k) running) [
       | inl window ↦ by (sym window.1)
       | inr turn ↦ let over : windows_in sc.sizes ≤ (moment sc hands k).window = turn.0 in absurd (omega (arith, over, at, small))
@@ -28,16 +28,16 @@ stage_is sc hands law k s q agree small at running =
         let through : IsPassed sc (record { frame = (moment sc hands k).frame; slot = sync_slot_of sc.sizes; stage = q + 1 }) (rows_of sc (moment sc hands k)) (moment sc hands k).book =
         passed sc (record { frame = (moment sc hands k).frame; slot = sync_slot_of sc.sizes; stage = q + 1 }) (rows_of sc (moment sc hands k)) (moment sc hands k).book
         (ap (λ b. b.ended) (sym (book_sync sc (moment sc hands k) q small at)) ∙ goes) in
-        let passes : IsPassedStage sc hands k (moment sc hands k) s q = passed_stage sc hands k (moment sc hands k) s q (record { law = law; agree = agree; small = small; at = at }) through in
+        let passes : IsPassedStage sc hands k (moment sc hands k) s q = passed_stage (record { law = law; agree = agree; small = small; at = at }) through in
         let set : SyncSetting sc hands k (moment sc hands k) s q (sync_windows_are sc (moment sc hands k) q passes.stage.small passes.stage.at) =
-        stage_setting sc hands k (moment sc hands k) s q passes.stage.small passes.stage.at law agree through in
+        stage_setting q passes.stage.small passes.stage.at law agree through in
         record {
           next_is = next_is;
           through = through;
           passes = passes;
           set = set;
           agree = subst (λ m. Agree sc hands (suc k) m s) next_is
-              (agree_sync sc hands k (moment sc hands k) s q (sync_windows_are sc (moment sc hands k) q passes.stage.small passes.stage.at) set next_is);
+              (agree_sync set next_is);
         }
 
 -- the node was good at moment `k`, and begins its next frame with the epoch that it knew then
@@ -48,9 +48,9 @@ pub record TurnsAt (sc : Scenario) (hands : List HandIn) (k : ℕ) (me : Side) (
 
 -- if moment `k` is the end of stage 3, `TurnsAt` holds for all nodes that are good at the first
 -- moment of the next frame
-pub turns_at : (sc : Scenario) (hands : List HandIn) → IsLawful sc → (k : ℕ) (s : Shared) → Agree sc hands k (moment sc hands k) s → (moment sc hands k).window ≡ 3 * sync_slot_of sc.sizes + 3
-    → IsRunning (moment sc hands (suc (suc k))) → (me : Side) (i : ℕ) (now : NodeState) → IsGoodNode sc (moment sc hands (suc (suc k))) me i now → TurnsAt sc hands k me i now
-turns_at sc hands law k s agree at last me i now node =
+pub turns_at : {sc hands : _} → IsLawful sc → {k s : _} → Agree sc hands k (moment sc hands k) s → (moment sc hands k).window ≡ 3 * sync_slot_of sc.sizes + 3
+    → IsRunning (moment sc hands (suc (suc k))) → {me i now : _} → IsGoodNode sc (moment sc hands (suc (suc k))) me i now → TurnsAt sc hands k me i now
+turns_at {sc} {hands} law {k} {s} agree at last {me} {i} {now} node =
     elim (step_is sc hands (moment sc hands k) mid) [
       | inr turn ↦ let over : windows_in sc.sizes ≤ (moment sc hands k).window = turn.0 in absurd (omega (arith, over, at))
       | inl window ↦ elim (step_is sc hands (moment sc hands (suc k)) last) [
@@ -68,23 +68,23 @@ turns_at sc hands law k s agree at last me i now node =
     ends next_is turn_is = record {
       st = from.st;
       was = from.was;
-      epoch = λ tick knows. sym (turned-epoch sc.sizes sc.plan me turned.st tick (known tick knows)) ∙ ap (λ x. x.epoch) turned.is;
+      epoch = λ tick knows. sym (turned-epoch sc.sizes sc.plan me turned.st (known tick knows)) ∙ ap (λ x. x.epoch) turned.is;
     }
       where
         agree_end : Agree sc hands (suc k) (moment sc hands (suc k)) s
         agree_end =
             subst (λ x. Agree sc hands (suc k) x s) next_is
-            (agree_sync sc hands k (moment sc hands k) s 3 (tail_windows sc (moment sc hands k) at) (tail_setting sc hands k (moment sc hands k) s at law agree) next_is)
+            (agree_sync (tail_setting at law agree) next_is)
 
         turned : TurnedFrom sc (moment sc hands (suc k)) me i now
-        turned = turned_from sc hands (suc k) (moment sc hands (suc k)) s agree_end me i now (subst (λ x. IsGoodNode sc x me i now) (sym turn_is) node)
+        turned = turned_from agree_end (subst (λ x. IsGoodNode sc x me i now) (sym turn_is) node)
 
         from : CameFrom sc (moment sc hands k) me i turned.st
-        from = came_from sc hands k (moment sc hands k) s agree me i turned.st (subst (λ x. IsGoodNode sc x me i turned.st) (sym next_is) turned.was)
+        from = came_from agree (subst (λ x. IsGoodNode sc x me i turned.st) (sym next_is) turned.was)
 
         good : is_good sc me i (moment sc hands k).frame (sync_slot_of sc.sizes) ≡ true
-        good = ap (is_good sc me i (moment sc hands k).frame) (sym (slot_last sc.sizes (moment sc hands k).window 3 at)) ∙ from.was.good
+        good = ap (is_good sc me i (moment sc hands k).frame) (sym (slot_last sc.sizes 3 at)) ∙ from.was.good
 
         known : (tick : ℕ) → new_epoch_of sc.plan me from.st ≡ Some tick → new_epoch_of sc.plan me turned.st ≡ Some tick
         known tick knows =
-            ap (new_epoch_of sc.plan me) (sym from.is) ∙ tail_keeps_epoch sc (moment sc hands k) (tail_windows sc (moment sc hands k) at) me i from.st good ∙ knows
+            ap (new_epoch_of sc.plan me) (sym from.is) ∙ tail_keeps_epoch (tail_windows sc (moment sc hands k) at) me i from.st good ∙ knows

@@ -11,7 +11,7 @@ never-before f s h = let both : true ≡ false = grind (arith, nat_tests) in cc
 
 pub each-slot : AlwaysGoodIsGoodInEachSlot
 each-slot sc hands law j counted = (
-  λ good frame slot le running. always-good-in sc hands law j frame slot running good,
+  λ good frame slot le running. always-good-in hands law j frame slot running good,
   λ throughout.
       and_from (nat_lt j sc.sizes.rmus) (not (comes_to sc hands (get_or sc.rmu_onsets j None))) (lt-ltb j sc.sizes.rmus counted) (by throughout (get_or sc.rmu_onsets j None) refl),
 )
@@ -19,7 +19,7 @@ each-slot sc hands law j counted = (
     at : IsGoodThroughout sc hands j → (onset : ℕ × ℕ) → get_or sc.rmu_onsets j None ≡ Some onset → (b : Bool) → (before_slot sc hands onset.0 onset.1).book.ended ≡ b → not (not b) ≡ true
     at throughout onset is true e = refl
     at throughout onset is false e =
-        let good : is_good sc Rmu j onset.0 onset.1 ≡ true = throughout onset.0 onset.1 (onset-in sc law j onset.0 onset.1 counted is) e in
+        let good : is_good sc Rmu j onset.0 onset.1 ≡ true = throughout onset.0 onset.1 (onset-in law j onset.0 onset.1 counted is) e in
         let before : is_before (Some onset) onset.0 onset.1 ≡ true =
         ap (λ o. is_before o onset.0 onset.1) (sym is) ∙ and_second (nat_lt j sc.sizes.rmus) (is_before (get_or sc.rmu_onsets j None) onset.0 onset.1) good in
         absurd (never-before onset.0 onset.1 before)

@@ -14,10 +14,10 @@ use Rattle.rb_listen.specs.Listening as now
 
 -- Who sends something holds the slot's node trusted.
 
-says-some : (sizes : Sizes) (j : ℕ) (st : NodeState) (slot stage word : ℕ) (o : Option Heard) (x : Message) → o ≡ says sizes Rmu j st slot stage word
+says-some : (sizes : Sizes) (j : ℕ) (st : NodeState) (slot stage word : ℕ) (o : Option Heard) {x : _} → o ≡ says sizes Rmu j st slot stage word
     → option_map (message_of st slot stage) o ≡ Some x → sender_at sizes Rmu st slot ≡ Nobody → ⊥
-says-some sizes j st slot stage word None x is h nobody = cc
-says-some sizes j st slot stage word (Some v) x is h nobody =
+says-some sizes j st slot stage word None is h nobody = cc
+says-some sizes j st slot stage word (Some v) is h nobody =
     let none : says sizes Rmu j st slot stage word ≡ None = ap (λ s. says_of Rmu j st slot (role_of sizes slot) s stage word) nobody in
     let both : Some v ≡ None = is ∙ none in cc
 
@@ -37,19 +37,19 @@ pub record IsRecordedOne (sc : Scenario) (hands : List HandIn) (ear : Ear) (fram
   pub came : CameOf sc hands ear j at message
   pub place : IsOfPlace sc frame slot message
 
-one-true : (sc : Scenario) (hands : List HandIn) (ear : Ear) (frame slot j : ℕ) (r : Sense) → is_one r ≡ true → IsTrueRecord sc hands ear frame slot j r
+one-true : {sc hands ear frame slot : _} (j : ℕ) (r : Sense) → is_one r ≡ true → IsTrueRecord sc hands ear frame slot j r
     → IsRecordedOne sc hands ear frame slot
-one-true sc hands ear frame slot j Silent one h = cc
-one-true sc hands ear frame slot j (One at m) one h = record { j = j; at = at; message = m; came = h.0; place = h.1 }
-one-true sc hands ear frame slot j Bad one h = absurd h
+one-true j Silent one h = cc
+one-true j (One at m) one h = record { j = j; at = at; message = m; came = h.0; place = h.1 }
+one-true j Bad one h = absurd h
 
-not-silent : (r : Sense) → is_one r ≡ true → r ≡ Silent → ⊥
-not-silent r one e = let both : true ≡ false = sym one ∙ ap is_one e in cc
+not-silent : {r : _} → is_one r ≡ true → r ≡ Silent → ⊥
+not-silent one e = let both : true ≡ false = sym one ∙ ap is_one e in cc
 
-one-of-most : (sc : Scenario) (hands : List HandIn) → IsLawful sc → (ear : Ear) → IsEar sc ear → HearsTheRun sc hands ear → (k : ℕ) → k < ear.ticks → (s : Search)
+one-of-most : {sc hands : _} → IsLawful sc → {ear : _} → IsEar sc ear → HearsTheRun sc hands ear → (k : ℕ) → k < ear.ticks → (s : Search)
     → listening_at sc ear k ≡ now.Searching s → s.learns ≡ true → (slot : ℕ) → are_most sc.sizes (ones_in s.lesson.records slot) ≡ true
     → IsRecordedOne sc hands ear s.lesson.frame slot
-one-of-most sc hands law ear is run k in_time s at learns slot most =
+one-of-most {sc} {hands} law {ear} is run k in_time s at learns slot most =
     by (meet sc.sizes (set_of (is_always_good sc hands)) (ones_in s.lesson.records slot) law.sizes.most_rmus good-inside ones-inside run.most_good most)
   where
     good-at : (j : ℕ) → j < 16 → has (set_of (is_always_good sc hands)) j ≡ true → is_always_good sc hands j ≡ true
@@ -62,7 +62,7 @@ one-of-most sc hands law ear is run k in_time s at learns slot most =
     one-at j below h = sym (has-set_of j (λ i. is_one (record_of s.lesson.records slot i)) below) ∙ h
 
     inside : (n : ℕ) × HoldsIn (IsInside sc k n) (listening_at sc ear k)
-    inside = always sc ear (IsInside sc) (kept-inside sc law.sizes ear is) k in_time
+    inside = always (IsInside sc) (kept-inside law.sizes is) k in_time
 
     here : IsInside sc k inside.0 s
     here = subst (HoldsIn (IsInside sc k inside.0)) at inside.1
@@ -71,7 +71,7 @@ one-of-most sc hands law ear is run k in_time s at learns slot most =
     ones-inside j below h =
         elim (cases_lt j sc.sizes.rmus) [
           | inl within ↦ within
-          | inr out ↦ absurd (not-silent (record_of s.lesson.records slot j) (one-at j below h) (here.none j out below slot))
+          | inr out ↦ absurd (not-silent (one-at j below h) (here.none j out below slot))
         ]
 
     by : Passing (λ j. has (set_of (is_always_good sc hands)) j && has (ones_in s.lesson.records slot) j) 0 16 → IsRecordedOne sc hands ear s.lesson.frame slot
@@ -80,15 +80,15 @@ one-of-most sc hands law ear is run k in_time s at learns slot most =
         let good : is_always_good sc hands c.at ≡ true = good-at c.at below (and_first (has (set_of (is_always_good sc hands)) c.at) (has (ones_in s.lesson.records slot) c.at) c.passes) in
         let one : is_one (record_of s.lesson.records slot c.at) ≡ true =
         one-at c.at below (and_second (has (set_of (is_always_good sc hands)) c.at) (has (ones_in s.lesson.records slot) c.at) c.passes) in
-        one-true sc hands ear s.lesson.frame slot c.at (record_of s.lesson.records slot c.at) one (records-true sc hands law ear is run k in_time s at learns c.at good slot)
+        one-true c.at (record_of s.lesson.records slot c.at) one (records-true sc hands law ear is run k in_time s at learns c.at good slot)
 
 -- The RMU was in that slot and stage, and trusted the slot's node.
 
-trusted-in : (sc : Scenario) (hands : List HandIn) → IsLawful sc → (ear : Ear) (frame slot stage i : ℕ) (kind : Side) → slot < sync_slot_of sc.sizes → 1 ≤ stage → stage ≤ 3
+trusted-in : {sc hands : _} → IsLawful sc → {ear frame slot stage : _} (i : ℕ) (kind : Side) → slot < sync_slot_of sc.sizes → 1 ≤ stage → stage ≤ 3
     → stage_recorded (role_of sc.sizes slot) ≡ stage
     → ((st : NodeState) → sender_at sc.sizes Rmu st slot ≡ if_trusted (trusted_of kind Rmu st) i) → IsRecordedOne sc hands ear frame slot
     → IsTrustedIn sc hands frame slot stage kind i
-trusted-in sc hands law ear frame slot stage i kind below some few staged sender r = record {
+trusted-in {sc} {hands} law {frame} {slot} {stage} i kind below some few staged sender r = record {
   frame = now.frame;
   number_is = sym r.place.frame_is ∙ ap (λ x. x.frame) (sym r.came.is) ∙ put.frame;
   running = subst (λ k. IsRunning (moment sc hands k)) number sent.running;
@@ -105,7 +105,7 @@ trusted-in sc hands law ear frame slot stage i kind below some few staged sender
     now = moment sc hands r.came.good.n
 
     put : IsInPlace sc (moment sc hands r.came.good.n) r.came.good.sending.message
-    put = in-place sc hands law r.came.good.n r.came.coming.from r.came.good.sending r.came.good.sent
+    put = in-place law r.came.good.sent
 
     slot_is : r.came.good.sending.message.slot ≡ slot
     slot_is = ap (λ x. x.slot) r.came.is ∙ r.place.slot_is
@@ -117,7 +117,7 @@ trusted-in sc hands law ear frame slot stage i kind below some few staged sender
     window = omega (arith, put.window, slot_is, stage_is, some)
 
     number : r.came.good.n ≡ now.frame * (windows_in sc.sizes + 1) + 3 * slot + stage - 1
-    number = omega (arith, (agreement sc hands law r.came.good.n sent.running).agree.place, window, some)
+    number = omega (arith, (agreement hands law r.came.good.n sent.running).agree.place, window, some)
 
     ws : Windows sc now slot (stage - 1 + 1)
     ws = exact_windows sc now slot (stage - 1) below (omega (arith, some, few)) window
@@ -126,14 +126,14 @@ trusted-in sc hands law ear frame slot stage i kind below some few staged sender
     good_there = ap (is_good sc Rmu r.came.coming.from now.frame) (sym (ap (λ w. w.slot) (ws.are Rmu sent.state))) ∙ sent.good.1
 
     agreed : IsAgreed sc hands r.came.good.n
-    agreed = agreement sc hands law r.came.good.n sent.running
+    agreed = agreement hands law r.came.good.n sent.running
 
     theirs : (me : Side) (j : ℕ) (st : NodeState) → is_good sc me j now.frame slot ≡ true → slice_get (of_kind me now.nodes) j ≡ Some st
         → trusted_of kind me st ≡ agreed.shared.trusted kind
     theirs me j st good there =
         (agreed.agree.nodes me j st (record {
           there = there;
-          good = ap (is_good sc me j now.frame) (slot_here sc.sizes now.window slot (stage - 1) below (omega (arith, some, few)) window) ∙ good;
+          good = ap (is_good sc me j now.frame) (slot_here sc.sizes slot (stage - 1) below (omega (arith, some, few)) window) ∙ good;
         })).trusted kind
 
     mine : trusted_of kind Rmu sent.state ≡ agreed.shared.trusted kind
@@ -143,8 +143,8 @@ trusted-in sc hands law ear frame slot stage i kind below some few staged sender
     word = word_at sc now slot r.came.coming.from
 
     parts : IsSent sc.sizes sc.plan Rmu r.came.coming.from sent.state slot (stage - 1 + 1) word r.came.good.sending
-    parts = sent_parts sc.sizes sc.plan Rmu r.came.coming.from sent.state slot (stage - 1 + 1) word r.came.good.sending
-        (sends-at sc hands r.came.good.n r.came.coming.from r.came.good.sending sent slot (stage - 1 + 1) ws)
+    parts = sent_parts sc.sizes sc.plan Rmu r.came.coming.from sent.state slot (stage - 1 + 1) word
+        (sends-at sent ws)
 
     away : (slot == sync_slot_of sc.sizes) ≡ false
     away = grind (arith, nat_tests, below)
@@ -155,8 +155,7 @@ trusted-in sc hands law ear frame slot stage i kind below some few staged sender
 
     silent : sender_at sc.sizes Rmu sent.state slot ≡ Nobody → ⊥
     silent =
-        says-some sc.sizes r.came.coming.from sent.state slot (stage - 1 + 1) word (says sc.sizes Rmu r.came.coming.from sent.state slot (stage - 1 + 1) word)
-        r.came.good.sending.message refl (sym said ∙ parts.message)
+        says-some sc.sizes r.came.coming.from sent.state slot (stage - 1 + 1) word (says sc.sizes Rmu r.came.coming.from sent.state slot (stage - 1 + 1) word) refl (sym said ∙ parts.message)
 
 -- Both kinds.
 
@@ -178,9 +177,9 @@ trusts-the-trusted sc hands law ear is run k in_time s at learns i = (biu, rmu)
     biu h =
         let within : i < sc.sizes.bius = ltb-true i sc.sizes.bius (and_first (nat_lt i sc.sizes.bius) (are_most sc.sizes (ones_in s.lesson.records i)) h) in
         let role : role_of sc.sizes i ≡ Schedule i = schedule_role sc.sizes i within in
-        trusted-in sc hands law ear s.lesson.frame i 2 i Biu (omega (arith, within)) (omega arith) (omega arith) (ap stage_recorded role)
+        trusted-in law i Biu (omega (arith, within)) (omega arith) (omega arith) (ap stage_recorded role)
         (λ st. ap (sender_in (trusted_of Biu Rmu st) (trusted_of Rmu Rmu st) st.owners) role)
-        (one-of-most sc hands law ear is run k in_time s at learns i (and_second (nat_lt i sc.sizes.bius) (are_most sc.sizes (ones_in s.lesson.records i)) h))
+        (one-of-most law is run k in_time s at learns i (and_second (nat_lt i sc.sizes.bius) (are_most sc.sizes (ones_in s.lesson.records i)) h))
 
     rmu : trusts_rmu sc.sizes s.lesson.records i ≡ true → IsTrustedIn sc hands s.lesson.frame (first_diagnosis_of Rmu sc.sizes + i) 3 Rmu i
     rmu h =
@@ -188,7 +187,7 @@ trusts-the-trusted sc hands law ear is run k in_time s at learns i = (biu, rmu)
         let within : i < sc.sizes.rmus =
         ltb-true i sc.sizes.rmus (and_first (nat_lt i sc.sizes.rmus) (are_most sc.sizes (ones_in s.lesson.records (first_diagnosis_of Rmu sc.sizes + i))) h) in
         let role : role_of sc.sizes (first_diagnosis_of Rmu sc.sizes + i) ≡ DiagRmu i = diagnosis-role sc.sizes i within in
-        trusted-in sc hands law ear s.lesson.frame (first_diagnosis_of Rmu sc.sizes + i) 3 i Rmu (omega (arith, within)) (omega arith) (omega arith) (ap stage_recorded role)
+        trusted-in law i Rmu (omega (arith, within)) (omega arith) (omega arith) (ap stage_recorded role)
         (λ st. ap (sender_in (trusted_of Biu Rmu st) (trusted_of Rmu Rmu st) st.owners) role)
-        (one-of-most sc hands law ear is run k in_time s at learns (first_diagnosis_of Rmu sc.sizes + i)
+        (one-of-most law is run k in_time s at learns (first_diagnosis_of Rmu sc.sizes + i)
         (and_second (nat_lt i sc.sizes.rmus) (are_most sc.sizes (ones_in s.lesson.records (first_diagnosis_of Rmu sc.sizes + i))) h))

@@ -15,8 +15,8 @@ pub record EndOf (sc : Scenario) (hands : List HandIn) (frame : ℕ) : Type 0 wh
   pub next_trusted : (me : Side) (i : ℕ) (st : NodeState) → IsGoodBefore sc hands (suc frame) 0 me i st → (kind : Side)
       → trusted_of kind me st ≡ without (shared.trusted kind) (convicted_all sc.sizes shared kind)
 
-pub end-of : (sc : Scenario) (hands : List HandIn) → IsLawful sc → (frame : ℕ) → IsComplete sc hands frame (sync_slot_of sc.sizes) → EndOf sc hands frame
-end-of sc hands law frame complete = record {
+pub end-of : {sc hands : _} → IsLawful sc → {frame : ℕ} → IsComplete sc hands frame (sync_slot_of sc.sizes) → EndOf sc hands frame
+end-of {sc} {hands} law {frame} complete = record {
   n = suc (frame * (windows_in sc.sizes + 1) + 3 * sync_slot_of sc.sizes + 4 - 1);
   place = omega arith;
   running = running;
@@ -24,20 +24,19 @@ end-of sc hands law frame complete = record {
   shared = a.shared;
   end = at_end;
   next_trusted = λ me i st h kind.
-      (holds-turned sc hands (suc (frame * (windows_in sc.sizes + 1) + 3 * sync_slot_of sc.sizes + 4 - 1)) (moment sc hands (suc (frame * (windows_in sc.sizes + 1) + 3 * sync_slot_of sc.sizes + 4 - 1)))
-      a.shared at_end me i st
-      (subst (λ m. IsGoodNode sc m me i st) (sym t.turn ∙ ap (next_frame sc hands) t.tail) (good_before_slot sc hands (suc frame) 0 (omega arith) p0 me i st h))).trusted kind
+      (holds-turned at_end
+      (subst (λ m. IsGoodNode sc m me i st) (sym t.turn ∙ ap (next_frame sc hands) t.tail) (good_before_slot (omega arith) p0 h))).trusted kind
       ∙ next-trusted sc.sizes a.shared kind;
 }
   where
     t : IsTurn sc hands frame
-    t = frame_turns sc hands law frame complete
+    t = frame_turns law complete
 
     p4 : IsPlaced sc hands frame (sync_slot_of sc.sizes) 4
-    p4 = placed sc hands law frame (sync_slot_of sc.sizes) 4 (omega arith) (omega arith) (omega arith) complete
+    p4 = placed hands law frame (sync_slot_of sc.sizes) 4 (omega arith) (omega arith) (omega arith) complete
 
     p0 : IsPlaced sc hands (suc frame) 0 1
-    p0 = placed sc hands law (suc frame) 0 1 (omega arith) (omega arith) (omega arith) t.running
+    p0 = placed hands law (suc frame) 0 1 (omega arith) (omega arith) (omega arith) t.running
 
     running : IsRunning (moment sc hands (suc (frame * (windows_in sc.sizes + 1) + 3 * sync_slot_of sc.sizes + 4 - 1)))
     running =
@@ -45,7 +44,7 @@ end-of sc hands law frame complete = record {
         (omega (arith, turn-index frame (sync_slot_of sc.sizes))) t.running
 
     a : IsAgreed sc hands (suc (frame * (windows_in sc.sizes + 1) + 3 * sync_slot_of sc.sizes + 4 - 1))
-    a = agreement sc hands law (suc (frame * (windows_in sc.sizes + 1) + 3 * sync_slot_of sc.sizes + 4 - 1)) running
+    a = agreement hands law (suc (frame * (windows_in sc.sizes + 1) + 3 * sync_slot_of sc.sizes + 4 - 1)) running
 
     at_end : AtEnd sc hands (suc (frame * (windows_in sc.sizes + 1) + 3 * sync_slot_of sc.sizes + 4 - 1)) (moment sc hands (suc (frame * (windows_in sc.sizes + 1) + 3 * sync_slot_of sc.sizes + 4 - 1))) a.shared
     at_end = record {

@@ -1,5 +1,5 @@
 -- A listener that has decided waits for its first frame.
-use Rattle.std.proofs.{Common.{◌≡◌, ℕ, zero, suc, ◌+◌, ◌-◌, ◌<◌, ◌≤◌, ◌==◌, nat_lt, Bool, true, false, Option, Some, List, [], ◌∷◌, refl, ◌∙◌, ap, subst, arith}, lemmas.Bool.lt-ltb}
+use Rattle.std.proofs.{Common.{◌≡◌, ℕ, zero, suc, ◌+◌, ◌-◌, ◌<◌, ◌≤◌, ◌==◌, nat_lt, true, false, Option, Some, List, [], ◌∷◌, refl, ◌∙◌, ap, subst, arith}, lemmas.Bool.lt-ltb}
 use Rattle.rb_base.proofs.Plain.{eq_self, more-differs}
 use Rattle.rb_rules.specs.{Goodness.Scenario, Hearing.Coming, Lawful.IsLawful, Ports.HandIn}
 use Rattle.rb_listen.specs.{Lessons.first_of, Listening.{Heeding, Listening, decided, first_core, followed, hear, heed, if_after, is_deciding, is_over, later, search_on, untold, wait_on}, declared.lesson.First.First, declared.search.Search.Search}
@@ -13,20 +13,20 @@ unfolding hear
 hears-nothing sc [] had first = refl
 hears-nothing sc (c ∷ cs) had first = hears-nothing sc cs had first
 
-decided-is : (s : Search) (o : Option First) (first : First) → o ≡ Some first → nat_lt s.had first.epoch ≡ true → decided s o ≡ now.Waiting (s.had + 1) first
-decided-is s o first is ahead = ap (decided s) is ∙ ap (if_after s first) ahead
+decided-is : (s : Search) {o : Option First} {first : First} → o ≡ Some first → nat_lt s.had first.epoch ≡ true → decided s o ≡ now.Waiting (s.had + 1) first
+decided-is s {first} is ahead = ap (decided s) is ∙ ap (if_after s first) ahead
 
-on-deciding : (sc : Scenario) (s : Search) (first : First) → is_over s.had ≡ false → is_deciding s ≡ true → first_of sc.sizes sc.plan s.lesson ≡ Some first → nat_lt s.had first.epoch ≡ true
+on-deciding : (sc : Scenario) (s : Search) {first : _} → is_over s.had ≡ false → is_deciding s ≡ true → first_of sc.sizes sc.plan s.lesson ≡ Some first → nat_lt s.had first.epoch ≡ true
     → (heed sc.sizes sc.plan (now.Searching s)).listening ≡ now.Waiting (s.had + 1) first
 unfolding heed search_on
-on-deciding sc s first over deciding is ahead =
+on-deciding sc s over deciding is ahead =
     ap (λ b. (elim b as (λ _. Heeding) [ true ↦ untold (now.Searching s) | false ↦ untold (search_on sc.sizes sc.plan s) ]).listening) over
     ∙ ap (λ b. elim b as (λ _. Listening) [ true ↦ decided s (first_of sc.sizes sc.plan s.lesson) | false ↦ now.Searching (later s) ]) deciding
-    ∙ decided-is s (first_of sc.sizes sc.plan s.lesson) first is ahead
+    ∙ decided-is s is ahead
 
-on-waiting : (sc : Scenario) (had : ℕ) (first : First) (begins : Bool) → is_over had ≡ false → (first.epoch == had) ≡ begins → heed sc.sizes sc.plan (now.Waiting had first) ≡ wait_on sc.sizes sc.plan had first begins
+on-waiting : (sc : Scenario) (had : ℕ) (first : First) {begins : _} → is_over had ≡ false → (first.epoch == had) ≡ begins → heed sc.sizes sc.plan (now.Waiting had first) ≡ wait_on sc.sizes sc.plan had first begins
 unfolding heed
-on-waiting sc had first begins over is =
+on-waiting sc had first over is =
     ap (λ b. elim b as (λ _. Heeding) [ true ↦ untold (now.Waiting had first) | false ↦ wait_on sc.sizes sc.plan had first (first.epoch == had) ]) over
     ∙ ap (wait_on sc.sizes sc.plan had first) is
 
@@ -37,11 +37,11 @@ waits-for sc hands law ear is run learned tick s decides first found ahead = rec
       subst (λ t. listening_at sc ear t ≡ now.Waiting t first) e (waits (k - suc tick) (omega (arith, e, le)) (omega (arith, e, in_time)));
   begins = λ in_time. let e : (first.epoch - suc tick) + suc tick ≡ first.epoch = omega (arith, ahead) in
       ap (heed sc.sizes sc.plan) (subst (λ t. listening_at sc ear t ≡ now.Waiting t first) e (waits (first.epoch - suc tick) (omega (arith, e)) (omega (arith, e, in_time))))
-      ∙ on-waiting sc first.epoch first true (not-yet sc ear is first.epoch first.epoch in_time refl) (eq_self first.epoch);
+      ∙ on-waiting sc first.epoch first (not-yet is in_time refl) (eq_self first.epoch);
 }
   where
     at : HoldsAt ear (IsFresh sc hands ear) tick (listening_at sc ear tick)
-    at = fresh-at sc hands law ear is run tick decides.in_time
+    at = fresh-at law is run tick decides.in_time
 
     here : IsFresh sc hands ear tick at.n s
     here = subst (HoldsIn (IsFresh sc hands ear tick at.n)) decides.searching at.holds
@@ -52,7 +52,7 @@ waits-for sc hands law ear is run learned tick s decides first found ahead = rec
     next : (heed sc.sizes sc.plan (listening_at sc ear tick)).listening ≡ now.Waiting (suc tick) first
     next =
         ap (λ x. (heed sc.sizes sc.plan x).listening) decides.searching
-        ∙ on-deciding sc s first (not-yet sc ear is tick s.had decides.in_time had) decides.deciding found (lt-ltb s.had first.epoch (omega (arith, had, ahead)))
+        ∙ on-deciding sc s (not-yet is decides.in_time had) decides.deciding found (lt-ltb s.had first.epoch (omega (arith, had, ahead)))
         ∙ ap (λ t. now.Waiting (t + 1) first) had ∙ (let e : tick + 1 ≡ suc tick = omega arith in ap (λ t. now.Waiting t first) e)
 
     waits : (d : ℕ) → d + suc tick ≤ first.epoch → d + suc tick < ear.ticks → listening_at sc ear (d + suc tick) ≡ now.Waiting (d + suc tick) first
@@ -65,7 +65,7 @@ waits-for sc hands law ear is run learned tick s decides first found ahead = rec
         let before : listening_at sc ear (d + suc tick) ≡ now.Waiting (d + suc tick) first = waits d (omega (arith, le)) (omega (arith, in_time)) in
         let step : (heed sc.sizes sc.plan (listening_at sc ear (d + suc tick))).listening ≡ now.Waiting (suc (d + suc tick)) first =
         ap (λ x. (heed sc.sizes sc.plan x).listening) before
-        ∙ ap (λ x. x.listening) (on-waiting sc (d + suc tick) first false (not-yet sc ear is (d + suc tick) (d + suc tick) (omega (arith, in_time)) refl) (more-differs first.epoch (d + suc tick) (omega (arith, le))))
+        ∙ ap (λ x. x.listening) (on-waiting sc (d + suc tick) first (not-yet is (omega (arith, in_time)) refl) (more-differs first.epoch (d + suc tick) (omega (arith, le))))
         ∙ ap (λ t. now.Waiting t first) f in
         subst (λ t. listening_at sc ear t ≡ now.Waiting t first) e
         (ap (hears sc (ear.heard (suc (d + suc tick)))) step ∙ hears-nothing sc (ear.heard (suc (d + suc tick))) (suc (d + suc tick)) first)

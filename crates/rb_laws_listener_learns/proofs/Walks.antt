@@ -21,12 +21,12 @@ HoldsIn P (now.Searching s) = P s
 HoldsIn P (now.Waiting had first) = Unit {0}
 HoldsIn P (now.Following c) = Unit {0}
 
-hear-keeps : (sc : Scenario) (ear : Ear) (P : ℕ → ℕ → Search → Type 0) → IsKept sc ear P → (k n : ℕ) (c : Coming) → k < ear.ticks → slice_get (ear.heard k) n ≡ Some c
+hear-keeps : {sc ear : _} (P : ℕ → ℕ → Search → Type 0) → IsKept sc ear P → (k n : ℕ) {c : _} → k < ear.ticks → slice_get (ear.heard k) n ≡ Some c
     → (l : Listening) → HoldsIn (P k n) l → HoldsIn (P k (suc n)) (hear sc.sizes sc.plan c.from c.bytes l)
 unfolding hear
-hear-keeps sc ear P kept k n c in_time there (now.Searching s) h = kept.heard k n c in_time there s h
-hear-keeps sc ear P kept k n c in_time there (now.Waiting had first) h = tt
-hear-keeps sc ear P kept k n c in_time there (now.Following core) h = tt
+hear-keeps P kept k n {c} in_time there (now.Searching s) h = kept.heard k n c in_time there s h
+hear-keeps P kept k n in_time there (now.Waiting had first) h = tt
+hear-keeps P kept k n in_time there (now.Following core) h = tt
 
 -- `P` holds at tick `k`, when all messages of its stamp were heard
 pub record HoldsAt (ear : Ear) (P : ℕ → ℕ → Search → Type 0) (k : ℕ) (l : Listening) : Type 0 where
@@ -34,13 +34,13 @@ pub record HoldsAt (ear : Ear) (P : ℕ → ℕ → Search → Type 0) (k : ℕ)
   pub holds : HoldsIn (P k n) l
   pub whole : slice_get (ear.heard k) n ≡ None
 
-hears-keeps : (sc : Scenario) (ear : Ear) (P : ℕ → ℕ → Search → Type 0) → IsKept sc ear P → (k n : ℕ) (cs : List Coming) → k < ear.ticks
+hears-keeps : {sc ear : _} (P : ℕ → ℕ → Search → Type 0) → IsKept sc ear P → (k n : ℕ) (cs : List Coming) → k < ear.ticks
     → ((i : ℕ) → slice_get (ear.heard k) (i + n) ≡ slice_get cs i)
     → (l : Listening) → HoldsIn (P k n) l → HoldsAt ear P k (hears sc cs l)
-hears-keeps sc ear P kept k n [] in_time are l h = record { n = n; holds = h; whole = let e : n ≡ 0 + n = omega arith in ap (slice_get (ear.heard k)) e ∙ are zero }
-hears-keeps sc ear P kept k n (c ∷ cs) in_time are l h =
-    hears-keeps sc ear P kept k (suc n) cs in_time (λ i. let e : i + suc n ≡ suc i + n = omega arith in ap (slice_get (ear.heard k)) e ∙ are (suc i))
-    (hear sc.sizes sc.plan c.from c.bytes l) (hear-keeps sc ear P kept k n c in_time (let e : n ≡ 0 + n = omega arith in ap (slice_get (ear.heard k)) e ∙ are zero) l h)
+hears-keeps {ear} P kept k n [] in_time are l h = record { n = n; holds = h; whole = let e : n ≡ 0 + n = omega arith in ap (slice_get (ear.heard k)) e ∙ are zero }
+hears-keeps {sc} {ear} P kept k n (c ∷ cs) in_time are l h =
+    hears-keeps P kept k (suc n) cs in_time (λ i. let e : i + suc n ≡ suc i + n = omega arith in ap (slice_get (ear.heard k)) e ∙ are (suc i))
+    (hear sc.sizes sc.plan c.from c.bytes l) (hear-keeps P kept k n in_time (let e : n ≡ 0 + n = omega arith in ap (slice_get (ear.heard k)) e ∙ are zero) l h)
 
 decided-keeps : (P : Search → Type 0) (s : Search) → P (learning (frame_after s.lesson.frame) (later s)) → (o : Option First) → HoldsIn P (decided s o)
 decided-keeps P s again None = again
@@ -66,24 +66,24 @@ waits sc P had first begins true = tt
 waits sc P had first true false = tt
 waits sc P had first false false = tt
 
-heed-keeps : (sc : Scenario) (ear : Ear) (P : ℕ → ℕ → Search → Type 0) → IsKept sc ear P → (k n : ℕ) → k < ear.ticks → slice_get (ear.heard k) n ≡ None
+heed-keeps : {sc ear : _} (P : ℕ → ℕ → Search → Type 0) → IsKept sc ear P → (k n : ℕ) → k < ear.ticks → slice_get (ear.heard k) n ≡ None
     → (l : Listening) → HoldsIn (P k n) l → HoldsIn (P (suc k) 0) (heed sc.sizes sc.plan l).listening
 unfolding heed search_on
-heed-keeps sc ear P kept k n in_time whole (now.Searching s) h =
+heed-keeps {sc} P kept k n in_time whole (now.Searching s) h =
     not-over (P (suc k) 0) s (search_on sc.sizes sc.plan s) (is_over s.had) (kept.lasts k n s in_time h)
     (search-keeps (P (suc k) 0) s (first_of sc.sizes sc.plan s.lesson) (is_deciding s) refl (kept.decided k n s in_time whole h) (kept.later k n s in_time whole h))
-heed-keeps sc ear P kept k n in_time whole (now.Waiting had first) h = waits sc (P (suc k) 0) had first (first.epoch == had) (is_over had)
-heed-keeps sc ear P kept k n in_time whole (now.Following c) h = tt
+heed-keeps {sc} P kept k n in_time whole (now.Waiting had first) h = waits sc (P (suc k) 0) had first (first.epoch == had) (is_over had)
+heed-keeps P kept k n in_time whole (now.Following c) h = tt
 
-pub always-at : (sc : Scenario) (ear : Ear) (P : ℕ → ℕ → Search → Type 0) → IsKept sc ear P → (k : ℕ) → k < ear.ticks → HoldsAt ear P k (listening_at sc ear k)
-always-at sc ear P kept zero in_time =
-    hears-keeps sc ear P kept zero 0 (ear.heard zero) in_time (λ i. let e : i + 0 ≡ i = omega arith in ap (slice_get (ear.heard zero)) e)
+pub always-at : {sc ear : _} (P : ℕ → ℕ → Search → Type 0) → IsKept sc ear P → (k : ℕ) → k < ear.ticks → HoldsAt ear P k (listening_at sc ear k)
+always-at {ear} P kept zero in_time =
+    hears-keeps P kept zero 0 (ear.heard zero) in_time (λ i. let e : i + 0 ≡ i = omega arith in ap (slice_get (ear.heard zero)) e)
     (now.Searching first_search) kept.first
-always-at sc ear P kept (suc k) in_time =
-    let before : HoldsAt ear P k (listening_at sc ear k) = always-at sc ear P kept k (omega (arith, in_time)) in
-    hears-keeps sc ear P kept (suc k) 0 (ear.heard (suc k)) in_time (λ i. let e : i + 0 ≡ i = omega arith in ap (slice_get (ear.heard (suc k))) e)
+always-at {sc} {ear} P kept (suc k) in_time =
+    let before : HoldsAt ear P k (listening_at sc ear k) = always-at P kept k (omega (arith, in_time)) in
+    hears-keeps P kept (suc k) 0 (ear.heard (suc k)) in_time (λ i. let e : i + 0 ≡ i = omega arith in ap (slice_get (ear.heard (suc k))) e)
     (heed sc.sizes sc.plan (listening_at sc ear k)).listening
-    (heed-keeps sc ear P kept k before.n (omega (arith, in_time)) before.whole (listening_at sc ear k) before.holds)
+    (heed-keeps P kept k before.n (omega (arith, in_time)) before.whole (listening_at sc ear k) before.holds)
 
-pub always : (sc : Scenario) (ear : Ear) (P : ℕ → ℕ → Search → Type 0) → IsKept sc ear P → (k : ℕ) → k < ear.ticks → (n : ℕ) × HoldsIn (P k n) (listening_at sc ear k)
-always sc ear P kept k in_time = let at : HoldsAt ear P k (listening_at sc ear k) = always-at sc ear P kept k in_time in (at.n, at.holds)
+pub always : {sc ear : _} (P : ℕ → ℕ → Search → Type 0) → IsKept sc ear P → (k : ℕ) → k < ear.ticks → (n : ℕ) × HoldsIn (P k n) (listening_at sc ear k)
+always {sc} {ear} P kept k in_time = let at : HoldsAt ear P k (listening_at sc ear k) = always-at P kept k in_time in (at.n, at.holds)

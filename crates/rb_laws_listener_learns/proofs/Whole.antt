@@ -14,10 +14,10 @@ use Rattle.rb_laws_listener_learns.proofs.{Apart.{AllWereAt, WasAt, all-were-at,
 -- What an RMU sends that turns faulty in a later frame comes after the decision.
 
 -- a later frame begins later, by the skew too, than z ticks of a pass after the calls
-begins-late : (low p f h l v z u d least most eps w skew : ℕ) → most ≡ least + eps → skew + d * h ≤ h * u + least
+begins-late : (low p f h l v z u d least : ℕ) {most : ℕ} (eps w skew : ℕ) → most ≡ least + eps → skew + d * h ≤ h * u + least
     → p + d * (f + h) + 3 * most + 2 * (u + d) + d * (l + v) + (1 + h) * u ≤ z * u → w * u ≤ v * u → w * d ≤ v * d
     → low + p + (f + h) * (u + d) + most + (u + d) + l * (u + d) + most + (u + d) + w * (u + d) + u + skew ≤ low + (f + h) * u + least + l * u + least + (v + z) * u
-begins-late low p f h l v z u d least most eps w skew e fits c6 wu wd = omega (arith, e, fits, c6, wu, wd)
+begins-late low p f h l v z u d least eps w skew e fits c6 wu wd = omega (arith, e, fits, c6, wu, wd)
 
 later-onset : (learned sync f s : ℕ) → (nat_lt learned f || ((learned == f) && nat_lt sync s)) ≡ true → s ≤ sync → learned < f
 later-onset learned sync f s h le =
@@ -26,20 +26,20 @@ later-onset learned sync f s h le =
       | inr same ↦ absurd (omega (arith, le, ltb-true sync s (and_second (learned == f) (nat_lt sync s) same)))
     ]
 
-slot-in-run : (sc : Scenario) → IsLawful sc → (j learned f s : ℕ) → is_good sc Rmu j learned (sync_slot_of sc.sizes) ≡ true → get_or sc.rmu_onsets j None ≡ Some (f, s) → s ≤ sync_slot_of sc.sizes
-slot-in-run sc law j learned f s good onset =
-    onset-in sc law j f s (ltb-true j sc.sizes.rmus (and_first (nat_lt j sc.sizes.rmus) (is_before (get_or sc.rmu_onsets j None) learned (sync_slot_of sc.sizes)) good)) onset
+slot-in-run : {sc : _} → IsLawful sc → (j learned f s : ℕ) → is_good sc Rmu j learned (sync_slot_of sc.sizes) ≡ true → get_or sc.rmu_onsets j None ≡ Some (f, s) → s ≤ sync_slot_of sc.sizes
+slot-in-run {sc} law j learned f s good onset =
+    onset-in law j f s (ltb-true j sc.sizes.rmus (and_first (nat_lt j sc.sizes.rmus) (is_before (get_or sc.rmu_onsets j None) learned (sync_slot_of sc.sizes)) good)) onset
 
-onset-later : (sc : Scenario) → IsLawful sc → (j learned f s : ℕ) → is_good sc Rmu j learned (sync_slot_of sc.sizes) ≡ true → get_or sc.rmu_onsets j None ≡ Some (f, s) → learned < f
-onset-later sc law j learned f s good onset =
+onset-later : {sc : _} → IsLawful sc → (j learned f s : ℕ) → is_good sc Rmu j learned (sync_slot_of sc.sizes) ≡ true → get_or sc.rmu_onsets j None ≡ Some (f, s) → learned < f
+onset-later {sc} law j learned f s good onset =
     later-onset learned (sync_slot_of sc.sizes) f s
     (ap (λ o. is_before o learned (sync_slot_of sc.sizes)) (sym onset) ∙ and_second (nat_lt j sc.sizes.rmus) (is_before (get_or sc.rmu_onsets j None) learned (sync_slot_of sc.sizes)) good)
-    (slot-in-run sc law j learned f s good onset)
+    (slot-in-run law j learned f s good onset)
 
-pub not-faulty : (sc : Scenario) (hands : List HandIn) → IsLawful sc → (ear : Ear) → IsEar sc ear → (i number b : ℕ) (c : IsHeardCall sc hands ear i number b) (j : ℕ)
-    → is_good sc Rmu j (moment sc hands c.n).frame (sync_slot_of sc.sizes) ≡ true → (k : ℕ) → k ≤ b + reach_of sc.plan → (x : Coming) → x.from ≡ j → (at : ℕ) → at ≤ k
+pub not-faulty : {sc : Scenario} {hands : List HandIn} → IsLawful sc → {ear : Ear} → IsEar sc ear → {i number b : ℕ} (c : IsHeardCall sc hands ear i number b) {j : ℕ}
+    → is_good sc Rmu j (moment sc hands c.n).frame (sync_slot_of sc.sizes) ≡ true → (k : ℕ) → k ≤ b + reach_of sc.plan → {x : Coming} → x.from ≡ j → {at : ℕ} → at ≤ k
     → IsStamp ear.clock x.time at → IsOfFaulty sc hands x → ⊥
-not-faulty sc hands law ear is i number b c j good k soon x from at le stamped faulty =
+not-faulty {sc} {hands} law {ear} is {i} {b} c {j} good k soon {x} from {at} le stamped faulty =
     omega (arith, faulty.not_early, begins, by_then, reached, to, room)
   where
     u : ℕ
@@ -52,25 +52,25 @@ not-faulty sc hands law ear is i number b c j good k soon x from at le stamped f
     w = reach_of sc.plan
 
     fit : plan_fits sc
-    fit = lawful_fits sc law
+    fit = lawful_fits law
 
     first : IsSynchronous sc hands c.n
-    first = synchrony sc hands law c.n c.sent.running
+    first = synchrony hands law c.n c.sent.running
 
     onset : get_or sc.rmu_onsets j None ≡ Some (faulty.frame, faulty.slot)
     onset = ap (λ t. get_or sc.rmu_onsets t None) (sym from) ∙ faulty.onset
 
     later : (moment sc hands c.n).frame < faulty.frame
-    later = onset-later sc law j (moment sc hands c.n).frame faulty.frame faulty.slot good onset
+    later = onset-later law j (moment sc hands c.n).frame faulty.frame faulty.slot good onset
 
     slots : faulty.slot ≤ sync_slot_of sc.sizes
-    slots = slot-in-run sc law j (moment sc hands c.n).frame faulty.frame faulty.slot good onset
+    slots = slot-in-run law j (moment sc hands c.n).frame faulty.frame faulty.slot good onset
 
     p : IsPlaced sc hands faulty.frame faulty.slot 1
-    p = place-of sc hands law faulty.frame faulty.slot 1 slots (omega arith) (omega arith) faulty.running
+    p = place-of hands law faulty.frame faulty.slot 1 slots (omega arith) (omega arith) faulty.running
 
     node : IsGoodNode sc (before_slot sc hands faulty.frame faulty.slot) faulty.me faulty.i faulty.state
-    node = good_before_slot sc hands faulty.frame faulty.slot slots p faulty.me faulty.i faulty.state faulty.good
+    node = good_before_slot slots p faulty.good
 
     -- the first moment of the frame after the calls
     turn : ℕ
@@ -87,7 +87,7 @@ not-faulty sc hands law ear is i number b c j good k soon x from at le stamped f
     was : WasAt sc hands (suc (suc (suc (suc c.n)))) (before_slot sc hands faulty.frame faulty.slot) faulty.me faulty.i faulty.state
     was =
         subst (λ t. AllWereAt sc hands turn (moment sc hands t)) gap
-        (all-were-at sc hands law turn (faulty.frame * (windows_in sc.sizes + 1) + 3 * faulty.slot + 1 - 1 - turn) (subst (λ t. IsRunning (moment sc hands t)) (sym gap) faulty.running))
+        (all-were-at hands law turn (faulty.frame * (windows_in sc.sizes + 1) + 3 * faulty.slot + 1 - 1 - turn) (subst (λ t. IsRunning (moment sc hands t)) (sym gap) faulty.running))
         faulty.me faulty.i faulty.state node
 
     rises : time_of (clock_of sc faulty.me faulty.i) was.st.epoch ≤ time_in_frame sc faulty.me faulty.i faulty.state (3 * faulty.slot * sc.plan.l)
@@ -105,34 +105,34 @@ not-faulty sc hands law ear is i number b c j good k soon x from at le stamped f
     begins : begins_from sc first.low ≤ time_in_frame sc faulty.me faulty.i faulty.state (3 * faulty.slot * sc.plan.l)
     begins =
         let from : begins_from sc first.low ≤ time_of (clock_of sc faulty.me faulty.i) was.st.epoch =
-        begins-later sc hands law c.n first c.window_is
-        (running_earlier sc hands turn (faulty.frame * (windows_in sc.sizes + 1) + 3 * faulty.slot + 1 - 1) before faulty.running) faulty.me faulty.i was.st was.was in
+        begins-later law first c.window_is
+        (running_earlier sc hands turn (faulty.frame * (windows_in sc.sizes + 1) + 3 * faulty.slot + 1 - 1) before faulty.running) was.was in
         omega (arith, from, rises)
 
     by_then : x.time ≤ time_of ear.clock (b + reach_of sc.plan)
     by_then = omega (arith, stamped.reached, times_rise_to ear.clock at (b + reach_of sc.plan) (omega (arith, le, soon)))
 
     reached : time_of ear.clock (b + reach_of sc.plan) ≤ (coming_to sc ear i (moment sc hands c.n).frame c.sending).time + (u + d) + w * (u + d)
-    reached = omega (arith, (steady-ear sc law ear is).not_late b w, near-stamp b c.some c.stamped)
+    reached = omega (arith, (steady-ear law is).not_late b w, near-stamp b c.some c.stamped)
       where
         near-stamp : (t : ℕ) → 1 ≤ t → IsStamp ear.clock (coming_to sc ear i (moment sc hands c.n).frame c.sending).time t
             → time_of ear.clock t ≤ (coming_to sc ear i (moment sc hands c.n).frame c.sending).time + (shortest_of sc.plan + drift_of sc.plan)
         near-stamp zero some s = absurd (omega (arith, some))
-        near-stamp (suc t) some s = omega (arith, (steady-ear sc law ear is).stamped (coming_to sc ear i (moment sc hands c.n).frame c.sending).time t s)
+        near-stamp (suc t) some s = omega (arith, (steady-ear law is).stamped (coming_to sc ear i (moment sc hands c.n).frame c.sending).time t s)
 
     delay : IsDelay sc.plan (ear.delay i (record { frame = (moment sc hands c.n).frame; slot = c.sending.message.slot; stage = c.sending.message.stage }))
     delay = is.delays i (record { frame = (moment sc hands c.n).frame; slot = c.sending.message.slot; stage = c.sending.message.stage })
 
     to : (coming_to sc ear i (moment sc hands c.n).frame c.sending).time ≤ to_2 sc first.low + sc.plan.dmax
-    to = omega (arith, (call-time sc hands law c.n i c.sending c.window_is c.sent first).most, delay.greatest)
+    to = omega (arith, (call-time law c.window_is c.sent first).most, delay.greatest)
 
     in_v : w ≤ sc.plan.v
     in_v = omega arith
 
     room : to_2 sc first.low + sc.plan.dmax + (u + d) + w * (u + d) + u + stated_skew sc.plan (3 * faulty.slot * sc.plan.l) ≤ begins_from sc first.low
     room =
-        begins-late first.low sc.plan.p (f0_of sc.sizes sc.plan) sc.plan.h sc.plan.l sc.plan.v sc.plan.z u d sc.plan.dmin sc.plan.dmax (eps_of sc.plan) w
-        (stated_skew sc.plan (3 * faulty.slot * sc.plan.l)) fit.delays (skew-fits sc law faulty.slot slots) fit.after_3
+        begins-late first.low sc.plan.p (f0_of sc.sizes sc.plan) sc.plan.h sc.plan.l sc.plan.v sc.plan.z u d sc.plan.dmin (eps_of sc.plan) w
+        (stated_skew sc.plan (3 * faulty.slot * sc.plan.l)) fit.delays (skew-fits law faulty.slot slots) fit.after_3
         (mul-le-mul_right u in_v) (mul-le-mul_right d in_v)
 
 -- The decision.
@@ -148,9 +148,9 @@ pub record HasLesson (sc : Scenario) (hands : List HandIn) (ear : Ear) (learned 
   pub same : after.call.n ≡ fixed.call.call.call.n
   pub before : (moment sc hands from.call.call.n).frame < learned
 
-pub has-lesson : (sc : Scenario) (hands : List HandIn) → IsLawful sc → (ear : Ear) → IsEar sc ear → HearsTheRun sc hands ear → (learned k : ℕ) (s : Search) → DecidesBy sc hands ear learned k s
+pub has-lesson : {sc hands : _} → IsLawful sc → {ear : _} → IsEar sc ear → HearsTheRun sc hands ear → {learned k s : _} → DecidesBy sc hands ear learned k s
     → (n : ℕ) × HasLesson sc hands ear learned k n s
-has-lesson sc hands law ear is run learned k s h = (
+has-lesson {sc} {hands} law {ear} is run {learned} {k} {s} h = (
   at.n,
   record {
     whole = at.whole;
@@ -158,14 +158,14 @@ has-lesson sc hands law ear is run learned k s h = (
     after = after;
     fixed = fixed;
     frame = frame;
-    same = same-moment sc hands law ear after.j fixed.call.call.j s.lesson.frame s.lesson.frame after.at fixed.call.at after.call fixed.call.call.call
-        (same-frame-number sc hands law ear after.j fixed.call.call.j s.lesson.frame s.lesson.frame after.at fixed.call.at after.call fixed.call.call.call refl);
-    before = omega (arith, frame, next-frame-number sc hands law ear from.call.j fixed.call.call.j from.number s.lesson.frame from.at fixed.call.at from.call.call fixed.call.call.call from.next);
+    same = same-moment law after.call fixed.call.call.call
+        (same-frame-number law after.call fixed.call.call.call refl);
+    before = omega (arith, frame, next-frame-number law from.call.call fixed.call.call.call from.next);
   },
 )
   where
     at : HoldsAt ear (IsFresh sc hands ear) k (listening_at sc ear k)
-    at = fresh-at sc hands law ear is run k h.in_time
+    at = fresh-at law is run k h.in_time
 
     here : IsFresh sc hands ear k at.n s
     here = subst (HoldsIn (IsFresh sc hands ear k at.n)) h.searching at.holds
@@ -183,7 +183,7 @@ has-lesson sc hands law ear is run learned k s h = (
     fixed = from.fixed k at_k
 
     run_to : IsPlaced sc hands learned (sync_slot_of sc.sizes) 2
-    run_to = place-of sc hands law learned (sync_slot_of sc.sizes) 2 (omega arith) (omega arith) (omega arith) h.called
+    run_to = place-of hands law learned (sync_slot_of sc.sizes) 2 (omega arith) (omega arith) (omega arith) h.called
 
     in_run : learned ≤ sc.frames
     in_run = subst (λ f. f ≤ sc.frames) run_to.frame_is (within_run sc hands (learned * (windows_in sc.sizes + 1) + 3 * sync_slot_of sc.sizes + 2 - 1) h.called)
@@ -195,14 +195,14 @@ has-lesson sc hands law ear is run learned k s h = (
 
 -- What is heard of an RMU that was good up to the calls.
 
-pub all-good : (sc : Scenario) (hands : List HandIn) → IsLawful sc → (ear : Ear) → IsEar sc ear → HearsTheRun sc hands ear → (learned k n : ℕ) (s : Search) → k < ear.ticks
-    → HasLesson sc hands ear learned k n s → (j : ℕ) → is_good sc Rmu j learned (sync_slot_of sc.sizes) ≡ true → (at : ℕ) (c : Coming) → at ≤ k → c.from ≡ j → IsHeard ear at c → IsOfGood sc hands ear c
-all-good sc hands law ear is run learned k n s in_time l j good at c le from heard =
+pub all-good : {sc hands : _} → IsLawful sc → {ear : _} → IsEar sc ear → HearsTheRun sc hands ear → {learned k n s : _} → k < ear.ticks
+    → HasLesson sc hands ear learned k n s → {j : ℕ} → is_good sc Rmu j learned (sync_slot_of sc.sizes) ≡ true → (at : ℕ) (c : Coming) → at ≤ k → c.from ≡ j → IsHeard ear at c → IsOfGood sc hands ear c
+all-good {sc} law is run {learned} {k} in_time l {j} good at c le from heard =
     elim (run.only at c (omega (arith, le, in_time)) heard (subst (λ x. x < sc.sizes.rmus) (sym from) within)) [
       | inl of_good ↦ of_good
       | inr faulty ↦
-          absurd (not-faulty sc hands law ear is l.fixed.call.call.j s.lesson.frame l.fixed.call.at l.fixed.call.call.call j
-          (subst (λ f. is_good sc Rmu j f (sync_slot_of sc.sizes) ≡ true) (sym l.frame) good) k (omega (arith, l.fixed.tick_is, l.fixed.call.late)) c from at le
+          absurd (not-faulty law is l.fixed.call.call.call
+          (subst (λ f. is_good sc Rmu j f (sync_slot_of sc.sizes) ≡ true) (sym l.frame) good) k (omega (arith, l.fixed.tick_is, l.fixed.call.late)) from le
           (is.stamps at c (omega (arith, le, in_time)) heard) faulty)
     ]
   where
@@ -210,16 +210,16 @@ all-good sc hands law ear is run learned k n s in_time l j good at c le from hea
     within = ltb-true j sc.sizes.rmus (and_first (nat_lt j sc.sizes.rmus) (is_before (get_or sc.rmu_onsets j None) learned (sync_slot_of sc.sizes)) good)
 
 -- two messages of one place are one
-pub same-place-of : (sc : Scenario) (hands : List HandIn) → IsLawful sc → (ear : Ear) → IsEar sc ear → HearsTheRun sc hands ear → (frame slot j at i b o : ℕ) (m x : Message)
+pub same-place-of : {sc hands : _} → IsLawful sc → {ear : _} → IsEar sc ear → HearsTheRun sc hands ear → {frame slot j at i b o m x : _}
     → (p : IsPlacedAt sc ear frame slot j at i m) (q : IsPlacedAt sc ear frame slot j b o x) → at < ear.ticks → b < ear.ticks → IsOfGood sc hands ear p.coming → IsOfGood sc hands ear q.coming
     → (at ≡ b) × (i ≡ o)
-same-place-of sc hands law ear is run frame slot j at i b o m x p q in_at in_b good_p good_q = (stamps, nth)
+same-place-of {sc} law {ear} is run {frame} {at} {i} {b} {o} {m} {x} p q in_at in_b good_p good_q = (stamps, nth)
   where
     sent_p : good_p.sending.message ≡ m
-    sent_p = reads-sent sc hands law ear p.coming good_p m p.reads
+    sent_p = reads-sent law good_p p.reads
 
     sent_q : good_q.sending.message ≡ x
-    sent_q = reads-sent sc hands law ear q.coming good_q x q.reads
+    sent_q = reads-sent law good_q q.reads
 
     here : IsOfPlace sc frame m.slot m
     here = placed sc frame m p.place
@@ -232,7 +232,7 @@ same-place-of sc hands law ear is run frame slot j at i b o m x p q in_at in_b g
 
     same : p.coming ≡ q.coming
     same =
-        same-coming sc hands law ear p.coming q.coming good_p good_q (p.from ∙ sym q.from)
+        same-coming law good_p good_q (p.from ∙ sym q.from)
         (ap (λ y. y.frame) sent_p ∙ here.frame_is ∙ sym there.frame_is ∙ ap (λ y. y.frame) (sym sent_q))
         (ap (λ y. y.slot) sent_p ∙ slots ∙ ap (λ y. y.slot) (sym sent_q))
         (ap (λ y. y.stage) sent_p ∙ here.stage_is ∙ ap (λ t. stage_recorded (role_of sc.sizes t)) slots ∙ sym there.stage_is ∙ ap (λ y. y.stage) (sym sent_q))
@@ -246,9 +246,9 @@ same-place-of sc hands law ear is run frame slot j at i b o m x p q in_at in_b g
     nth : i ≡ o
     nth = run.once b i o q.coming in_b good_q (ap (λ t. slice_get (ear.heard t) i) (sym stamps) ∙ at_there) q.there
 
-never-spoilt : (sc : Scenario) (hands : List HandIn) → IsLawful sc → (ear : Ear) → IsEar sc ear → HearsTheRun sc hands ear → (k n frame slot j : ℕ) → k < ear.ticks
+never-spoilt : {sc hands : _} → IsLawful sc → {ear : _} → IsEar sc ear → HearsTheRun sc hands ear → {k n frame slot j : ℕ} → k < ear.ticks
     → ((at : ℕ) (c : Coming) → at ≤ k → c.from ≡ j → IsHeard ear at c → IsOfGood sc hands ear c) → IsSpoilt sc ear k n frame slot j → ⊥
-never-spoilt sc hands law ear is run k n frame slot j in_time good h = by h.by
+never-spoilt {sc} {hands} law {ear} is run {k} {n} {frame} {slot} {j} in_time good h = by h.by
   where
     le : h.at ≤ k
     le = earlier-le h.at h.i k n h.earlier
@@ -258,8 +258,8 @@ never-spoilt sc hands law ear is run k n frame slot j in_time good h = by h.by
 
     suits : tag_suits (h.message.slot == sync_slot_of sc.sizes) h.message.tag ≡ true
     suits =
-        subst (λ x. tag_suits (x.slot == sync_slot_of sc.sizes) x.tag ≡ true) (reads-sent sc hands law ear h.placed.coming mine h.message h.placed.reads)
-        (in-place sc hands law mine.n h.placed.coming.from mine.sending mine.sent).suits
+        subst (λ x. tag_suits (x.slot == sync_slot_of sc.sizes) x.tag ≡ true) (reads-sent law mine h.placed.reads)
+        (in-place law mine.sent).suits
 
     by : IsSpoiltBy sc ear frame slot j h.at h.i h.message → ⊥
     by (inl unsuited) = let both : true ≡ false = sym suits ∙ unsuited in cc
@@ -268,7 +268,7 @@ never-spoilt sc hands law ear is run k n frame slot j in_time good h = by h.by
         let their : IsOfGood sc hands ear other.1.1.1.0.coming =
         good other.0 other.1.1.1.0.coming (omega (arith, le_b, le)) other.1.1.1.0.from (record { nth = other.1.0; there = other.1.1.1.0.there }) in
         let same : (h.at ≡ other.0) × (h.i ≡ other.1.0) =
-        same-place-of sc hands law ear is run frame slot j h.at h.i other.0 other.1.0 h.message other.1.1.0 h.placed other.1.1.1.0 (omega (arith, le, in_time)) (omega (arith, le, le_b, in_time)) mine their in
+        same-place-of law is run h.placed other.1.1.1.0 (omega (arith, le, in_time)) (omega (arith, le, le_b, in_time)) mine their in
         apart other.1.1.1.1 same
       where
         apart : {b o : ℕ} → IsEarlier b o h.at h.i → (h.at ≡ b) × (h.i ≡ o) → ⊥
@@ -278,21 +278,21 @@ never-spoilt sc hands law ear is run k n frame slot j in_time good h = by h.by
 -- Records.
 
 -- a message that came since then is the one that is recorded at its place
-recorded-one : (sc : Scenario) (hands : List HandIn) → IsLawful sc → (ear : Ear) → IsEar sc ear → HearsTheRun sc hands ear → (since k n frame slot j : ℕ) → k < ear.ticks
-    → ((at : ℕ) (c : Coming) → at ≤ k → c.from ≡ j → IsHeard ear at c → IsOfGood sc hands ear c) → (at i : ℕ) (m : Message) → since < at → IsEarlier at i k n
+recorded-one : {sc hands : _} → IsLawful sc → {ear : _} → IsEar sc ear → HearsTheRun sc hands ear → {since k n frame slot j : ℕ} → k < ear.ticks
+    → ((at : ℕ) (c : Coming) → at ≤ k → c.from ≡ j → IsHeard ear at c → IsOfGood sc hands ear c) → {at i m : _} → since < at → IsEarlier at i k n
     → IsPlacedAt sc ear frame slot j at i m → (r : Sense) → IsNotedBy sc ear since k n frame slot j r → r ≡ One at m
-recorded-one sc hands law ear is run since k n frame slot j in_time good at i m late earlier p Silent h = absurd (h at i m (late, earlier) p)
-recorded-one sc hands law ear is run since k n frame slot j in_time good at i m late earlier p (One b x) h =
+recorded-one law is run in_time good {at} {i} {m} late earlier p Silent h = absurd (h at i m (late, earlier) p)
+recorded-one {sc} law {ear} is run in_time good {at} {i} {m} late earlier p (One b x) h =
     let here : (at ≡ b) × (i ≡ h.i) = h.only at i m (late, earlier) p in
     let same : h.placed.coming ≡ p.coming =
     same_Some h.placed.coming p.coming (sym h.placed.there ∙ ap (slice_get (ear.heard b)) (sym here.1) ∙ ap (λ t. slice_get (ear.heard t) i) (sym here.0) ∙ p.there) in
     let read : x ≡ m = same_Some x m (sym h.placed.reads ∙ ap (λ (c : Coming). message_in sc.plan.version c.bytes) same ∙ p.reads) in
     ap (λ t. One t x) (sym here.0) ∙ ap (One at) read
-recorded-one sc hands law ear is run since k n frame slot j in_time good at i m late earlier p Bad h =
-    absurd (never-spoilt sc hands law ear is run k n frame slot j in_time good h)
+recorded-one law is run in_time good late earlier p Bad h =
+    absurd (never-spoilt law is run in_time good h)
 
-pub has-place : (sc : Scenario) (frame : ℕ) (m : Message) → m.frame ≡ frame → m.slot ≤ sync_slot_of sc.sizes → m.stage ≡ stage_recorded (role_of sc.sizes m.slot) → has_place sc.sizes frame m ≡ true
-has-place sc frame m f s t = rw (eq-eqb m.frame frame f, le-leb m.slot (sync_slot_of sc.sizes) s, eq-eqb m.stage (stage_recorded (role_of sc.sizes m.slot)) t) refl
+pub has-place : (sc : Scenario) {frame : ℕ} (m : Message) → m.frame ≡ frame → m.slot ≤ sync_slot_of sc.sizes → m.stage ≡ stage_recorded (role_of sc.sizes m.slot) → has_place sc.sizes frame m ≡ true
+has-place sc {frame} m f s t = rw (eq-eqb m.frame frame f, le-leb m.slot (sync_slot_of sc.sizes) s, eq-eqb m.stage (stage_recorded (role_of sc.sizes m.slot)) t) refl
 
 -- the message comes after tick `since` and at most with tick `k`
 pub record ComesInTime (sc : Scenario) (hands : List HandIn) (ear : Ear) (since k n j : ℕ) (t : Sending) : Type 0 where
@@ -310,9 +310,9 @@ stage-late (DiagRmu i) = (λ h. omega arith, omega arith)
 stage-late Sync = (λ h. omega arith, omega arith)
 
 -- each good RMU's call of the frame has come
-pub come-by : (sc : Scenario) (hands : List HandIn) → IsLawful sc → (ear : Ear) → IsEar sc ear → (learned k o : ℕ) (s : Search) (l : HasLesson sc hands ear learned k o s) → (j : ℕ) (x : Sending)
-    → SendsIn sc hands l.fixed.call.call.call.n j x → (b : ℕ) → IsStamp ear.clock (coming_to sc ear j (moment sc hands l.fixed.call.call.call.n).frame x).time b → b ≤ k
-come-by sc hands law ear is learned k o s l j x sends b at =
+pub come-by : {sc hands : _} → IsLawful sc → {ear : _} → IsEar sc ear → {learned k o s : _} (l : HasLesson sc hands ear learned k o s) → {j x : _}
+    → SendsIn sc hands l.fixed.call.call.call.n j x → {b : ℕ} → IsStamp ear.clock (coming_to sc ear j (moment sc hands l.fixed.call.call.call.n).frame x).time b → b ≤ k
+come-by {sc} {hands} law {ear} is l {j} {x} sends {b} at =
     omega (
       arith,
       l.after.late,
@@ -321,27 +321,27 @@ come-by sc hands law ear is learned k o s l j x sends b at =
           (subst (λ t. IsStamp ear.clock (coming_to sc ear j (moment sc hands t).frame x).time b) (sym l.same) at),
     )
 
-in-time : (sc : Scenario) (hands : List HandIn) → IsLawful sc → (ear : Ear) → IsEar sc ear → HearsTheRun sc hands ear → (learned k o : ℕ) (s : Search) (l : HasLesson sc hands ear learned k o s)
-    → (j : ℕ) → is_good sc Rmu j learned (sync_slot_of sc.sizes) ≡ true → (n : ℕ) (t : Sending) → SendsIn sc hands n j t → (moment sc hands n).frame ≡ learned
+in-time : {sc hands : _} → IsLawful sc → {ear : _} → IsEar sc ear → HearsTheRun sc hands ear → {learned k o s : _} (l : HasLesson sc hands ear learned k o s)
+    → {j : ℕ} → is_good sc Rmu j learned (sync_slot_of sc.sizes) ≡ true → {n t : _} → SendsIn sc hands n j t → (moment sc hands n).frame ≡ learned
     → t.message.stage ≡ stage_recorded (role_of sc.sizes t.message.slot) → ComesInTime sc hands ear l.from.since k n j t
-in-time sc hands law ear is run learned k o s l j good n t sent frame staged =
+in-time {sc} {hands} law {ear} is run {k} {s} l {j} good {n} {t} sent frame staged =
     elim (cases_lt t.message.slot (sync_slot_of sc.sizes)) [ inl below ↦ exact below | inr sync ↦ call (omega (arith, sync, put.slot)) ]
   where
     c : IsHeardCall sc hands ear l.fixed.call.call.j s.lesson.frame l.fixed.call.at
     c = l.fixed.call.call.call
 
     put : IsInPlace sc (moment sc hands n) t.message
-    put = in-place sc hands law n j t sent
+    put = in-place law sent
 
     stamp : ℕ
     stamp = stamp_of ear.clock (coming_to sc ear j (moment sc hands n).frame t).time
 
     stamped : IsStamp ear.clock (coming_to sc ear j (moment sc hands n).frame t).time (stamp_of ear.clock (coming_to sc ear j (moment sc hands n).frame t).time)
-    stamped = stamp_of-is ear.clock (steady-ear sc law ear is).moves (coming_to sc ear j (moment sc hands n).frame t).time
+    stamped = stamp_of-is ear.clock (steady-ear law is).moves (coming_to sc ear j (moment sc hands n).frame t).time
 
     -- each call of the frame has come
     come : (x : Sending) → SendsIn sc hands l.fixed.call.call.call.n j x → (b : ℕ) → IsStamp ear.clock (coming_to sc ear j (moment sc hands l.fixed.call.call.call.n).frame x).time b → b ≤ k
-    come x sends b at = come-by sc hands law ear is learned k o s l j x sends b at
+    come x sends b at = come-by law is l sends at
 
     earlier : (moment sc hands l.from.call.call.n).frame < (moment sc hands n).frame
     earlier = omega (arith, l.before, frame)
@@ -360,15 +360,13 @@ in-time sc hands law ear is run learned k o s l j good n t sent frame staged =
         let e : IsExactAt sc hands n t.message.slot (t.message.stage - 1) =
         record { below = below; small = omega (arith, third); at = omega (arith, put.window, second) } in
         let after : l.from.at + reach_of sc.plan < stamp_of ear.clock (coming_to sc ear j (moment sc hands n).frame t).time =
-        after-calls sc hands law ear is l.from.call.j l.from.number l.from.at l.from.call.call n j t.message.slot (t.message.stage - 1) t e (omega (arith, second)) sent earlier
-        (stamp_of ear.clock (coming_to sc ear j (moment sc hands n).frame t).time) stamped in
+        after-calls law is l.from.call.call e (omega (arith, second)) sent earlier stamped in
         let b : ℕ = stamp_of ear.clock (coming_to sc ear j (moment sc hands l.fixed.call.call.call.n).frame calls.sending).time in
         let at_b : IsStamp ear.clock (coming_to sc ear j (moment sc hands l.fixed.call.call.call.n).frame calls.sending).time
         (stamp_of ear.clock (coming_to sc ear j (moment sc hands l.fixed.call.call.call.n).frame calls.sending).time) =
-        stamp_of-is ear.clock (steady-ear sc law ear is).moves (coming_to sc ear j (moment sc hands l.fixed.call.call.call.n).frame calls.sending).time in
+        stamp_of-is ear.clock (steady-ear law is).moves (coming_to sc ear j (moment sc hands l.fixed.call.call.call.n).frame calls.sending).time in
         let by_call : stamp_of ear.clock (coming_to sc ear j (moment sc hands n).frame t).time ≤ stamp_of ear.clock (coming_to sc ear j (moment sc hands l.fixed.call.call.call.n).frame calls.sending).time =
-        before-call sc hands law ear is n l.fixed.call.call.call.n j t.message.slot (t.message.stage - 1) t calls.sending e l.fixed.call.call.call.window_is sent calls.sent (frame ∙ sym l.frame)
-        (stamp_of ear.clock (coming_to sc ear j (moment sc hands n).frame t).time) (stamp_of ear.clock (coming_to sc ear j (moment sc hands l.fixed.call.call.call.n).frame calls.sending).time) stamped at_b in
+        before-call law is e l.fixed.call.call.call.window_is sent calls.sent (frame ∙ sym l.frame) stamped at_b in
         record {
           stamp = stamp_of ear.clock (coming_to sc ear j (moment sc hands n).frame t).time;
           stamped = stamped;
@@ -381,10 +379,10 @@ in-time sc hands law ear is run learned k o s l j good n t sent frame staged =
         let second : t.message.stage ≡ 2 = staged ∙ ap (λ x. stage_recorded (role_of sc.sizes x)) slot ∙ ap stage_recorded (sync_role sc.sizes) in
         let window : (moment sc hands n).window ≡ 3 * sync_slot_of sc.sizes + 1 = omega (arith, put.window, slot, second) in
         let one : n ≡ l.fixed.call.call.call.n =
-        (agreement sc hands law n sent.running).agree.place
+        (agreement hands law n sent.running).agree.place
         ∙ ap (λ f. f * (windows_in sc.sizes + 1) + (moment sc hands n).window) (frame ∙ sym l.frame)
         ∙ ap (λ w. (moment sc hands l.fixed.call.call.call.n).frame * (windows_in sc.sizes + 1) + w) (window ∙ sym l.fixed.call.call.call.window_is)
-        ∙ sym (agreement sc hands law l.fixed.call.call.call.n l.fixed.call.call.call.sent.running).agree.place in
+        ∙ sym (agreement hands law l.fixed.call.call.call.n l.fixed.call.call.call.sent.running).agree.place in
         let after : l.from.at + reach_of sc.plan < stamp_of ear.clock (coming_to sc ear j (moment sc hands n).frame t).time =
         come-apart sc hands law ear is l.from.call.call.n n l.from.call.j j l.from.call.call.sending t l.from.call.call.window_is window earlier l.from.call.call.sent sent
         l.from.at (stamp_of ear.clock (coming_to sc ear j (moment sc hands n).frame t).time) l.from.call.call.some l.from.call.call.stamped stamped in
@@ -404,20 +402,19 @@ records-whole sc hands law ear is run learned k s decides j good n t sent frame 
   some = omega (arith, comes.late);
   stamped = comes.stamped;
   is =
-      recorded-one sc hands law ear is run l.1.from.since k l.0 s.lesson.frame t.message.slot j decides.in_time (all-good sc hands law ear is run learned k l.0 s decides.in_time l.1 j good)
-      comes.stamp heard.nth t.message comes.late
-      (whole-earlier ear comes.stamp heard.nth k l.0 (coming_to sc ear j (moment sc hands n).frame t) heard.there l.1.whole comes.early) there
+      recorded-one law is run decides.in_time (all-good law is run decides.in_time l.1 good) comes.late
+      (whole-earlier ear comes.stamp heard.nth k l.0 heard.there l.1.whole comes.early) there
       (record_of s.lesson.records t.message.slot j) (l.1.from.noted j within t.message.slot put.slot);
 }
   where
     l : (o : ℕ) × HasLesson sc hands ear learned k o s
-    l = has-lesson sc hands law ear is run learned k s decides
+    l = has-lesson law is run decides
 
     comes : ComesInTime sc hands ear l.1.from.since k n j t
-    comes = in-time sc hands law ear is run learned k l.0 s l.1 j good n t sent frame staged
+    comes = in-time law is run l.1 good sent frame staged
 
     put : IsInPlace sc (moment sc hands n) t.message
-    put = in-place sc hands law n j t sent
+    put = in-place law sent
 
     heard : IsHeard ear comes.stamp (coming_to sc ear j (moment sc hands n).frame t)
     heard = run.each n j t sent comes.stamp (omega (arith, comes.late)) (omega (arith, comes.early, decides.in_time)) comes.stamped
@@ -431,6 +428,6 @@ records-whole sc hands law ear is run learned k s decides j good n t sent frame 
       there = heard.there;
       from = refl;
       reads = read_back sc.plan.version t.message put.fits;
-      place = has-place sc s.lesson.frame t.message (put.frame ∙ ap (λ f. f % 65536) frame ∙ sym decides.lesson) put.slot staged;
+      place = has-place sc t.message (put.frame ∙ ap (λ f. f % 65536) frame ∙ sym decides.lesson) put.slot staged;
       slot_is = refl;
     }

@@ -1,17 +1,17 @@
 -- The next frame of a receiver of the calls, from stage 2 of the sync slot to its end.
-use Rattle.std.proofs.{Common.{◌≡◌, ℕ, suc, ◌+◌, ◌-◌, ◌*◌, ◌<◌, ◌≤◌, true, false, List, ◌∷◌, length, Option, slice_get, inl, inr, refl, sym, ◌∙◌, ap, subst, arith}, lemmas.Option.same_Some}
-use Rattle.rb_base.specs.{Nodes.{Side, has, set_of, size}, Nodes.Side.{Biu, Rmu}, Sizes.sync_slot_of, declared.values.See.See}
+use Rattle.std.proofs.{Common.{◌≡◌, ℕ, suc, ◌+◌, ◌-◌, ◌*◌, ◌<◌, ◌≤◌, true, false, List, ◌∷◌, length, slice_get, inl, inr, refl, sym, ◌∙◌, ap, subst, arith}, lemmas.Option.same_Some}
+use Rattle.rb_base.specs.{Nodes.{Side, has, set_of, size}, Nodes.Side.{Biu, Rmu}, Sizes.sync_slot_of}
 use Rattle.rb_base.proofs.{Plain.and_second, SetSizes.size_same, Sets.has-set_of}
-use Rattle.rb_rules.specs.{Book.{judged_of, of_kind}, Clock.{IsClock, Timeline, time_of}, Goodness.{Scenario, clock_of, is_good}, Judging.JudgedStage, Lawful.IsLawful, Moments.{IsRunning, after_slot, before_stage}, NodeState.NodeState, Plan.{longest_of, shortest_of}, Ports.HandIn, Rounds.{Moment, moment, step, windows_in}}
+use Rattle.rb_rules.specs.{Book.{judged_of, of_kind}, Clock.{IsClock, time_of}, Goodness.{Scenario, clock_of, is_good}, Judging.JudgedStage, Lawful.IsLawful, Moments.{IsRunning, after_slot, before_stage}, NodeState.NodeState, Plan.{longest_of, shortest_of}, Ports.HandIn, Rounds.{Moment, moment, step, windows_in}}
 use Rattle.rb_rules.proofs.{Drift.{HasLengths, drift, has_lengths, stamp_near}, Middles.IsBetween}
-use Rattle.rb_laws_agreement.proofs.{Tests.Passing, Numbers.{how_many-is, one_of_many}, Premises.is_sound, Agreement.step_is, Goodnesses.slot_last, Invariant.{Agree, IsGoodNode, Shared, is_good_now}, JudgedWindows.{IsPassed, passed, rows_of}, NextMoments.next, NodeWindows.sync_windows_are, Places.{IsPlaced, complete_before, placed}, Settings.good_state, SlotRuns.{next-frame, next-window}, SyncAgrees.{agree_sync, book_sync, stage_setting}, Tests.Present}
+use Rattle.rb_laws_agreement.proofs.{Tests.Passing, Numbers.{how_many-is, one_of_many}, Premises.is_sound, Agreement.step_is, Goodnesses.slot_last, Invariant.{Agree, IsGoodNode, Shared, is_good_now}, JudgedWindows.{IsPassed, passed, rows_of}, NextMoments.next, Places.{IsPlaced, complete_before, placed}, Settings.good_state, SlotRuns.{next-frame, next-window}, SyncAgrees.{agree_sync, book_sync, stage_setting}, Tests.Present}
 use Rattle.rb_laws_synchrony.proofs.{CallSights.{place_of, stages_with}, LaterStages.near_second, PlanNumbers.drift_of, SyncSteps.{IsPassedStage, passed_stage}, Synchronous.{KnowsEpoch, Synchronous}, Synchrony.{IsSynchronous, synchrony}, TakenCalls.IsStage, Times.{Steady, lawful_fits, plan_fits}}
 use Rattle.rb_laws_listener_near.specs.{Calls.{AreMostGood, IsGoodInSync, SawTheTimes, TakesTheCalls}, Judged.verdict_with, Laws.{FramesBeginNear, LieWithin}}
 use Rattle.rb_laws_listener_near.proofs.{ListenerMiddles.{MostGood, TakesCalls}, ListenerNear.{IsCalled, SawTimes, calls_near_bius}, NextEpochs.{BeginTogether, MiddleIsNear, begin_together}}
 
 -- a receiver's clock is steady
-pub steady_clock : (sc : Scenario) → IsLawful sc → (clock : Timeline) → IsClock (shortest_of sc.plan) (longest_of sc.plan) clock → Steady (shortest_of sc.plan) (drift_of sc.plan) clock
-steady_clock sc law clock is = record {
+pub steady_clock : {sc : _} → IsLawful sc → {clock : _} → IsClock (shortest_of sc.plan) (longest_of sc.plan) clock → Steady (shortest_of sc.plan) (drift_of sc.plan) clock
+steady_clock {sc} law {clock} is = record {
   moves = λ tick. omega (arith, (lengths tick).0, fit.some);
   not_early = λ tick n. (drift clock (shortest_of sc.plan) (longest_of sc.plan) lengths tick n).0;
   not_late = λ tick n.
@@ -20,7 +20,7 @@ steady_clock sc law clock is = record {
 }
   where
     fit : plan_fits sc
-    fit = lawful_fits sc law
+    fit = lawful_fits law
 
     lengths : HasLengths (shortest_of sc.plan) (longest_of sc.plan) clock
     lengths = has_lengths (shortest_of sc.plan) (longest_of sc.plan) clock is
@@ -32,9 +32,9 @@ record StageAt (sc : Scenario) (hands : List HandIn) (n : ℕ) (m : Moment) (s :
   pub through : IsPassed sc (record { frame = m.frame; slot = sync_slot_of sc.sizes; stage = q + 1 }) (rows_of sc m) m.book
   pub passes : IsPassedStage sc hands n m s q
 
-stage_at : (sc : Scenario) (hands : List HandIn) → IsLawful sc → (n : ℕ) (m : Moment) (s : Shared) (q : ℕ) → Agree sc hands n m s → q < 3 → m.window ≡ 3 * sync_slot_of sc.sizes + q
+stage_at : {sc hands : _} → IsLawful sc → {n m s : _} (q : ℕ) → Agree sc hands n m s → q < 3 → m.window ≡ 3 * sync_slot_of sc.sizes + q
     → IsRunning (moment sc hands (suc n)) → StageAt sc hands n m s q
-stage_at sc hands law n m s q agree small at running =
+stage_at {sc} {hands} law {n} {m} {s} q agree small at running =
     let on : IsRunning (step sc hands m) = ap (λ x. (step sc hands x).book.ended) agree.is ∙ running in
     elim (step_is sc hands m on) [
       | inl window ↦
@@ -45,21 +45,21 @@ stage_at sc hands law n m s q agree small at running =
           record {
             next_is = sym window.1 ∙ ap (step sc hands) agree.is;
             through = through;
-            passes = passed_stage sc hands n m s q stage through;
+            passes = passed_stage stage through;
           }
       | inr turn ↦ let over : windows_in sc.sizes ≤ m.window = turn.0 in absurd (omega (arith, over, at, small))
     ]
 
 -- ---- stage 2, by the definitions
 
-takes_calls : (sc : Scenario) (hands : List HandIn) (frame n : ℕ) (m : Moment) (s : Shared) → m ≡ before_stage sc hands frame (sync_slot_of sc.sizes) 2 → m.frame ≡ frame
-    → (c : IsPassedStage sc hands n m s 1) → (clock : Timeline) (taken : ℕ → Option ℕ) (time : ℕ → ℕ) → TakesTheCalls sc hands frame clock taken time → TakesCalls sc m s clock taken time
-takes_calls sc hands frame n m s is frame_is c clock taken time t = record {
+takes_calls : {sc hands frame n m s : _} → m ≡ before_stage sc hands frame (sync_slot_of sc.sizes) 2 → m.frame ≡ frame
+    → (c : IsPassedStage sc hands n m s 1) → {clock taken time : _} → TakesTheCalls sc hands frame clock taken time → TakesCalls sc m s clock taken time
+takes_calls {sc} {hands} {frame} {m} {s} is frame_is c t = record {
   trusts = λ j some.
       let one : Passing (is_sound sc Biu m.frame (sync_slot_of sc.sizes) s.trusted) 0 16 = one_of_many (is_sound sc Biu m.frame (sync_slot_of sc.sizes) s.trusted) (omega (arith, c.premise.most Biu)) in
       let good : is_good sc Biu one.at m.frame (sync_slot_of sc.sizes) ≡ true = and_second (has (s.trusted Biu) one.at) (is_good sc Biu one.at m.frame (sync_slot_of sc.sizes)) one.passes in
-      let now : is_good_now sc m Biu one.at ≡ true = ap (is_good sc Biu one.at m.frame) (slot_last sc.sizes m.window 1 c.stage.at) ∙ good in
-      let there : Present (slice_get (of_kind Biu m.nodes) one.at) = good_state sc hands n m s c.stage.agree Biu one.at now in
+      let now : is_good_now sc m Biu one.at ≡ true = ap (is_good sc Biu one.at m.frame) (slot_last sc.sizes 1 c.stage.at) ∙ good in
+      let there : Present (slice_get (of_kind Biu m.nodes) one.at) = good_state c.stage.agree Biu one.at now in
       let node : IsGoodNode sc m Biu one.at there.value = record { there = there.is; good = now } in
       ap (λ x. has x j) (sym ((c.stage.agree.nodes Biu one.at there.value node).trusted Rmu)) ∙ t.trusts j some Biu one.at there.value (in_sync Biu one.at there.value node);
   stamped = t.stamped;
@@ -70,21 +70,21 @@ takes_calls sc hands frame n m s is frame_is c clock taken time t = record {
   where
     in_sync : (me : Side) (i : ℕ) (st : NodeState) → IsGoodNode sc m me i st → IsGoodInSync sc hands frame me i st
     in_sync me i st h = record {
-      good = ap (λ f. is_good sc me i f (sync_slot_of sc.sizes)) (sym frame_is) ∙ ap (is_good sc me i m.frame) (sym (slot_last sc.sizes m.window 1 c.stage.at)) ∙ h.good;
+      good = ap (λ f. is_good sc me i f (sync_slot_of sc.sizes)) (sym frame_is) ∙ ap (is_good sc me i m.frame) (sym (slot_last sc.sizes 1 c.stage.at)) ∙ h.good;
       state = ap (λ x. slice_get (of_kind me x.nodes) i) (sym is) ∙ h.there;
     }
 
-most_good : (sc : Scenario) (frame : ℕ) (m : Moment) → m.frame ≡ frame → m.window ≡ 3 * sync_slot_of sc.sizes + 1 → AreMostGood sc frame → MostGood sc m
-most_good sc frame m is at most =
+most_good : (sc : Scenario) {frame : ℕ} (m : Moment) → m.frame ≡ frame → m.window ≡ 3 * sync_slot_of sc.sizes + 1 → AreMostGood sc frame → MostGood sc m
+most_good sc {frame} m is at most =
     let same : size (set_of (is_good_now sc m Rmu)) ≡ size (set_of (λ j. is_good sc Rmu j frame (sync_slot_of sc.sizes))) =
     size_same (set_of (is_good_now sc m Rmu)) (set_of (λ j. is_good sc Rmu j frame (sync_slot_of sc.sizes))) (λ i below.
-    has-set_of i (is_good_now sc m Rmu) below ∙ ap (is_good sc Rmu i m.frame) (slot_last sc.sizes m.window 1 at) ∙ ap (λ f. is_good sc Rmu i f (sync_slot_of sc.sizes)) is
+    has-set_of i (is_good_now sc m Rmu) below ∙ ap (is_good sc Rmu i m.frame) (slot_last sc.sizes 1 at) ∙ ap (λ f. is_good sc Rmu i f (sync_slot_of sc.sizes)) is
     ∙ sym (has-set_of i (λ j. is_good sc Rmu j frame (sync_slot_of sc.sizes)) below)) in
     omega (arith, most, same, how_many-is (is_good_now sc m Rmu))
 
-saw_times : (sc : Scenario) (m : Moment) (stages : List JudgedStage) (taken : ℕ → Option ℕ) (time : ℕ → ℕ) (seen : ℕ → JudgedStage → Option (ℕ → See)) → stages ≡ stages_with sc m 1
+saw_times : (sc : Scenario) (m : Moment) {stages taken time seen : _} → stages ≡ stages_with sc m 1
     → SawTheTimes stages taken time seen → SawTimes sc m taken time seen
-saw_times sc m stages taken time seen are saw =
+saw_times sc m {seen} are saw =
     let both : saw.newest ∷ saw.earlier ≡ judged_of sc (place_of sc m 1) (rows_of sc m) ∷ m.book.stages = sym saw.are ∙ are in
     let first : saw.newest ≡ judged_of sc (place_of sc m 1) (rows_of sc m) = same_head both in
     let rest : saw.earlier ≡ m.book.stages = same_tail both in
@@ -100,12 +100,12 @@ saw_times sc m stages taken time seen are saw =
     same_tail : {x y : JudgedStage} {xs ys : List JudgedStage} → x ∷ xs ≡ y ∷ ys → xs ≡ ys
     same_tail e = cc
 
-pub within : (later p a b : ℕ) → IsBetween later (later + p) a → IsBetween later (later + p) b → LieWithin p a b
-within later p a b x y = record { before = omega (arith, x.most, y.least); after = omega (arith, x.least, y.most) }
+pub within : {later : ℕ} (p : ℕ) {a b : ℕ} → IsBetween later (later + p) a → IsBetween later (later + p) b → LieWithin p a b
+within p x y = record { before = omega (arith, x.most, y.least); after = omega (arith, x.least, y.most) }
 
 pub frames_near : FramesBeginNear
 frames_near sc hands law frame complete most clock is_clock taken time t seen none saw middle found me i st good epoch known =
-    within together.later sc.plan.p (time_of clock (middle + sc.plan.v + sc.plan.z + sc.plan.c)) (time_of (clock_of sc me i) epoch) together.listener
+    within sc.plan.p together.listener
     (subst (λ x. IsBetween together.later (together.later + sc.plan.p) (time_of (clock_of sc me i) x)) (same_Some at_end.takes.epoch epoch (sym at_end.takes.known ∙ known)) at_end.between)
   where
     slot : ℕ
@@ -118,10 +118,10 @@ frames_near sc hands law frame complete most clock is_clock taken time t seen no
     m = moment sc hands (frame * (windows_in sc.sizes + 1) + 3 * sync_slot_of sc.sizes + 2 - 1)
 
     p : IsPlaced sc hands frame (sync_slot_of sc.sizes) 2
-    p = placed sc hands law frame (sync_slot_of sc.sizes) 2 (omega arith) (omega arith) (omega arith) (complete_before sc hands frame (sync_slot_of sc.sizes) 2 (omega arith) complete)
+    p = placed hands law frame (sync_slot_of sc.sizes) 2 (omega arith) (omega arith) (omega arith) (complete_before sc hands frame (sync_slot_of sc.sizes) 2 (omega arith) complete)
 
     x : IsSynchronous sc hands (frame * (windows_in sc.sizes + 1) + 3 * sync_slot_of sc.sizes + 2 - 1)
-    x = synchrony sc hands law n (complete_before sc hands frame (sync_slot_of sc.sizes) 2 (omega arith) complete)
+    x = synchrony hands law n (complete_before sc hands frame (sync_slot_of sc.sizes) 2 (omega arith) complete)
 
     at : m.window ≡ 3 * sync_slot_of sc.sizes + 1
     at = p.window_is
@@ -134,21 +134,21 @@ frames_near sc hands law frame complete most clock is_clock taken time t seen no
 
     second : StageAt sc hands n m x.shared 1
     second =
-        stage_at sc hands law n m x.shared 1 x.agree (omega arith) at
+        stage_at law 1 x.agree (omega arith) at
         (subst (λ k. IsRunning (moment sc hands k)) (sym third_is) (complete_before sc hands frame (sync_slot_of sc.sizes) 3 (omega arith) complete))
 
     agree_next : Agree sc hands (suc n) (next sc m) x.shared
-    agree_next = agree_sync sc hands n m x.shared 1 (sync_windows_are sc m 1 (omega arith) at) (stage_setting sc hands n m x.shared 1 (omega arith) at law x.agree second.through) second.next_is
+    agree_next = agree_sync (stage_setting 1 (omega arith) at law x.agree second.through) second.next_is
 
     near_next : Synchronous sc (next sc m) x.shared x.low
-    near_next = near_second sc hands n m x.shared x.low second.passes x.near
+    near_next = near_second second.passes x.near
 
     at_next : (next sc m).window ≡ 3 * sync_slot_of sc.sizes + 2
     at_next = omega (arith, next-window sc m, at)
 
     third : StageAt sc hands (suc n) (next sc m) x.shared 2
     third =
-        stage_at sc hands law (suc n) (next sc m) x.shared 2 agree_next (omega arith) at_next
+        stage_at law 2 agree_next (omega arith) at_next
         (subst (λ k. IsRunning (moment sc hands k)) (sym fourth_is) complete)
 
     stages_are : (before_stage sc hands frame (sync_slot_of sc.sizes) 3).book.stages ≡ stages_with sc m 1
@@ -156,19 +156,19 @@ frames_near sc hands law frame complete most clock is_clock taken time t seen no
 
     called : IsCalled sc m x.shared clock taken time seen
     called = record {
-      most = most_good sc frame m p.frame_is at most;
-      steady = steady_clock sc law clock is_clock;
-      takes = takes_calls sc hands frame n m x.shared refl p.frame_is second.passes clock taken time t;
+      most = most_good sc m p.frame_is at most;
+      steady = steady_clock law is_clock;
+      takes = takes_calls refl p.frame_is second.passes t;
       judged = second.through.no_cause;
       none = ap (verdict_with seen) (sym stages_are) ∙ none;
-      saw = saw_times sc m (before_stage sc hands frame (sync_slot_of sc.sizes) 3).book.stages taken time seen stages_are saw;
+      saw = saw_times sc m stages_are saw;
     }
 
     near : MiddleIsNear sc (next sc m) clock middle
-    near = calls_near_bius sc hands n m x.shared x.low second.passes x.near clock taken time seen called middle found
+    near = calls_near_bius second.passes x.near called found
 
     together : BeginTogether sc (next sc (next sc m)) clock (middle + sc.plan.v + sc.plan.z + sc.plan.c)
-    together = begin_together sc hands (suc n) (next sc m) x.shared x.low third.passes near_next clock (steady_clock sc law clock is_clock) middle near
+    together = begin_together third.passes near_next (steady_clock law is_clock) middle near
 
     last_is : next sc (next sc m) ≡ after_slot sc hands frame (sync_slot_of sc.sizes)
     last_is = third.next_is ∙ ap (moment sc hands) fourth_is
@@ -182,7 +182,7 @@ frames_near sc hands law frame complete most clock is_clock taken time t seen no
     node : IsGoodNode sc (next sc (next sc m)) me i st
     node = record {
       there = ap (λ y. slice_get (of_kind me y.nodes) i) last_is ∙ good.state;
-      good = ap (is_good sc me i (next sc (next sc m)).frame) (slot_last sc.sizes (next sc (next sc m)).window 3 window_now)
+      good = ap (is_good sc me i (next sc (next sc m)).frame) (slot_last sc.sizes 3 window_now)
           ∙ ap (λ f. is_good sc me i f (sync_slot_of sc.sizes)) frame_now ∙ good.good;
     }
 

@@ -4,10 +4,10 @@ use Rattle.std.proofs.{Common.{◌≡◌, ℕ, zero, suc, ◌+◌, ◌*◌, ◌�
 use Rattle.std.specs.{Prelude.All, List.cons_option}
 use Rattle.rb_base.specs.{Counting.{count_if, numbers}, Nodes.{has, set_of, size}, Nodes.Side.{Biu, Rmu}, Sizes.sync_slot_of}
 use Rattle.rb_base.proofs.{Counts.count_if-none, Plain.{and_first, and_second, less-same}, Sets.has-set_of, SetSizes.{size_apart, size_first}}
-use Rattle.rb_rules.specs.{Book.judged_of, Clock.{Timeline, stamp_of, time_of}, ExactStage.{each_node, present}, Goodness.{Scenario, clock_of, is_good}, Hearing.{Sending, coming_of, sole_time}, Middle.{IsMiddle, middle_of}, NodeState.NodeState, Plan.shortest_of, Ports.HandIn, Rounds.Moment, SyncStage.call_tick_of}
+use Rattle.rb_rules.specs.{Book.judged_of, Clock.{Timeline, stamp_of, time_of}, ExactStage.{each_node, present}, Goodness.{Scenario, clock_of, is_good}, Hearing.{Sending, coming_of, sole_time}, Middle.{IsMiddle, middle_of}, NodeState.NodeState, Plan.shortest_of, Rounds.Moment, SyncStage.call_tick_of}
 use Rattle.rb_rules.proofs.{Drift.times_rise_to, Middles.{AreNear, IsBetween}, Stamps.{stamp_of-is, stamps_rise}}
 use Rattle.rb_laws_agreement.proofs.{Tests.true_or_false, Numbers.{how_many, how_many-is}, Goodnesses.{good_counts, slot_last}, Invariant.{IsGoodNode, Shared, is_good_now, slot_numbered}, Exchanges.far-held, JudgedWindows.rows_of, NodeWindows.{Windows, heard_in}, StageVotes.how_many-count}
-use Rattle.rb_laws_synchrony.proofs.{CallSights.{TookAlike, place_of, stages_with}, LaterStages.{calls_near, near-between}, Middles.{BothNear, HasStamp, middle_times_near, middle_within, some_middle}, PlanNumbers.{drift_of, eps_of}, StageMiddles.{CallBetween, HearsMiddle, IsCaller, IsHeardStage, Late, NoneUnlike, both-near, caller, hears_middle, tick_of, ws_of}, StageSteps.{CallNear, near_calls}, SyncSteps.none_before, Synchronous.{Synchronous, first_kept, near_1, near_2}, TakenCalls.{IsCallTaken, IsTaken, taken_from, takes_call, took}, TimelyWindows.coming_between, Times.{IsStampTime, Steady, lawful_fits, stamp_time, stamp_to, steady}}
+use Rattle.rb_laws_synchrony.proofs.{CallSights.{TookAlike, place_of, stages_with}, LaterStages.{calls_near, near-between}, Middles.{BothNear, HasStamp, middle_times_near, middle_within, some_middle}, PlanNumbers.{drift_of, eps_of}, StageMiddles.{CallBetween, HearsMiddle, IsCaller, IsHeardStage, Late, NoneUnlike, both-near, caller, hears_middle, tick_of, ws_of}, StageSteps.{CallNear, near_calls}, SyncSteps.none_before, Synchronous.{Synchronous, near_1, near_2}, TakenCalls.{IsCallTaken, IsTaken, taken_from, takes_call, took}, TimelyWindows.coming_between, Times.{IsStampTime, Steady, lawful_fits, stamp_time, stamp_to, steady}}
 use Rattle.rb_laws_listener_near.proofs.Tracking.{outnumbered}
 
 -- ---- what a listener takes
@@ -50,16 +50,16 @@ pub record FindsMiddle (sc : Scenario) (clock : Timeline) (taken : ℕ → Optio
   pub not_late : 1 ≤ tick → time_of clock tick ≤ high + sc.plan.dmax + tick_of sc.plan
   pub in_time : (last : ℕ) → high + sc.plan.dmax ≤ time_of clock last → tick ≤ last
 
-pub finds_middle : (sc : Scenario) (hands : List HandIn) (n : ℕ) (m : Moment) (s : Shared) (c : IsHeardStage sc hands n m s 1 Biu) → MostGood sc m
-    → (clock : Timeline) → Steady (shortest_of sc.plan) (drift_of sc.plan) clock → (taken : ℕ → Option ℕ) (time : ℕ → ℕ) → TakesCalls sc m s clock taken time
-    → (low high : ℕ) → CallBetween sc m Rmu 2 low high → FindsMiddle sc clock taken low high
-finds_middle sc hands n m s c most clock steady_clock taken time t low high calls =
+pub finds_middle : {sc hands n m s : _} (c : IsHeardStage sc hands n m s 1 Biu) → MostGood sc m
+    → {clock : _} → Steady (shortest_of sc.plan) (drift_of sc.plan) clock → {taken time : _} → TakesCalls sc m s clock taken time
+    → {low high : ℕ} → CallBetween sc m Rmu 2 low high → FindsMiddle sc clock taken low high
+finds_middle {sc} {m} c most {clock} steady_clock {taken} {time} t {low} {high} calls =
     let good : ℕ → Bool = is_good_now sc m Rmu in
     let first : ℕ = stamp_of clock (low + sc.plan.dmin) in
     let last : ℕ = stamp_of clock (high + sc.plan.dmax) in
     let stamped : (j : ℕ) → good j ≡ true → HasStamp first last (taken j) =
     λ j is.
-    let by : IsCaller sc m Rmu 2 j = caller sc hands n m s 1 Biu c j (ap (is_good sc Rmu j m.frame) (sym (slot_last sc.sizes m.window 1 c.stage.at)) ∙ is) in
+    let by : IsCaller sc m Rmu 2 j = caller c j (ap (is_good sc Rmu j m.frame) (sym (slot_last sc.sizes 1 c.stage.at)) ∙ is) in
     let called : IsBetween low high (time_of (clock_of sc Rmu j) by.tick) = calls j by.st by.tick by.here by.at in
     let comes = t.calls j by.st by.tick by.here by.at in
     record {
@@ -76,9 +76,9 @@ finds_middle sc hands n m s c most clock steady_clock taken time t low high call
     others_fewer sc.sizes.rmus good (λ j. is_some (taken j)) c.stage.law.sizes.most_rmus
     (λ j below g. good_counts sc Rmu j m.frame (slot_numbered sc.sizes m.window) g) (λ j below some. c.stage.agree.inside Rmu j (t.trusts j some)) most in
     let some = some_middle taken good (numbers 16) (λ j g. ap is_some (stamped j g).is) more in
-    let within : IsBetween first last some.0 = middle_within taken good first last some.0 (numbers 16) stamped more some.2 in
-    let from : IsStampTime clock (tick_of sc.plan) (low + sc.plan.dmin) first = stamp_time (shortest_of sc.plan) (drift_of sc.plan) clock steady_clock (low + sc.plan.dmin) in
-    let to : IsStampTime clock (tick_of sc.plan) (high + sc.plan.dmax) last = stamp_time (shortest_of sc.plan) (drift_of sc.plan) clock steady_clock (high + sc.plan.dmax) in
+    let within : IsBetween first last some.0 = middle_within taken good first last (numbers 16) stamped more some.2 in
+    let from : IsStampTime clock (tick_of sc.plan) (low + sc.plan.dmin) first = stamp_time steady_clock (low + sc.plan.dmin) in
+    let to : IsStampTime clock (tick_of sc.plan) (high + sc.plan.dmax) last = stamp_time steady_clock (high + sc.plan.dmax) in
     record {
       tick = some.0;
       found = some.1;
@@ -109,50 +109,50 @@ middle_past f (suc tick) late is = omega arith
 
 -- ---- it is near
 
-apart : (eps least most t x y : ℕ) → most ≡ least + eps → IsBetween (t + least) (t + most) x → IsBetween (t + least) (t + most) y → AreNear eps x y
-apart eps least most t x y e p q = record { above = omega (arith, e, p.most, q.least); under = omega (arith, e, p.least, q.most) }
+apart : (eps least : ℕ) {most : ℕ} (t : ℕ) {x y : ℕ} → most ≡ least + eps → IsBetween (t + least) (t + most) x → IsBetween (t + least) (t + most) y → AreNear eps x y
+apart eps least t e p q = record { above = omega (arith, e, p.most, q.least); under = omega (arith, e, p.least, q.most) }
 
 -- the listener and a good BIU took something at near times from an RMU that is not good, or neither
 -- did
-abbrev pub TakesAlike : (sc : Scenario) (m : Moment) (s : Shared) → Windows sc m (sync_slot_of sc.sizes) 2 → (ℕ → Option ℕ) → (ℕ → ℕ) → Type 0
-TakesAlike sc m s ws taken time =
+abbrev pub TakesAlike : {sc m : _} (s : Shared) → Windows sc m (sync_slot_of sc.sizes) 2 → (ℕ → Option ℕ) → (ℕ → ℕ) → Type 0
+TakesAlike {sc} {m} s ws taken time =
     (j : ℕ) → j < 16 → has (s.trusted Rmu) j ≡ true → is_good sc Rmu j m.frame (sync_slot_of sc.sizes) ≡ false → (i : ℕ) (b : NodeState) → IsGoodNode sc m Biu i b
-    → TookAlike (eps_of sc.plan) (time j) (sole_time (heard_in sc m (sync_slot_of sc.sizes) 2 ws Biu i b j)) (taken j) (took sc m 1 ws Biu i b j)
+    → TookAlike (eps_of sc.plan) (time j) (sole_time (heard_in ws Biu i b j)) (taken j) (took 1 ws Biu i b j)
 
 -- if no BIU is asymmetric, the RMUs call together
-pub near_by_bius : (sc : Scenario) (hands : List HandIn) (n : ℕ) (m : Moment) (s : Shared) (low : ℕ) (c : IsHeardStage sc hands n m s 1 Biu) → Synchronous sc m s low → MostGood sc m
+pub near_by_bius : {sc hands n m s low : _} (c : IsHeardStage sc hands n m s 1 Biu) → Synchronous sc m s low → MostGood sc m
     → NoneUnlike sc m s Biu (stages_with sc m 1)
-    → (clock : Timeline) → Steady (shortest_of sc.plan) (drift_of sc.plan) clock → (taken : ℕ → Option ℕ) (time : ℕ → ℕ) → TakesCalls sc m s clock taken time
-    → (l : ℕ) → middle_of (present (each_node taken)) ≡ Some l → 1 ≤ l
-    → (i : ℕ) (b : NodeState) → IsGoodNode sc m Biu i b → (k : ℕ) → middle_of (present (each_node (took sc m 1 (ws_of sc hands n m s 1 Biu c) Biu i b))) ≡ Some k → 1 ≤ k
+    → {clock : _} → Steady (shortest_of sc.plan) (drift_of sc.plan) clock → {taken time : _} → TakesCalls sc m s clock taken time
+    → {l : ℕ} → middle_of (present (each_node taken)) ≡ Some l → 1 ≤ l
+    → {i b : _} → IsGoodNode sc m Biu i b → {k : ℕ} → middle_of (present (each_node (took 1 (ws_of c) Biu i b))) ≡ Some k → 1 ≤ k
     → AreNear (near_2 sc.plan) (time_of clock l) (time_of (clock_of sc Biu i) k)
-near_by_bius sc hands n m s low c sync most none clock steady_clock taken time t l is_l past_l i b here k is_k past_k =
+near_by_bius {sc} {m} {s} c sync most none {clock} steady_clock {taken} t {l} is_l past_l {i} {b} here {k} is_k past_k =
     let at : m.window ≡ 3 * sync_slot_of sc.sizes + 1 = c.stage.at in
     let spread : ℕ = near_1 sc.plan + drift_of sc.plan * sc.plan.l in
     let before : NoneUnlike sc m s Biu m.book.stages = none_before sc m s Biu (judged_of sc (place_of sc m 1) (rows_of sc m)) m.book.stages none in
     let close : CallNear sc m Rmu 2 (near_1 sc.plan + drift_of sc.plan * sc.plan.l) =
-    calls_near sc c.stage.law m Rmu 2 (near_1 sc.plan) sc.plan.l first_kept (λ i st h. let k = sync.first at i st h in (k.tick, k.is)) (λ st. refl) (sync.first_near at before) in
-    let calls = near_calls sc hands n m s 1 Biu c spread close in
-    let mine : FindsMiddle sc clock taken calls.0 (calls.0 + spread) = finds_middle sc hands n m s c most clock steady_clock taken time t calls.0 (calls.0 + spread) calls.1 in
-    let theirs : HearsMiddle sc m 1 (ws_of sc hands n m s 1 Biu c) Biu i b calls.0 (calls.0 + spread) = hears_middle sc hands n m s 1 Biu c calls.0 (calls.0 + spread) calls.1 i b here in
+    calls_near c.stage.law 2 sc.plan.l (λ i st h. let k = sync.first at i st h in (k.tick, k.is)) (λ st. refl) (sync.first_near at before) in
+    let calls = near_calls c close in
+    let mine : FindsMiddle sc clock taken calls.0 (calls.0 + spread) = finds_middle c most steady_clock t calls.1 in
+    let theirs : HearsMiddle sc m 1 (ws_of c) Biu i b calls.0 (calls.0 + spread) = hears_middle c calls.1 here in
     let e : mine.tick ≡ l = same_Some mine.tick l (sym mine.found ∙ is_l) in
     let f : theirs.tick ≡ k = same_Some theirs.tick k (sym theirs.found ∙ is_k) in
-    near-between (near_2 sc.plan) spread (eps_of sc.plan) (tick_of sc.plan) calls.0 sc.plan.dmin sc.plan.dmax (time_of clock l) (time_of (clock_of sc Biu i) k) refl (lawful_fits sc c.stage.law).delays
+    near-between spread (eps_of sc.plan) (tick_of sc.plan) calls.0 sc.plan.dmin refl (lawful_fits c.stage.law).delays
     (subst (λ x. IsBetween (calls.0 + sc.plan.dmin) (calls.0 + spread + sc.plan.dmax + tick_of sc.plan) (time_of clock x)) e
     (record { least = mine.not_early; most = mine.not_late (omega (arith, e, past_l)) }))
     (subst (λ x. IsBetween (calls.0 + sc.plan.dmin) (calls.0 + spread + sc.plan.dmax + tick_of sc.plan) (time_of (clock_of sc Biu i) x)) f
     (record { least = theirs.not_early; most = theirs.not_late (omega (arith, f, past_k)) }))
 
 -- if no RMU is asymmetric, the listener and the BIU take alike
-pub near_by_rmus : (sc : Scenario) (hands : List HandIn) (n : ℕ) (m : Moment) (s : Shared) (c : IsHeardStage sc hands n m s 1 Biu)
-    → (clock : Timeline) → Steady (shortest_of sc.plan) (drift_of sc.plan) clock → (taken : ℕ → Option ℕ) (time : ℕ → ℕ) → TakesCalls sc m s clock taken time
-    → TakesAlike sc m s (ws_of sc hands n m s 1 Biu c) taken time
-    → (l : ℕ) → IsMiddle l (present (each_node taken))
-    → (i : ℕ) (b : NodeState) → IsGoodNode sc m Biu i b → Late sc m 1 (ws_of sc hands n m s 1 Biu c) Biu i b
-    → (k : ℕ) → IsMiddle k (present (each_node (took sc m 1 (ws_of sc hands n m s 1 Biu c) Biu i b)))
+pub near_by_rmus : {sc hands n m s : _} (c : IsHeardStage sc hands n m s 1 Biu)
+    → {clock : _} → Steady (shortest_of sc.plan) (drift_of sc.plan) clock → {taken time : _} → TakesCalls sc m s clock taken time
+    → TakesAlike s (ws_of c) taken time
+    → {l : ℕ} → IsMiddle l (present (each_node taken))
+    → {i b : _} → IsGoodNode sc m Biu i b → Late sc m 1 (ws_of c) Biu i b
+    → {k : ℕ} → IsMiddle k (present (each_node (took 1 (ws_of c) Biu i b)))
     → AreNear (near_1 sc.plan) (time_of clock l) (time_of (clock_of sc Biu i) k)
-near_by_rmus sc hands n m s c clock steady_clock taken time t alike l is_l i b here late k is_k =
-    middle_times_near (eps_of sc.plan + tick_of sc.plan) (time_of clock) (time_of (clock_of sc Biu i)) taken (took sc m 1 ws Biu i b) l k
+near_by_rmus {sc} {m} {s} c {clock} steady_clock {taken} {time} t alike {l} is_l {i} {b} here late {k} is_k =
+    middle_times_near (eps_of sc.plan + tick_of sc.plan) taken (took 1 ws Biu i b)
     (record { keeps = λ x y le. times_rise_to clock x y le }) (record { keeps = λ x y le. times_rise_to (clock_of sc Biu i) x y le })
     (λ j below. by_trust j below (has (s.trusted Rmu) j) refl) is_l is_k
   where
@@ -160,58 +160,58 @@ near_by_rmus sc hands n m s c clock steady_clock taken time t alike l is_l i b h
     slot = sync_slot_of sc.sizes
 
     ws : Windows sc m (sync_slot_of sc.sizes) 2
-    ws = ws_of sc hands n m s 1 Biu c
+    ws = ws_of c
 
     IsPaired : Option ℕ → Option ℕ → Type 0
     IsPaired o p = BothNear (eps_of sc.plan + tick_of sc.plan) (time_of clock) (time_of (clock_of sc Biu i)) o p
 
     steady_b : Steady (shortest_of sc.plan) (drift_of sc.plan) (clock_of sc Biu i)
-    steady_b = steady sc c.stage.law Biu i m.frame (slot_numbered sc.sizes m.window) here.good
+    steady_b = steady c.stage.law Biu i m.frame (slot_numbered sc.sizes m.window) here.good
 
     pair : (x y k l : ℕ) → AreNear (eps_of sc.plan) x y → stamp_of clock x ≡ k → stamp_of (clock_of sc Biu i) y ≡ l → 1 ≤ k → 1 ≤ l
         → AreNear (eps_of sc.plan + tick_of sc.plan) (time_of clock k) (time_of (clock_of sc Biu i) l)
     pair x y k l near is_k is_l some_k some_l =
         let at_a : IsStampTime clock (tick_of sc.plan) x k =
-        subst (IsStampTime clock (tick_of sc.plan) x) is_k (stamp_time (shortest_of sc.plan) (drift_of sc.plan) clock steady_clock x) in
+        subst (IsStampTime clock (tick_of sc.plan) x) is_k (stamp_time steady_clock x) in
         let at_b : IsStampTime (clock_of sc Biu i) (tick_of sc.plan) y l =
-        subst (IsStampTime (clock_of sc Biu i) (tick_of sc.plan) y) is_l (stamp_time (shortest_of sc.plan) (drift_of sc.plan) (clock_of sc Biu i) steady_b y) in
-        both-near (eps_of sc.plan) (tick_of sc.plan) x y (time_of clock k) (time_of (clock_of sc Biu i) l) near at_a.reached (at_a.near some_k) at_b.reached (at_b.near some_l)
+        subst (IsStampTime (clock_of sc Biu i) (tick_of sc.plan) y) is_l (stamp_time steady_b y) in
+        both-near (tick_of sc.plan) (time_of clock k) (time_of (clock_of sc Biu i) l) near at_a.reached (at_a.near some_k) at_b.reached (at_b.near some_l)
 
-    paired : (j : ℕ) (o p : Option ℕ) → taken j ≡ o → took sc m 1 ws Biu i b j ≡ p
-        → TookAlike (eps_of sc.plan) (time j) (sole_time (heard_in sc m slot 2 ws Biu i b j)) o p → IsPaired o p
+    paired : (j : ℕ) (o p : Option ℕ) → taken j ≡ o → took 1 ws Biu i b j ≡ p
+        → TookAlike (eps_of sc.plan) (time j) (sole_time (heard_in ws Biu i b j)) o p → IsPaired o p
     paired j None None is_o is_p same = tt
     paired j None (Some l) is_o is_p same = absurd same
     paired j (Some k) None is_o is_p same = absurd same
     paired j (Some k) (Some l) is_o is_p same =
         let mine = t.stamped j k is_o in
-        let from_b : IsTaken sc m 1 ws Biu i b j l = taken_from sc m 1 ws Biu i b j l is_p in
+        let from_b : IsTaken sc m 1 ws Biu i b j l = taken_from 1 ws Biu i b j is_p in
         let near : AreNear (eps_of sc.plan) (time j) from_b.message.time = subst (λ y. AreNear (eps_of sc.plan) (time j) y) (ap sole_time from_b.heard) same in
         pair (time j) from_b.message.time k l near mine.1 from_b.stamp mine.0 (late.late j l is_p)
 
-    at_once : (j : ℕ) → is_good sc Rmu j m.frame slot ≡ true → IsPaired (taken j) (took sc m 1 ws Biu i b j)
+    at_once : (j : ℕ) → is_good sc Rmu j m.frame slot ≡ true → IsPaired (taken j) (took 1 ws Biu i b j)
     at_once j good =
-        let by : IsCaller sc m Rmu 2 j = caller sc hands n m s 1 Biu c j good in
-        let take_b : IsCallTaken sc m 1 ws Biu i b j by.tick = takes_call sc hands n m s 1 c.stage Biu i j b by.st by.tick c.listening here by.here by.at in
+        let by : IsCaller sc m Rmu 2 j = caller c j good in
+        let take_b : IsCallTaken sc m 1 ws Biu i b j by.tick = takes_call c.stage c.listening here by.here by.at in
         let sent : Sending = record { tick = by.tick; message = take_b.message } in
         let at : ℕ = time_of (clock_of sc Rmu j) by.tick in
         let exactly : IsBetween at at at = record { least = omega arith; most = omega arith } in
         let y : ℕ = (coming_of sc Biu i j b.frame sent).time in
         let mine = t.calls j by.st by.tick by.here by.at in
         let near : AreNear (eps_of sc.plan) (time j) y =
-        apart (eps_of sc.plan) sc.plan.dmin sc.plan.dmax at (time j) y (lawful_fits sc c.stage.law).delays mine.1 (coming_between sc c.stage.law Biu i j b.frame sent at at exactly) in
+        apart (eps_of sc.plan) sc.plan.dmin at (lawful_fits c.stage.law).delays mine.1 (coming_between c.stage.law Biu i j b.frame sent exactly) in
         let both : AreNear (eps_of sc.plan + tick_of sc.plan) (time_of clock (stamp_of clock (time j))) (time_of (clock_of sc Biu i) (stamp_of (clock_of sc Biu i) y)) =
         pair (time j) y (stamp_of clock (time j)) (stamp_of (clock_of sc Biu i) y) near refl refl (t.stamped j (stamp_of clock (time j)) mine.0).0
         (late.late j (stamp_of (clock_of sc Biu i) y) take_b.taken) in
-        subst (λ o. IsPaired o (took sc m 1 ws Biu i b j)) (sym mine.0) (subst (λ p. IsPaired (Some (stamp_of clock (time j))) p) (sym take_b.taken) both)
+        subst (λ o. IsPaired o (took 1 ws Biu i b j)) (sym mine.0) (subst (λ p. IsPaired (Some (stamp_of clock (time j))) p) (sym take_b.taken) both)
 
-    nothing : (j : ℕ) → has (s.trusted Rmu) j ≡ false → took sc m 1 ws Biu i b j ≡ None
-    nothing j untrusted = go (took sc m 1 ws Biu i b j) refl
+    nothing : (j : ℕ) → has (s.trusted Rmu) j ≡ false → took 1 ws Biu i b j ≡ None
+    nothing j untrusted = go (took 1 ws Biu i b j) refl
       where
-        go : (o : Option ℕ) → took sc m 1 ws Biu i b j ≡ o → o ≡ None
+        go : (o : Option ℕ) → took 1 ws Biu i b j ≡ o → o ≡ None
         go None is = refl
         go (Some k) is =
             let yes_it : has (s.trusted Rmu) j ≡ true =
-            ap (λ x. has x j) (sym (far-held sc m s Biu b (c.stage.agree.nodes Biu i b here))) ∙ (taken_from sc m 1 ws Biu i b j k is).trusted in
+            ap (λ x. has x j) (sym (far-held (c.stage.agree.nodes Biu i b here))) ∙ (taken_from 1 ws Biu i b j is).trusted in
             absurd (cc)
 
     nothing_here : (j : ℕ) → has (s.trusted Rmu) j ≡ false → taken j ≡ None
@@ -221,11 +221,11 @@ near_by_rmus sc hands n m s c clock steady_clock taken time t alike l is_l i b h
         go None is = refl
         go (Some k) is = let yes_it : has (s.trusted Rmu) j ≡ true = t.trusts j (ap is_some is) in absurd (cc)
 
-    by_trust : (j : ℕ) → j < 16 → (x : Bool) → has (s.trusted Rmu) j ≡ x → IsPaired (taken j) (took sc m 1 ws Biu i b j)
+    by_trust : (j : ℕ) → j < 16 → (x : Bool) → has (s.trusted Rmu) j ≡ x → IsPaired (taken j) (took 1 ws Biu i b j)
     by_trust j below false is =
-        subst (λ o. IsPaired o (took sc m 1 ws Biu i b j)) (sym (nothing_here j is)) (subst (λ p. IsPaired None p) (sym (nothing j is)) tt)
+        subst (λ o. IsPaired o (took 1 ws Biu i b j)) (sym (nothing_here j is)) (subst (λ p. IsPaired None p) (sym (nothing j is)) tt)
     by_trust j below true is =
         elim (true_or_false (is_good sc Rmu j m.frame slot)) [
           | inl good ↦ at_once j good
-          | inr faulty ↦ paired j (taken j) (took sc m 1 ws Biu i b j) refl refl (alike j below is faulty i b here)
+          | inr faulty ↦ paired j (taken j) (took 1 ws Biu i b j) refl refl (alike j below is faulty i b here)
         ]

@@ -1,11 +1,11 @@
 -- If the third stage of the sync slot passes, a listener whose middle is near those of the good
 -- BIUs begins the next frame near all good nodes.
-use Rattle.std.proofs.{Common.{◌≡◌, ℕ, ◌+◌, ◌*◌, ◌≤◌, ◌<◌, min, max, true, false, List, Some, option_and_then, option_map, unwrap_or, slice_get, ◌⊎◌, inl, inr, refl, sym, ◌∙◌, ap, subst, arith}, lemmas.Bool.cases_lt}
+use Rattle.std.proofs.{Common.{◌≡◌, ℕ, ◌+◌, ◌*◌, ◌≤◌, ◌<◌, min, max, true, false, Some, option_and_then, option_map, unwrap_or, slice_get, ◌⊎◌, inl, inr, refl, sym, ◌∙◌, ap, subst, arith}, lemmas.Bool.cases_lt}
 use Rattle.rb_base.specs.{Nodes.{Side, has}, Nodes.Side.{Biu, Rmu}, Sizes.sync_slot_of}
 use Rattle.rb_base.proofs.Plain.{and_second}
-use Rattle.rb_rules.specs.{Book.of_kind, Clock.{Timeline, time_of}, Goodness.{Scenario, clock_of, is_good}, Lawful.IsLawful, NodeState.NodeState, Plan.{f0_of, shortest_of}, Ports.HandIn, Rounds.Moment, SyncStage.call_tick_of}
+use Rattle.rb_rules.specs.{Book.of_kind, Clock.{Timeline, time_of}, Goodness.{Scenario, clock_of, is_good}, Lawful.IsLawful, NodeState.NodeState, Plan.{f0_of, shortest_of}, Rounds.Moment, SyncStage.call_tick_of}
 use Rattle.rb_rules.proofs.Middles.{AreNear, IsBetween}
-use Rattle.rb_laws_agreement.proofs.{Tests.Passing, Numbers.one_of_many, Premises.is_sound, Goodnesses.{good_below_16, slot_last}, Invariant.{IsGoodNode, Shared, is_good_now, slot_numbered}, NextMoments.{CameFrom, came_from, next}, Settings.after}
+use Rattle.rb_laws_agreement.proofs.{Tests.Passing, Numbers.one_of_many, Premises.is_sound, Goodnesses.{good_below_16, slot_last}, Invariant.{IsGoodNode, is_good_now, slot_numbered}, NextMoments.{CameFrom, came_from, next}, Settings.after}
 use Rattle.rb_laws_synchrony.proofs.{KeptMiddles.keeps, LastStage.{biu_begins, rmu_begins, third-middle, third-near}, Middles.{HasLeast, least_of}, PlanNumbers.drift_of, StageCalls.clock_now, StageMiddles.{CallBetween, IsCaller, IsHeardStage, caller, ws_of}, StageSteps.closer, SyncSteps.{IsPassedStage, epoch_after, f0_some, kept_found, some_more, tick_some}, Synchronous.{KnowsEpoch, Synchronous, heard_from, heard_to, near_2, near_3, near_on, ticks_on}, TakenCalls.is_set, TimelyWindows.good_here, Times.{Steady, lawful_fits}}
 
 -- the time of a BIU's call
@@ -13,15 +13,15 @@ calls_at : Scenario → Moment → ℕ → ℕ
 calls_at sc m j =
     time_of (clock_of sc Biu j) (unwrap_or (option_and_then (λ (st : NodeState). call_tick_of sc.sizes sc.plan st 3) (slice_get (of_kind Biu m.nodes) j)) 0)
 
-calls_at-is : (sc : Scenario) (m : Moment) (j : ℕ) (st : NodeState) (tick : ℕ) → slice_get (of_kind Biu m.nodes) j ≡ Some st
+calls_at-is : (sc : Scenario) (m : Moment) (j : ℕ) {st tick : _} → slice_get (of_kind Biu m.nodes) j ≡ Some st
     → call_tick_of sc.sizes sc.plan st 3 ≡ Some tick → calls_at sc m j ≡ time_of (clock_of sc Biu j) tick
 unfolding calls_at
-calls_at-is sc m j st tick there at =
+calls_at-is sc m j {st} there at =
     ap (λ o. time_of (clock_of sc Biu j) (unwrap_or (option_and_then (λ (st : NodeState). call_tick_of sc.sizes sc.plan st 3) o) 0)) there
     ∙ ap (λ o. time_of (clock_of sc Biu j) (unwrap_or o 0)) at
 
-abbrev heard-third : (sc : Scenario) (hands : List HandIn) (n : ℕ) (m : Moment) (s : Shared) → IsPassedStage sc hands n m s 2 → IsHeardStage sc hands n m s 2 Rmu
-heard-third sc hands n m s c = record { stage = c.stage; listening = refl; premise = c.premise }
+abbrev heard-third : {sc hands n m s : _} → IsPassedStage sc hands n m s 2 → IsHeardStage sc hands n m s 2 Rmu
+heard-third c = record { stage = c.stage; listening = refl; premise = c.premise }
 
 -- The calls, and what would be the listener's own, come from some time on, and within as much.
 
@@ -35,9 +35,9 @@ record CallTogether (sc : Scenario) (m : Moment) (own : ℕ) : Type 0 where
   pub calls : CallBetween sc m Biu 3 least (least + near_3 sc.plan)
   pub listener : IsBetween least (least + near_3 sc.plan) own
 
-call_together : (sc : Scenario) (hands : List HandIn) (n : ℕ) (m : Moment) (s : Shared) (low : ℕ) → IsPassedStage sc hands n m s 2 → Synchronous sc m s low
-    → (clock : Timeline) → Steady (shortest_of sc.plan) (drift_of sc.plan) clock → (l : ℕ) → MiddleIsNear sc m clock l → CallTogether sc m (time_of clock (l + sc.plan.v))
-call_together sc hands n m s low c sync clock steady_clock l near = go found.held
+call_together : {sc hands n m s low : _} → IsPassedStage sc hands n m s 2 → Synchronous sc m s low
+    → {clock : _} → Steady (shortest_of sc.plan) (drift_of sc.plan) clock → (l : ℕ) → MiddleIsNear sc m clock l → CallTogether sc m (time_of clock (l + sc.plan.v))
+call_together {sc} {m} {s} c sync {clock} steady_clock l near = go found.held
   where
     law : IsLawful sc
     law = c.stage.law
@@ -49,7 +49,7 @@ call_together sc hands n m s low c sync clock steady_clock l near = go found.hel
     own = time_of clock (l + sc.plan.v)
 
     here : (j : ℕ) → is_good_now sc m Biu j ≡ true → IsCaller sc m Biu 3 j
-    here j g = caller sc hands n m s 2 Rmu (heard-third sc hands n m s c) j (ap (is_good sc Biu j m.frame) (sym (slot_last sc.sizes m.window 2 c.stage.at)) ∙ g)
+    here j g = caller (heard-third c) j (ap (is_good sc Biu j m.frame) (sym (slot_last sc.sizes 2 c.stage.at)) ∙ g)
 
     -- the listener's call would be near that of each good BIU
     close : (j : ℕ) → is_good_now sc m Biu j ≡ true → AreNear (near_3 sc.plan) (time_of clock (l + sc.plan.v)) (calls_at sc m j)
@@ -58,9 +58,8 @@ call_together sc hands n m s low c sync clock steady_clock l near = go found.hel
         let k = sync.second at j by.st by.here in
         let tick : Some (k.tick + sc.plan.v) ≡ Some by.tick = sym (ap (option_map (λ x. x + sc.plan.v)) k.is) ∙ by.at in
         let e : k.tick + sc.plan.v ≡ by.tick = cc in
-        subst (AreNear (near_3 sc.plan) (time_of clock (l + sc.plan.v))) (sym (calls_at-is sc m j by.st by.tick by.here.there by.at))
-        (near_on (shortest_of sc.plan) (drift_of sc.plan) clock (clock_of sc Biu j) steady_clock (clock_now sc law m Biu j by.st by.here)
-        (near_2 sc.plan) l k.tick sc.plan.v (l + sc.plan.v) by.tick refl (sym e) (near j by.st by.here k.tick k.is))
+        subst (AreNear (near_3 sc.plan) (time_of clock (l + sc.plan.v))) (sym (calls_at-is sc m j by.here.there by.at))
+        (near_on steady_clock (clock_now law by.here) l k.tick sc.plan.v refl (sym e) (near j by.st by.here k.tick k.is))
 
     found : HasLeast (is_good_now sc m Biu) (calls_at sc m) (near_3 sc.plan) 16
     found =
@@ -68,20 +67,20 @@ call_together sc hands n m s low c sync clock steady_clock l near = go found.hel
         let a : IsCaller sc m Biu 3 i = here i g in
         let b : IsCaller sc m Biu 3 j = here j h in
         let pair : AreNear (near_3 sc.plan) (time_of (clock_of sc Biu i) a.tick) (time_of (clock_of sc Biu j) b.tick) =
-        third-near sc hands n m s low c sync i j a.st b.st a.here b.here a.tick b.tick a.at b.at in
-        omega (arith, pair.above, calls_at-is sc m i a.st a.tick a.here.there a.at, calls_at-is sc m j b.st b.tick b.here.there b.at)) 16
+        third-near c sync i j a.st b.st a.here b.here a.tick b.tick a.at b.at in
+        omega (arith, pair.above, calls_at-is sc m i a.here.there a.at, calls_at-is sc m j b.here.there b.at)) 16
 
     small : (j : ℕ) → is_good_now sc m Biu j ≡ true → j < 16
     small j g = good_below_16 sc law.sizes Biu j m.frame (slot_numbered sc.sizes m.window) g
 
     between_from : (least : ℕ) → ((j : ℕ) → is_good_now sc m Biu j ≡ true → IsBetween least (least + near_3 sc.plan) (calls_at sc m j)) → CallBetween sc m Biu 3 least (least + near_3 sc.plan)
-    between_from least all j source tick h is = subst (IsBetween least (least + near_3 sc.plan)) (calls_at-is sc m j source tick h.there is) (all j h.good)
+    between_from least all j source tick h is = subst (IsBetween least (least + near_3 sc.plan)) (calls_at-is sc m j h.there is) (all j h.good)
 
     go : ((i : ℕ) → i < 16 → is_good_now sc m Biu i ≡ false) ⊎ ((k : ℕ) × (is_good_now sc m Biu k ≡ true) × (calls_at sc m k ≡ found.least)) → CallTogether sc m (time_of clock (l + sc.plan.v))
     go (inl none) =
         let one : Passing (is_sound sc Biu m.frame (sync_slot_of sc.sizes) s.trusted) 0 16 = one_of_many (is_sound sc Biu m.frame (sync_slot_of sc.sizes) s.trusted) (omega (arith, c.premise.most Biu)) in
         let good : is_good_now sc m Biu one.at ≡ true =
-        ap (is_good sc Biu one.at m.frame) (slot_last sc.sizes m.window 2 at) ∙ and_second (has (s.trusted Biu) one.at) (is_good sc Biu one.at m.frame (sync_slot_of sc.sizes)) one.passes in
+        ap (is_good sc Biu one.at m.frame) (slot_last sc.sizes 2 at) ∙ and_second (has (s.trusted Biu) one.at) (is_good sc Biu one.at m.frame (sync_slot_of sc.sizes)) one.passes in
         let both : true ≡ false = sym good ∙ none one.at (small one.at good) in
         absurd (cc)
     go (inr some) =
@@ -112,15 +111,14 @@ pub record BeginTogether (sc : Scenario) (m : Moment) (clock : Timeline) (epoch 
   pub good : (me : Side) (i : ℕ) (st : NodeState) → IsGoodNode sc m me i st → KnowsEpoch sc me i st later
   pub listener : IsBetween later (later + sc.plan.p) (time_of clock epoch)
 
-pub begin_together : (sc : Scenario) (hands : List HandIn) (n : ℕ) (m : Moment) (s : Shared) (low : ℕ) → IsPassedStage sc hands n m s 2 → Synchronous sc m s low
-    → (clock : Timeline) → Steady (shortest_of sc.plan) (drift_of sc.plan) clock → (l : ℕ) → MiddleIsNear sc m clock l
+pub begin_together : {sc hands n m s low : _} → IsPassedStage sc hands n m s 2 → Synchronous sc m s low
+    → {clock : _} → Steady (shortest_of sc.plan) (drift_of sc.plan) clock → (l : ℕ) → MiddleIsNear sc m clock l
     → BeginTogether sc (next sc m) clock (l + sc.plan.v + sc.plan.z + sc.plan.c)
-begin_together sc hands n m s low c sync clock steady_clock l near = record {
+begin_together {sc} {hands} {n} {m} {s} c sync {clock} steady_clock l near = record {
   later = later;
   good = by_kind;
-  listener = biu_begins sc.plan (shortest_of sc.plan) (drift_of sc.plan) (f0_of sc.sizes sc.plan) calls.least (time_of clock (l + sc.plan.v + sc.plan.z + sc.plan.c)) (lawful_fits sc law)
-      (ticks_on (shortest_of sc.plan) (drift_of sc.plan) clock steady_clock calls.least (calls.least + near_3 sc.plan) (l + sc.plan.v) (sc.plan.z + sc.plan.c)
-      (l + sc.plan.v + sc.plan.z + sc.plan.c) (ticks_as l sc.plan.v sc.plan.z sc.plan.c) calls.listener);
+  listener = biu_begins calls.least (lawful_fits law)
+      (ticks_on steady_clock (l + sc.plan.v) (sc.plan.z + sc.plan.c) (ticks_as l sc.plan.v sc.plan.z sc.plan.c) calls.listener);
 }
   where
     law : IsLawful sc
@@ -130,10 +128,10 @@ begin_together sc hands n m s low c sync clock steady_clock l near = record {
     at = c.stage.at
 
     heard : IsHeardStage sc hands n m s 2 Rmu
-    heard = heard-third sc hands n m s c
+    heard = heard-third c
 
     calls : CallTogether sc m (time_of clock (l + sc.plan.v))
-    calls = call_together sc hands n m s low c sync clock steady_clock l near
+    calls = call_together c sync steady_clock l near
 
     later : ℕ
     later = calls.least + sc.plan.z * shortest_of sc.plan + min (sc.plan.c * shortest_of sc.plan) sc.plan.dmin
@@ -154,7 +152,7 @@ begin_together sc hands n m s low c sync clock steady_clock l near = record {
     of_biu i st here now e same =
         let k = sync.second at i st here in
         let bounds = biu_takes now.epoch k.tick f sc.plan.l sc.plan.v sc.plan.z sc.plan.c (omega (arith, e, k.from)) (omega (arith, e, k.inside)) in
-        let steady_here : Steady (shortest_of sc.plan) (drift_of sc.plan) (clock_of sc Biu i) = clock_now sc law m Biu i st here in
+        let steady_here : Steady (shortest_of sc.plan) (drift_of sc.plan) (clock_of sc Biu i) = clock_now law here in
         let called : IsBetween calls.least (calls.least + near_3 sc.plan) (time_of (clock_of sc Biu i) (k.tick + sc.plan.v)) =
         calls.calls i st (k.tick + sc.plan.v) here (ap (option_map (λ k2. k2 + sc.plan.v)) k.is) in
         record {
@@ -164,20 +162,19 @@ begin_together sc hands n m s low c sync clock steady_clock l near = record {
             least = bounds.0;
             most = bounds.1;
           };
-          between = biu_begins sc.plan (shortest_of sc.plan) (drift_of sc.plan) (f0_of sc.sizes sc.plan) calls.least (time_of (clock_of sc Biu i) (k.tick + sc.plan.v + sc.plan.z + sc.plan.c)) (lawful_fits sc law)
-              (ticks_on (shortest_of sc.plan) (drift_of sc.plan) (clock_of sc Biu i) steady_here calls.least (calls.least + near_3 sc.plan) (k.tick + sc.plan.v) (sc.plan.z + sc.plan.c)
-              (k.tick + sc.plan.v + sc.plan.z + sc.plan.c) (ticks_as k.tick sc.plan.v sc.plan.z sc.plan.c) called);
+          between = biu_begins calls.least (lawful_fits law)
+              (ticks_on steady_here (k.tick + sc.plan.v) (sc.plan.z + sc.plan.c) (ticks_as k.tick sc.plan.v sc.plan.z sc.plan.c) called);
         }
 
-    of_rmu : (i : ℕ) (st : NodeState) (here : IsGoodNode sc m Rmu i st) (now : NodeState) → now.epoch ≡ st.epoch → now.k3 ≡ Some (third-middle sc hands n m s low heard sync i st here).tick → KnowsEpoch sc Rmu i now later
+    of_rmu : (i : ℕ) (st : NodeState) (here : IsGoodNode sc m Rmu i st) (now : NodeState) → now.epoch ≡ st.epoch → now.k3 ≡ Some (third-middle heard sync here).tick → KnowsEpoch sc Rmu i now later
     of_rmu i st here now e same =
-        let k = third-middle sc hands n m s low heard sync i st here in
+        let k = third-middle heard sync here in
         let bounds = rmu_takes now.epoch k.tick (f + sc.plan.l + sc.plan.v) sc.plan.z sc.plan.v sc.plan.c (omega (arith, e, k.from)) (omega (arith, e, k.inside)) in
-        let steady_here : Steady (shortest_of sc.plan) (drift_of sc.plan) (clock_of sc Rmu i) = clock_now sc law m Rmu i st here in
+        let steady_here : Steady (shortest_of sc.plan) (drift_of sc.plan) (clock_of sc Rmu i) = clock_now law here in
         let some : 1 ≤ f0_of sc.sizes sc.plan + sc.plan.l + sc.plan.v =
-        some_more (f0_of sc.sizes sc.plan + sc.plan.l) sc.plan.v (some_more (f0_of sc.sizes sc.plan) sc.plan.l (f0_some sc law)) in
+        some_more (f0_of sc.sizes sc.plan + sc.plan.l) sc.plan.v (some_more (f0_of sc.sizes sc.plan) sc.plan.l (f0_some law)) in
         let between : IsBetween (heard_from sc calls.least) (heard_to sc (calls.least + near_3 sc.plan)) (time_of (clock_of sc Rmu i) k.tick) =
-        closer sc hands n m s 2 Rmu heard _ _ _ _ _ calls.least (calls.least + near_3 sc.plan) calls.calls i st here some k in
+        closer heard calls.calls here some k in
         record {
           takes = record {
             epoch = k.tick + sc.plan.z;
@@ -185,20 +182,19 @@ begin_together sc hands n m s low c sync clock steady_clock l near = record {
             least = bounds.0;
             most = bounds.1;
           };
-          between = rmu_begins sc.plan (shortest_of sc.plan) (drift_of sc.plan) (f0_of sc.sizes sc.plan) calls.least (time_of (clock_of sc Rmu i) (k.tick + sc.plan.z)) (lawful_fits sc law)
-              (ticks_on (shortest_of sc.plan) (drift_of sc.plan) (clock_of sc Rmu i) steady_here (heard_from sc calls.least) (heard_to sc (calls.least + near_3 sc.plan)) k.tick sc.plan.z
-              (k.tick + sc.plan.z) refl between);
+          between = rmu_begins calls.least (lawful_fits law)
+              (ticks_on steady_here k.tick sc.plan.z refl between);
         }
 
     by_kind : (me : Side) (i : ℕ) (now : NodeState) → IsGoodNode sc (next sc m) me i now → KnowsEpoch sc me i now later
     by_kind Biu i now h =
-        let from : CameFrom sc m Biu i now = came_from sc hands n m s c.stage.agree Biu i now h in
+        let from : CameFrom sc m Biu i now = came_from c.stage.agree h in
         let left : (after sc m Biu i from.st).k2 ≡ from.st.k2 =
-        (keeps sc m 3 (ws_of sc hands n m s 2 Rmu heard) Biu i from.st (good_here sc m (sync_slot_of sc.sizes) 3 (is_set sc hands n m s 2 c.stage) Biu i from.st from.was)
-        ((tick_some sc hands n m s 2 c.stage).tick Biu from.st)).k2 in
+        (keeps (ws_of heard) Biu i from.st (good_here (is_set c.stage) from.was)
+        ((tick_some c.stage).tick Biu from.st)).k2 in
         of_biu i from.st from.was now (ap (λ x. x.epoch) (sym from.is) ∙ epoch_after sc m Biu i from.st) (ap (λ x. x.k2) (sym from.is) ∙ left)
     by_kind Rmu i now h =
-        let from : CameFrom sc m Rmu i now = came_from sc hands n m s c.stage.agree Rmu i now h in
-        let k = third-middle sc hands n m s low heard sync i from.st from.was in
-        let kept = kept_found sc hands n m s 2 Rmu heard _ _ _ _ _ i from.st from.was k in
+        let from : CameFrom sc m Rmu i now = came_from c.stage.agree h in
+        let k = third-middle heard sync from.was in
+        let kept = kept_found heard from.was k in
         of_rmu i from.st from.was now (ap (λ x. x.epoch) (sym from.is) ∙ epoch_after sc m Rmu i from.st) (ap (λ x. x.k3) (sym from.is) ∙ kept.k3)

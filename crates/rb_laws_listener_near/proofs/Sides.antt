@@ -72,10 +72,10 @@ seen_alike s sight j none i small good =
     ]
 
 -- in a newest stage in which the listener is a receiver, it saw an RMU as each good BIU did
-pub rmus_alike : (seen : ℕ → JudgedStage → Option (ℕ → See)) (s : JudgedStage) (earlier : List JudgedStage) (j : ℕ) (sight : ℕ → See)
+pub rmus_alike : (seen : ℕ → JudgedStage → Option (ℕ → See)) (s : JudgedStage) (earlier : List JudgedStage) (j : ℕ) {sight : _}
     → seen (length earlier) s ≡ Some sight → list_any (was_unlike_with Rmu j) (heard_stages seen (s ∷ earlier)) ≡ false
     → (i : ℕ) → i < 16 → has (s.good Biu) i ≡ true → are_alike s.eps (s.sight Biu i j) (sight j) ≡ true
-rmus_alike seen s earlier j sight here h =
+rmus_alike seen s earlier j {sight} here h =
     let heard : HeardStage = record { stage = s; seen = seen (length earlier) s } in
     let rest : List HeardStage = heard_stages seen earlier in
     let first : was_unlike_with Rmu j heard ≡ false = or_neither_first (was_unlike_with Rmu j heard) (list_any (was_unlike_with Rmu j) rest) h in

@@ -1,9 +1,9 @@
 -- A listener before a window below the sync slot, beside nodes that agree: what it takes of good
 -- RMUs, and what it votes if they say one value.
-use Rattle.std.proofs.{Common.{◌≡◌, ℕ, ◌+◌, ◌*◌, ◌<◌, ◌≤◌, ◌&&◌, not, nat_lt, Bool, true, false, List, Option, Some, is_some, length, slice_get, sym, ◌∙◌, ap, arith}, lemmas.Bool.{lt-ltb, not-true}}
+use Rattle.std.proofs.{Common.{◌≡◌, ℕ, ◌+◌, ◌*◌, ◌<◌, ◌≤◌, ◌&&◌, not, nat_lt, Bool, true, false, Option, Some, is_some, length, slice_get, sym, ◌∙◌, ap, arith}, lemmas.Bool.{lt-ltb, not-true}}
 use Rattle.rb_base.specs.{Counting.{count_if, numbers}, Nodes.{has, set_of, size}, Nodes.Side.{Biu, Rmu}, Sizes.sync_slot_of, declared.values.Heard.Heard}
 use Rattle.rb_base.proofs.{Sets.has-set_of, SetSizes.{size_apart, size_first}, Plain.{and_first, and_second, less-same}}
-use Rattle.rb_rules.specs.{declared.sense.Sense.Sense, Book.of_kind, ExactStage.{says, says_of}, Goodness.{Scenario, is_good}, NodeState.{NodeState, sender_at}, Ports.HandIn, Rounds.{Moment, after_window}, Slots.{Sender, expects, role_of, sender_in}, Standing.does_wrong}
+use Rattle.rb_rules.specs.{declared.sense.Sense.Sense, Book.of_kind, ExactStage.{says, says_of}, Goodness.{Scenario, is_good}, NodeState.{NodeState, sender_at}, Rounds.{Moment, after_window}, Slots.{Sender, expects, role_of, sender_in}, Standing.does_wrong}
 use Rattle.rb_rules.proofs.Votes.{closing_vote_is}
 use Rattle.rb_laws_agreement.proofs.{Tests.Present, Numbers.{how_many, how_many-is}, NodeWindows.word_at, Invariant.{Shared, sender_of, IsGoodNode, is_good_now, Holds, slot_numbered}, ExactWindows.{IsSingle, IsSenseOf, closing_at, does_right, expected_at, expects_who_speaks, take_at, takes_what_is_said}, Goodnesses.{exact_role, good_counts, single_sender, slot_here}, Exchanges.{eligible, sender-held, taken_is_trusted}, StageVotes.how_many-count, Settings.{Setting, good_state}, SecondStages.{GoodOne, some_good}, NextMoments.{next, was_good}}
 use Rattle.rb_laws_listener_near.specs.Holding.{HoldAlike}
@@ -35,8 +35,8 @@ pub record Held (sc : Scenario) (m : Moment) (s : Shared) (st : NodeState) : Typ
   pub owners : st.owners ≡ s.owners
   pub long : length st.votes ≡ sync_slot_of sc.sizes
 
-pub held-by : (sc : Scenario) (m : Moment) (s : Shared) (st b : NodeState) → Holds sc m s Biu b → HoldAlike st b → Held sc m s st
-held-by sc m s st b h like = record {
+pub held-by : {sc m s st b : _} → Holds sc m s Biu b → HoldAlike st b → Held sc m s st
+held-by h like = record {
   frame = like.frame ∙ h.frame;
   near = like.near ∙ h.trusted Biu;
   far = like.far ∙ h.trusted Rmu;
@@ -44,14 +44,14 @@ held-by sc m s st b h like = record {
   long = ap length like.votes ∙ h.long;
 }
 
-pub held : (sc : Scenario) (hands : List HandIn) (n : ℕ) (m : Moment) (s : Shared) (slot q : ℕ) → Setting sc hands n m s slot q → (st : NodeState) → Tracks sc m st → Held sc m s st
-held sc hands n m s slot q c st t =
-    let g : GoodOne sc m Biu = some_good sc hands n m s slot q c Biu in
-    held-by sc m s st g.st (c.agree.nodes Biu g.index g.st g.here) (t.like g.index g.st g.here)
+pub held : {sc hands n m s slot q : _} → Setting sc hands n m s slot q → {st : _} → Tracks sc m st → Held sc m s st
+held {sc} {m} c t =
+    let g : GoodOne sc m Biu = some_good c Biu in
+    held-by (c.agree.nodes Biu g.index g.st g.here) (t.like g.index g.st g.here)
 
 -- a state with what the good nodes share knows the sender of a slot
-pub sender-here : (sc : Scenario) (m : Moment) (s : Shared) (st : NodeState) (slot : ℕ) → Held sc m s st → sender_at sc.sizes Biu st slot ≡ sender_of sc.sizes s slot
-sender-here sc m s st slot h =
+pub sender-here : {sc m s st : _} (slot : ℕ) → Held sc m s st → sender_at sc.sizes Biu st slot ≡ sender_of sc.sizes s slot
+sender-here {sc} {s} {st} slot h =
     ap (λ b. sender_in b st.far.trusted st.owners (role_of sc.sizes slot)) h.near
     ∙ ap (λ r. sender_in (s.trusted Biu) r st.owners (role_of sc.sizes slot)) h.far
     ∙ ap (λ o. sender_in (s.trusted Biu) (s.trusted Rmu) o (role_of sc.sizes slot)) h.owners
@@ -63,33 +63,33 @@ pub record IsTaken (sc : Scenario) (m : Moment) (slot stage : ℕ) (st source : 
   pub takes : take_at sc.sizes Biu st slot stage sense j ≡ says sc.sizes Rmu j source slot stage (word_at sc m slot j)
   pub right : does_wrong (expected_at sc.sizes Biu st slot stage j) (sense j) ≡ false
 
-pub is_taken : (sc : Scenario) (hands : List HandIn) (n : ℕ) (m : Moment) (s : Shared) (slot q : ℕ) → Setting sc hands n m s slot q
-    → (st : NodeState) → Tracks sc m st → (sense : ℕ → Sense) → Senses sc m slot q sense
-    → (j : ℕ) (source : NodeState) → IsGoodNode sc m Rmu j source → stays_good sc m j ≡ true → IsTaken sc m slot (q + 1) st source sense j
-is_taken sc hands n m s slot q c st t sense senses j source there stays =
+pub is_taken : {sc hands n m s slot q : _} → Setting sc hands n m s slot q
+    → {st : _} → Tracks sc m st → {sense : _} → Senses sc m slot q sense
+    → {j source : _} → IsGoodNode sc m Rmu j source → stays_good sc m j ≡ true → IsTaken sc m slot (q + 1) st source sense j
+is_taken {sc} {m} {s} {slot} {q} c {st} t {sense} senses {j} {source} there stays =
     let sender : Sender = sender_of sc.sizes s slot in
-    let h : Held sc m s st = held sc hands n m s slot q c st t in
+    let h : Held sc m s st = held c t in
     let trusts : has st.far.trusted j ≡ true = ap (λ x. has x j) h.far ∙ c.agree.trusted Rmu j there.good in
     let single : IsSingle sender = single_sender (s.trusted Biu) (s.trusted Rmu) s.owners (role_of sc.sizes slot) (exact_role sc.sizes slot c.below) in
     let said : Option Heard = says sc.sizes Rmu j source slot (q + 1) (word_at sc m slot j) in
     let expected : expected_at sc.sizes Biu st slot (q + 1) j ≡ is_some said =
-    ap (λ x. expects Biu (role_of sc.sizes slot) x st.far.trusted (q + 1) j) (sender-here sc m s st slot h)
+    ap (λ x. expects Biu (role_of sc.sizes slot) x st.far.trusted (q + 1) j) (sender-here slot h)
     ∙ expects_who_speaks Biu (role_of sc.sizes slot) sender st.far.trusted j source slot q (word_at sc m slot j) c.small single trusts
-    ∙ ap (λ x. is_some (says_of Rmu j source slot (role_of sc.sizes slot) x (q + 1) (word_at sc m slot j))) (sym (sender-held sc m s Rmu source slot (c.agree.nodes Rmu j source there))) in
+    ∙ ap (λ x. is_some (says_of Rmu j source slot (role_of sc.sizes slot) x (q + 1) (word_at sc m slot j))) (sym (sender-held slot (c.agree.nodes Rmu j source there))) in
     let is : IsSenseOf (sense j) source slot (q + 1) said = senses j source there stays in
     record {
       takes = takes_what_is_said st.far (expected_at sc.sizes Biu st slot (q + 1)) sense source slot (q + 1) j said expected (eligible st.far j trusts (t.spares j there.good)) is;
-      right = does_right (expected_at sc.sizes Biu st slot (q + 1) j) (sense j) source slot (q + 1) said expected is;
+      right = does_right (sense j) source slot (q + 1) said expected is;
     }
 
 -- an RMU that is good in stage 1 or 2 stays good
-pub good_stays : (sc : Scenario) (hands : List HandIn) (n : ℕ) (m : Moment) (s : Shared) (slot q : ℕ) → Setting sc hands n m s slot q → q < 2 → (j : ℕ)
+pub good_stays : {sc hands n m s slot q : _} → Setting sc hands n m s slot q → q < 2 → (j : ℕ)
     → is_good_now sc m Rmu j ≡ true → stays_good sc m j ≡ true
 unfolding after_window
-good_stays sc hands n m s slot q c early j good =
+good_stays {sc} {m} {slot} {q} c early j good =
     let at : m.window ≡ 3 * slot + q = c.at in
-    let now : slot_numbered sc.sizes m.window ≡ slot = slot_here sc.sizes m.window slot q c.below c.small at in
-    let then : slot_numbered sc.sizes (m.window + 1) ≡ slot = slot_here sc.sizes (m.window + 1) slot (q + 1) c.below (omega arith) (omega arith) in
+    let now : slot_numbered sc.sizes m.window ≡ slot = slot_here sc.sizes slot q c.below c.small at in
+    let then : slot_numbered sc.sizes (m.window + 1) ≡ slot = slot_here sc.sizes slot (q + 1) c.below (omega arith) (omega arith) in
     ap (is_good sc Rmu j m.frame) (then ∙ sym now) ∙ good
 
 -- What it votes.
@@ -101,22 +101,22 @@ pub outnumbered : (a b total : ℕ) → a + b ≤ total → total < 2 * b → a 
 outnumbered a b total h k = omega arith
 
 -- if the good RMUs say one value, the listener votes for it
-pub listener_votes : (sc : Scenario) (hands : List HandIn) (n : ℕ) (m : Moment) (s : Shared) (slot q : ℕ) → Setting sc hands n m s slot q → MostStay sc m
-    → (st : NodeState) → Tracks sc m st → (sense : ℕ → Sense) → Senses sc m slot q sense → (value : Heard)
+pub listener_votes : {sc hands n m s slot q : _} → Setting sc hands n m s slot q → MostStay sc m
+    → {st : _} → Tracks sc m st → (sense : ℕ → Sense) → Senses sc m slot q sense → (value : Heard)
     → ((j : ℕ) (source : NodeState) → IsGoodNode sc m Rmu j source → says sc.sizes Rmu j source slot (q + 1) (word_at sc m slot j) ≡ Some value)
     → listener_vote sc slot q st sense ≡ value
-listener_votes sc hands n m s slot q c most st t sense senses value said =
+listener_votes {sc} {m} {s} {slot} {q} c most {st} t sense senses value said =
     let good : ℕ → Bool = stays_good sc m in
     let taken : ℕ → Option Heard = take_at sc.sizes Biu st slot (q + 1) sense in
     let others : ℕ → Bool = λ j. not (good j) && is_some (taken j) in
     let all : ℕ = set_of (λ i. nat_lt i sc.sizes.rmus) in
-    let h : Held sc m s st = held sc hands n m s slot q c st t in
+    let h : Held sc m s st = held c t in
     let one : (j : ℕ) → good j ≡ true → taken j ≡ Some value =
     λ j g.
     let was : is_good_now sc m Rmu j ≡ true = was_good sc m Rmu j g in
-    let there : Present (slice_get (of_kind Rmu m.nodes) j) = good_state sc hands n m s c.agree Rmu j was in
+    let there : Present (slice_get (of_kind Rmu m.nodes) j) = good_state c.agree Rmu j was in
     let source : IsGoodNode sc m Rmu j there.value = record { there = there.is; good = was } in
-    (is_taken sc hands n m s slot q c st t sense senses j there.value source g).takes ∙ said j there.value source in
+    (is_taken c t senses source g).takes ∙ said j there.value source in
     let total : size all ≡ sc.sizes.rmus = size_first sc.sizes.rmus c.law.sizes.most_rmus in
     let apart : size (set_of others) + size (set_of good) ≤ size all =
     size_apart all (set_of others) (set_of good)

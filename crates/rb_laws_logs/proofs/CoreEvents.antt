@@ -37,10 +37,10 @@ pub record Makes (sizes : Sizes) (plan : Plan) (name : NodeName) (me : Side) (i 
   pub frames_are : frames_in (acts_of sizes plan me i c events) ≡ frames
 
 -- events after others make the lines and the frames of both
-pub makes-both : (sizes : Sizes) (plan : Plan) (name : NodeName) (me : Side) (i : ℕ) (c between after : Core) (xs ys : List CoreEvent) (lines more : List ℕ) (frames others : ℕ)
+pub makes-both : {sizes plan name me i c between after xs ys lines more frames others : _}
     → Makes sizes plan name me i c xs between lines frames → Makes sizes plan name me i between ys after more others
     → Makes sizes plan name me i c (xs ++ ys) after (lines ++ more) (frames + others)
-makes-both sizes plan name me i c between after xs ys lines more frames others a b = record {
+makes-both {sizes} {plan} {name} {me} {i} {c} {xs} {ys} {lines} {frames} a b = record {
   core = core-append sizes plan me i c xs ys ∙ ap (λ c. core_after sizes plan me i c ys) a.core ∙ b.core;
   lines_are = ap (flat_map (act_lines name)) (acts-append sizes plan me i c xs ys)
       ∙ flat_map-append (act_lines name) (acts_of sizes plan me i c xs) (acts_of sizes plan me i (core_after sizes plan me i c xs) ys)
@@ -53,10 +53,10 @@ makes-both sizes plan name me i c between after xs ys lines more frames others a
 }
 
 -- quiet ticks are only counted, and leave no line
-pub makes-quiet : (sizes : Sizes) (plan : Plan) (name : NodeName) (me : Side) (i n k : ℕ) (c : Core) → IsNext sizes plan me i c.state c.had k → c.had + n ≤ k
+pub makes-quiet : {sizes plan : _} (name : NodeName) {me i : _} (n : ℕ) {k : ℕ} (c : Core) → IsNext sizes plan me i c.state c.had k → c.had + n ≤ k
     → Makes sizes plan name me i c (replicate n (core.Tick 0)) (record c { had = c.had + n }) [] 0
-makes-quiet sizes plan name me i zero k c next le = let e : c.had + 0 ≡ c.had = omega arith in record { core = ap (λ m. record c { had = m }) (sym e); lines_are = refl; frames_are = refl }
-makes-quiet sizes plan name me i (suc n) k c next le =
+makes-quiet name zero c next le = let e : c.had + 0 ≡ c.had = omega arith in record { core = ap (λ m. record c { had = m }) (sym e); lines_are = refl; frames_are = refl }
+makes-quiet {sizes} {plan} name {me} {i} (suc n) {k} c next le =
     let below : k < 2 ^ 31 = next.below in
     let one : tick sizes plan me i c 0 ≡ nothing c =
     quiet-tick sizes plan me i c (quiet-from sizes plan me i c.state c.had (next.quiet_before c.had (omega arith) (omega (arith, le)))) (omega (arith, below, le)) in
@@ -68,7 +68,7 @@ makes-quiet sizes plan name me i (suc n) k c next le =
       busy = next.busy;
     } in
     let rest : Makes sizes plan name me i (nothing c).core (replicate n (core.Tick 0)) (record c { had = c.had + 1 + n }) [] 0 =
-    makes-quiet sizes plan name me i n k (nothing c).core then_next (omega (arith, le)) in
+    makes-quiet name n (nothing c).core then_next (omega (arith, le)) in
     record {
       core = ap (λ (x : Act). core_after sizes plan me i x.core (replicate n (core.Tick 0))) one ∙ rest.core ∙ ap (λ m. record c { had = m }) e;
       lines_are = ap (λ (x : Act). act_lines name x ++ flat_map (act_lines name) (acts_of sizes plan me i x.core (replicate n (core.Tick 0)))) one ∙ rest.lines_are;
@@ -79,18 +79,18 @@ makes-quiet sizes plan name me i (suc n) k c next le =
     zero-more n = omega arith
 
 -- the quiet ticks before an event make no lines and no frames
-pub makes-passed : (sizes : Sizes) (plan : Plan) (name : NodeName) (me : Side) (i k next : ℕ) (c : Core) → IsNext sizes plan me i c.state c.had next → (pass_to k c).had ≤ next
+pub makes-passed : {sizes plan : _} (name : NodeName) {me i : _} (k : ℕ) {next : ℕ} (c : Core) → IsNext sizes plan me i c.state c.had next → (pass_to k c).had ≤ next
     → Makes sizes plan name me i c (replicate (k - c.had) (core.Tick 0)) (pass_to k c) [] 0
-makes-passed sizes plan name me i k next c is le =
+makes-passed {sizes} {plan} name {me} {i} k c is le =
     let e : c.had + (k - c.had) ≡ max c.had k = omega arith in
     let makes : Makes sizes plan name me i c (replicate (k - c.had) (core.Tick 0)) (record c { had = c.had + (k - c.had) }) [] 0 =
-    makes-quiet sizes plan name me i (k - c.had) next c is (omega (arith, le, e)) in
+    makes-quiet name (k - c.had) c is (omega (arith, le, e)) in
     subst (λ m. Makes sizes plan name me i c (replicate (k - c.had) (core.Tick 0)) (record c { had = m }) [] 0) e makes
 
 -- a tick with its word makes the lines and the frames of its act
-pub makes-tick : (sizes : Sizes) (plan : Plan) (name : NodeName) (me : Side) (i word : ℕ) (c : Core) (x : Act) → tick sizes plan me i c word ≡ x
+pub makes-tick : (sizes : Sizes) (plan : Plan) (name : NodeName) (me : Side) (i word : ℕ) (c : Core) {x : _} → tick sizes plan me i c word ≡ x
     → Makes sizes plan name me i c (core.Tick word ∷ []) x.core (act_lines name x) (frames_with x.epoch)
-makes-tick sizes plan name me i word c x is =
+makes-tick sizes plan name me i word c is =
     subst (λ y. Makes sizes plan name me i c (core.Tick word ∷ []) y.core (act_lines name y) (frames_with y.epoch)) is
     (record { core = refl; lines_are = append-nil (act_lines name (tick sizes plan me i c word)); frames_are = omega arith })
 

@@ -1,6 +1,6 @@
 -- A run in which always the first due event is taken ends, and nothing is given after its end.
 use Rattle.std.proofs.{Common.{◌≡◌, ℕ, zero, suc, ◌+◌, ◌-◌, ◌≤◌, ◌||◌, Bool, true, false, List, [], ◌∷◌, ◌++◌, flat_map, length, length-append, refl, ap, sym, ◌∙◌, subst, arith, inl, inr, Some, None, slice_get}, lemmas.Bool.cases_lt, lemmas.List.append-nil}
-use Rattle.rb_base.specs.{declared.event.Event.Event, declared.node.NodeName.NodeName}
+use Rattle.rb_base.specs.declared.node.NodeName.{NodeName}
 use Rattle.rb_base.proofs.Plain.{true-false}
 use Rattle.rb_rules.specs.{Book.{Record, in_order}, Entries.IsListed, Goodness.Scenario, Lawful.IsLawful, Rounds.records_of, WorldStep.{Choice, Due, IsPrefix, World, choose, due_at, due_of, first_world, go_on, least, needs_no_event, settle, take, times_of, world_after}, WorldStep.Choice.{Take, GoOn}, WorldStep.Way.ByItself}
 use Rattle.rb_laws_events.specs.Laws.{EveryRunEnds, most_takes, taken_by, takes_from}
@@ -38,16 +38,16 @@ stays sc name (suc k) m (suc n) e h =
 pub same-given : (sc : Scenario) (name : NodeName) (m n : ℕ) → m ≤ n → (first_run sc m).book.ended ≡ true → given_in sc name n ≡ given_in sc name m
 same-given sc name m n le h = (stays sc name (n - m) m n (omega (arith, le)) h).given
 
-pub one-only : (sc : Scenario) (name : NodeName) (events others : List Event) → AreGiven sc name events → AreGiven sc name others → others ≡ events
-one-only sc name events others a b = b.all ∙ elim (cases_lt a.steps b.steps) [
+pub one-only : {sc name events others : _} → AreGiven sc name events → AreGiven sc name others → others ≡ events
+one-only {sc} {name} a b = b.all ∙ elim (cases_lt a.steps b.steps) [
   | inl lt ↦ same-given sc name a.steps b.steps (omega (arith, lt)) a.over
   | inr ge ↦ sym (same-given sc name b.steps a.steps ge b.over)
 ] ∙ sym a.all
 
 -- Up to the end.
 
-prefix-length : (xs ys : List Record) → IsPrefix xs ys → length xs ≤ length ys
-prefix-length xs ys p = let e : length ys ≡ length xs + length p.0 = ap length p.1 ∙ length-append xs p.0 in omega (arith, e)
+prefix-length : (xs : List Record) {ys : _} → IsPrefix xs ys → length xs ≤ length ys
+prefix-length xs {ys} p = let e : length ys ≡ length xs + length p.0 = ap length p.1 ∙ length-append xs p.0 in omega (arith, e)
 
 -- each step takes an event or gives a record
 abbrev steps_by : Scenario → ℕ → ℕ
@@ -58,11 +58,11 @@ taken-more : (sc : Scenario) (w : World) (d : Due) (ds : List Due) → due_of sc
 taken-more sc w d ds e = ap (λ (ds : List Due). elim (slice_get ds 0) as (λ _. ℕ) [ None ↦ 0 | Some d ↦ 1 ]) e
 
 given-more : (sc : Scenario) (w : World) (c : Choice) → length w.book.given ≤ length (choose sc w c).book.given
-given-more sc w c = prefix-length w.book.given (choose sc w c).book.given (choose-on sc w c).more
+given-more sc w c = prefix-length w.book.given (choose-on sc w c).more
 
-step-more : (sc : Scenario) → IsLawful sc → (n : ℕ) → (first_run sc n).book.ended ≡ false → steps_by sc n + 1 ≤ steps_by sc (suc n)
+step-more : {sc : _} → IsLawful sc → (n : ℕ) → (first_run sc n).book.ended ≡ false → steps_by sc n + 1 ≤ steps_by sc (suc n)
 unfolding first_step
-step-more sc lawful n going = by (due_of sc w) refl
+step-more {sc} lawful n going = by (due_of sc w) refl
   where
     w : World
     w = first_run sc n
@@ -103,42 +103,42 @@ step-more sc lawful n going = by (due_of sc w) refl
         subst With (sym e) (omega (arith, more, one, same))
 
 -- a run that goes on has made few steps
-steps-count : (sc : Scenario) → IsLawful sc → (n : ℕ) → (first_run sc n).book.ended ≡ false → n ≤ steps_by sc n
-steps-count sc lawful zero going = omega arith
-steps-count sc lawful (suc n) going =
-    let more : steps_by sc n + 1 ≤ steps_by sc (suc n) = step-more sc lawful n (before (first_run sc n).book.ended refl) in
-    let rest : n ≤ steps_by sc n = steps-count sc lawful n (before (first_run sc n).book.ended refl) in
+steps-count : {sc : _} → IsLawful sc → (n : ℕ) → (first_run sc n).book.ended ≡ false → n ≤ steps_by sc n
+steps-count lawful zero going = omega arith
+steps-count {sc} lawful (suc n) going =
+    let more : steps_by sc n + 1 ≤ steps_by sc (suc n) = step-more lawful n (before (first_run sc n).book.ended refl) in
+    let rest : n ≤ steps_by sc n = steps-count lawful n (before (first_run sc n).book.ended refl) in
     omega (arith, more, rest)
   where
     before : (b : Bool) → (first_run sc n).book.ended ≡ b → (first_run sc n).book.ended ≡ false
     before false e = e
     before true e = true-false (sym (ap (λ (w : World). w.book.ended) (step-ended sc (first_run sc n) e) ∙ e) ∙ going)
 
-pub few-steps : (sc : Scenario) → IsListed sc → IsLawful sc → (n : ℕ) → (first_run sc n).book.ended ≡ false → n ≤ most_takes sc + length (records_of sc [])
-few-steps sc listed lawful n going =
+pub few-steps : {sc : _} → IsListed sc → IsLawful sc → (n : ℕ) → (first_run sc n).book.ended ≡ false → n ≤ most_takes sc + length (records_of sc [])
+few-steps {sc} listed lawful n going =
     let runs : EveryRunEnds sc = ends-hold sc lawful listed in
     let choices : List Choice = choices_in sc n in
-    let steps : n ≤ steps_by sc n = steps-count sc lawful n going in
+    let steps : n ≤ steps_by sc n = steps-count lawful n going in
     let few : takes_from sc (first_world sc) choices ≤ most_takes sc = runs.few choices in
     let hands : (world_after sc choices).hands ≡ [] = ap (λ (w : World). w.hands) (sym (run-is sc n)) ∙ no-hands sc n in
     let given : length (world_after sc choices).book.given ≤ length (records_of sc []) =
     subst (λ hs. length (world_after sc choices).book.given ≤ length (records_of sc hs)) hands
-    (prefix-length (world_after sc choices).book.given (records_of sc (world_after sc choices).hands) ((events-hold sc lawful).first choices)) in
+    (prefix-length (world_after sc choices).book.given ((events-hold sc lawful).first choices)) in
     let same : length (first_run sc n).book.given ≡ length (world_after sc choices).book.given = ap (λ (w : World). length w.book.given) (run-is sc n) in
     omega (arith, steps, few, given, same)
 
-pub run-ends : (sc : Scenario) → IsListed sc → IsLawful sc → (first_run sc (most_takes sc + length (records_of sc []) + 1)).book.ended ≡ true
-run-ends sc listed lawful = by (first_run sc n).book.ended refl
+pub run-ends : {sc : _} → IsListed sc → IsLawful sc → (first_run sc (most_takes sc + length (records_of sc []) + 1)).book.ended ≡ true
+run-ends {sc} listed lawful = by (first_run sc n).book.ended refl
   where
     n : ℕ
     n = most_takes sc + length (records_of sc []) + 1
 
     by : (b : Bool) → (first_run sc n).book.ended ≡ b → b ≡ true
     by true e = refl
-    by false e = let few : n ≤ most_takes sc + length (records_of sc []) = few-steps sc listed lawful n e in absurd (omega (arith, few))
+    by false e = let few : n ≤ most_takes sc + length (records_of sc []) = few-steps listed lawful n e in absurd (omega (arith, few))
 
 pub one-list-is-given : OneListIsGiven
 one-list-is-given sc lawful listed name =
     let n : ℕ = most_takes sc + length (records_of sc []) + 1 in
-    let are : AreGiven sc name (given_in sc name n) = record { steps = n; over = run-ends sc listed lawful; all = refl } in
-    (given_in sc name n, (are, λ others its. one-only sc name (given_in sc name n) others are its))
+    let are : AreGiven sc name (given_in sc name n) = record { steps = n; over = run-ends listed lawful; all = refl } in
+    (given_in sc name n, (are, λ others its. one-only are its))

@@ -18,17 +18,17 @@ pub gather-none : {X : Type 0} (n : ℕ) (take : ℕ → X → List ℕ) (xs : L
 gather-none n take [] none = refl
 gather-none n take (x ∷ xs) none = ap (λ l. l ++ gather (n + 1) take xs) (none n x (omega arith)) ∙ gather-none (n + 1) take xs (λ k y le. none k y (omega arith))
 
-pub gather-one : {X : Type 0} (n i m : ℕ) (take : ℕ → X → List ℕ) (xs : List X) (x : X) → slice_get xs i ≡ Some x → n + i ≡ m
+pub gather-one : {X : Type 0} (n i : ℕ) {m : ℕ} (take : ℕ → X → List ℕ) (xs : List X) {x : X} → slice_get xs i ≡ Some x → n + i ≡ m
     → ((k : ℕ) (y : X) → (k == m) ≡ false → take k y ≡ []) → gather n take xs ≡ take m x
-gather-one n i m take [] x there sum none = cc
-gather-one n zero m take (y ∷ ys) x there sum none =
+gather-one n i take [] there sum none = cc
+gather-one n zero {m} take (y ∷ ys) {x} there sum none =
     let same : y ≡ x = cc in
     let at : n ≡ m = omega arith in
     ap (λ l. take n y ++ l) (gather-none (n + 1) take ys (λ k z le. none k z (ne_eqb k m (λ e. omega arith))))
     ∙ append-nil (take n y) ∙ ap (take n) same ∙ ap (λ k. take k x) at
-gather-one n (suc i) m take (y ∷ ys) x there sum none =
+gather-one n (suc i) {m} take (y ∷ ys) there sum none =
     ap (λ l. l ++ gather (n + 1) take ys) (none n y (ne_eqb n m (λ e. omega arith)))
-    ∙ gather-one (n + 1) i m take ys x there (omega arith) none
+    ∙ gather-one (n + 1) i take ys there (omega arith) none
 
 -- the items that are made of those of a list, as far as they are there
 pub filtered : {X Y Z : Type 0} (take : Z → List ℕ) (pick : Y → Option Z) (make : ℕ → X → Y) (n : ℕ) (xs : List X)

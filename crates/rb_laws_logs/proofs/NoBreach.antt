@@ -137,8 +137,8 @@ last-book sc none =
     same-is : (a b : ℕ) → a ≡ b → (a == b) ≡ true
     same-is a b h = grind (arith, nat_tests)
 
-pub breaks-not : (sc : Scenario) → IsLawful sc → EndsWithoutBreach sc → (b q : ℕ) → BreaksAt sc [] b q → ⊥
-breaks-not sc lawful none b q off =
+pub breaks-not : {sc : _} → IsLawful sc → EndsWithoutBreach sc → {b q : ℕ} → BreaksAt sc [] b q → ⊥
+breaks-not {sc} lawful none {b} off =
     let m : Moment = moment sc [] b in
     let runs : RunsIn sc m = runs-in sc [] b off.running in
     let bound : m.frame ≤ sc.frames = runs.bound in

@@ -77,11 +77,11 @@ newest-append newest (Breach place cause ∷ xs) ys = newest-append newest xs ys
 -- A slot.
 
 -- the lines of the node among those that all tell of a slot
-pub slot-lines : (sc : Scenario) (m : Moment) (name : NodeName) (st : NodeState) → state_of name m ≡ Some st
+pub slot-lines : (sc : Scenario) (m : Moment) (name : NodeName) {st : _} → state_of name m ≡ Some st
     → flat_map (delivered_by name m.frame (slot_numbered sc.sizes m.window)) (filter_map line_in (map_each (λ (me : Side) (i : ℕ) (r : Result). r.row) (results_of sc m)).bius)
     ≡ window_text sc name m
 unfolding results_of
-slot-lines sc m name st there =
+slot-lines sc m name {st} there =
     filtered (delivered_by name m.frame slot) line_in (λ (i : ℕ) (r : Result). r.row) 0 made
     ∙ gather-made 0 (λ (k : ℕ) (r : Result). if_there (delivered_by name m.frame slot) (line_in r.row)) make m.nodes.bius
     ∙ by name there ∙ sym (ap (if_there (tells name)) there)
@@ -101,7 +101,7 @@ slot-lines sc m name st there =
     by : (name : NodeName) → state_of name m ≡ Some st
         → gather 0 (λ k x. if_there (delivered_by name m.frame slot) (line_in (make k x).row)) m.nodes.bius ≡ tells name st
     by (Biu i) there =
-        gather-one 0 i i (λ k x. if_there (delivered_by (Biu i) m.frame slot) (line_in (make k x).row)) m.nodes.bius st there (omega arith)
+        gather-one 0 i (λ k x. if_there (delivered_by (Biu i) m.frame slot) (line_in (make k x).row)) m.nodes.bius there (omega arith)
         (λ k y other. line-by (λ o. if_there (delivered_by (Biu i) m.frame slot) o ≡ []) sc m (sent_in sc m) biu k y (window_in sc m biu y) refl
         (λ d is second exact. ap (λ b. if b then delivery_text m.frame slot k d.sender d.value else []) other))
         ∙ line-by (λ o. if_there (delivered_by (Biu i) m.frame slot) o ≡ line_text m.frame slot o) sc m (sent_in sc m) biu i st (window_in sc m biu st) refl
@@ -112,9 +112,9 @@ slot-lines sc m name st there =
         ∙ sym (line-by (λ o. line_text m.frame slot o ≡ []) sc m (sent_in sc m) rmu i st (window_in sc m rmu st) refl (λ d is second exact. absurd (cc)))
 
 -- in a window that is no second stage below the sync slot a node tells nothing
-pub silent-window : (sc : Scenario) (m : Moment) (name : NodeName) (st : NodeState) → state_of name m ≡ Some st
+pub silent-window : (sc : Scenario) (m : Moment) (name : NodeName) {st : _} → state_of name m ≡ Some st
     → ((window_in sc m (kind_of name) st).stage == 2) && not ((window_in sc m (kind_of name) st).slot == sync_slot_of sc.sizes) ≡ false → window_text sc name m ≡ []
-silent-window sc m name st there silent =
+silent-window sc m name {st} there silent =
     ap (if_there (λ st. line_text m.frame (slot_numbered sc.sizes m.window) (line_in (row_in sc m (kind_of name) (index_of name) st)))) there
     ∙ line-by (λ o. line_text m.frame (slot_numbered sc.sizes m.window) o ≡ []) sc m (sent_in sc m) (kind_of name) (index_of name) st (window_in sc m (kind_of name) st) refl
     (λ d is second exact. absurd (both ((window_in sc m (kind_of name) st).stage == 2) ((window_in sc m (kind_of name) st).slot == sync_slot_of sc.sizes) second exact silent))
@@ -127,11 +127,11 @@ silent-window sc m name st there silent =
 -- A frame.
 
 -- the part of the named node is taken of all that is told of the start of a frame
-pub of-one : (sc : Scenario) (frame : ℕ) (ports : List PortState) (nodes : Each NodeState) (name : NodeName) (st : NodeState) (take : Begun → List ℕ)
+pub of-one : (sc : Scenario) (frame : ℕ) (ports : List PortState) (nodes : Each NodeState) (name : NodeName) {st : _} (take : Begun → List ℕ)
     → slice_get (of_kind (kind_of name) nodes) (index_of name) ≡ Some st → is_good sc (kind_of name) (index_of name) frame 0 ≡ true
     → ((side : Side) (k : ℕ) (z : NodeState) → is_node (kind_of name) (index_of name) side k ≡ false → take (begun_of sc ports side k (epoch_of sc.sizes side z)) ≡ [])
     → flat_map take (present (in_order (map_each (begun_if_good sc frame ports) nodes))) ≡ take (begun_of sc ports (kind_of name) (index_of name) (epoch_of sc.sizes (kind_of name) st))
-of-one sc frame ports nodes name st take there good others =
+of-one sc frame ports nodes name {st} take there good others =
     ap (flat_map take) (present-append (map_from 0 (begun_if_good sc frame ports biu) nodes.bius) (map_from 0 (begun_if_good sc frame ports rmu) nodes.rmus))
     ∙ flat_map-append take (present (map_from 0 (begun_if_good sc frame ports biu) nodes.bius)) (present (map_from 0 (begun_if_good sc frame ports rmu) nodes.rmus))
     ∙ ap (λ l. l ++ flat_map take (present (map_from 0 (begun_if_good sc frame ports rmu) nodes.rmus))) (filtered take (λ v. v) (begun_if_good sc frame ports biu) 0 nodes.bius)
@@ -157,10 +157,10 @@ of-one sc frame ports nodes name st take there good others =
     by (Biu i) there good others =
         ap (λ l. gather 0 (gives biu) nodes.bius ++ l) (gather-none 0 (gives rmu) nodes.rmus (λ k z le. silent rmu k z (others rmu k z refl)))
         ∙ append-nil (gather 0 (gives biu) nodes.bius)
-        ∙ gather-one 0 i i (gives biu) nodes.bius st there (omega arith) (λ k z other. silent biu k z (others biu k z other)) ∙ tells biu i st good
+        ∙ gather-one 0 i (gives biu) nodes.bius there (omega arith) (λ k z other. silent biu k z (others biu k z other)) ∙ tells biu i st good
     by (Rmu i) there good others =
         ap (λ l. l ++ gather 0 (gives rmu) nodes.rmus) (gather-none 0 (gives biu) nodes.bius (λ k z le. silent biu k z (others biu k z refl)))
-        ∙ gather-one 0 i i (gives rmu) nodes.rmus st there (omega arith) (λ k z other. silent rmu k z (others rmu k z other)) ∙ tells rmu i st good
+        ∙ gather-one 0 i (gives rmu) nodes.rmus there (omega arith) (λ k z other. silent rmu k z (others rmu k z other)) ∙ tells rmu i st good
 
 -- a name is that of a node if and only if the node has its kind and number
 pub named : (name : NodeName) (side : Side) (k : ℕ) → same_node (name_of side k) name ≡ is_node (kind_of name) (index_of name) side k
@@ -178,16 +178,16 @@ pub record FrameLines (sc : Scenario) (name : NodeName) (frame newest : ℕ) (st
   pub lines : lines_after name newest records ≡ epoch_lines name (Some (epoch_of sc.sizes (kind_of name) st))
   pub newest_is : newest_after newest records ≡ frame
 
-pub frame-lines : (sc : Scenario) (frame newest : ℕ) (ports : List PortState) (nodes : Each NodeState) (name : NodeName) (st : NodeState)
+pub frame-lines : (sc : Scenario) {frame : ℕ} (newest : ℕ) (ports : List PortState) (nodes : Each NodeState) (name : NodeName) {st : _}
     → slice_get (of_kind (kind_of name) nodes) (index_of name) ≡ Some st → is_good sc (kind_of name) (index_of name) frame 0 ≡ true → st.frame ≡ frame
     → FrameLines sc name frame newest st (frame_records frame (present (in_order (map_each (begun_if_good sc frame ports) nodes))))
-frame-lines sc frame newest ports nodes name st there good in_frame =
+frame-lines sc {frame} newest ports nodes name {st} there good in_frame =
     by bs
-    (of-one sc frame ports nodes name st marks there good (λ side k z other. ap (λ b. if b then 0 ∷ [] else []) (named name side k ∙ other)) ∙ ap (λ b. if b then 0 ∷ [] else []) (named-itself name))
-    (of-one sc frame ports nodes name st (λ b. first_tick_of name frame b.line) there good
+    (of-one sc frame ports nodes name marks there good (λ side k z other. ap (λ b. if b then 0 ∷ [] else []) (named name side k ∙ other)) ∙ ap (λ b. if b then 0 ∷ [] else []) (named-itself name))
+    (of-one sc frame ports nodes name (λ b. first_tick_of name frame b.line) there good
     (λ side k z other. ap (λ b. if b then epoch_text frame name z.epoch None else []) (named name side k ∙ other))
     ∙ ap (λ b. if b then epoch_text frame name st.epoch None else []) (named-itself name))
-    (of-one sc frame ports nodes name st (λ b. convicted_by name frame b.line) there good
+    (of-one sc frame ports nodes name (λ b. convicted_by name frame b.line) there good
     (λ side k z other. ap (λ b. if b then convicted_text frame name (epoch_of sc.sizes side z).biu (epoch_of sc.sizes side z).rmu else []) (named name side k ∙ other))
     ∙ ap (λ b. if b then convicted_text frame name (epoch_of sc.sizes (kind_of name) st).biu (epoch_of sc.sizes (kind_of name) st).rmu else []) (named-itself name))
   where

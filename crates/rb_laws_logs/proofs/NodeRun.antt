@@ -1,6 +1,6 @@
 -- For the law of record and replay: step by step, the events that a node is given make of a core
 -- what the node's own is, and their lines are all that the node has told where it stands.
-use Rattle.std.proofs.{Common.{◌≡◌, ℕ, suc, ◌+◌, ◌-◌, ◌<◌, ◌≤◌, ◌&&◌, ◌⊎◌, Bool, true, false, List, [], ◌∷◌, ◌++◌, refl, ap, sym, ◌∙◌, subst, arith, Some, None, slice_get, option_and_then, option_map, if◌then◌else◌}, Math.ListN.replicate, lemmas.Bool.{lt-ltb, le-ltb}, lemmas.Grind.flat_map-append, lemmas.List.append-nil}
+use Rattle.std.proofs.{Common.{◌≡◌, ℕ, suc, ◌+◌, ◌-◌, ◌<◌, ◌≤◌, ◌&&◌, ◌⊎◌, Bool, true, false, List, [], ◌∷◌, ◌++◌, refl, ap, sym, ◌∙◌, subst, arith, Some, None, slice_get, option_and_then, option_map, if◌then◌else◌}, lemmas.Bool.{lt-ltb, le-ltb}, lemmas.Grind.flat_map-append, lemmas.List.append-nil}
 use Rattle.std.specs.Prelude.{flat_map}
 use Rattle.rb_base.specs.{Nodes.Side, declared.event.Event.Event, declared.node.NodeName.NodeName}
 use Rattle.rb_rules.specs.{Book.of_kind, Core.{Act, Core, CoreEvent, acts_of, arrive, epoch_at, first_core, pass_to, tick}, Goodness.Scenario, Lawful.kind_of, Links.{name_of, same_node}, NodeState.NodeState, Rounds.moment, WorldStep.{Due, Pending, Site, Timed, World, due_of, event_at, event_of, go_on, happens, pass_and_tick, settle, take, take_if_due, word_of, wants_in}, WorldStep.Pending.{Tick, Arrival}, WorldStep.Way.{ByAnEvent, ByItself}}
@@ -8,7 +8,6 @@ use Rattle.rb_log.specs.Writing.{given}
 use Rattle.rb_laws_events.proofs.{WorldNodes.settle-sites, WorldStands.is_node}
 use Rattle.rb_laws_logs.specs.{Given.{first_run, first_step, given_in, given_next, if_given, index_of, is_before_end, site_of, step_with}, Replays.{act_lines, epoch_lines, frames_in, frames_with}}
 use Rattle.rb_laws_logs.proofs.{CoreEvents.{Makes, makes-both, makes-passed, makes-tick}, NoBreach.last_moment, NodeLines.{named, told_up_to}, NodeSites.Unmoved, Positions.StandsAt}
-use Rattle.rb_rules.specs.Core as core
 
 -- What a node is given.
 
@@ -16,10 +15,10 @@ event-name : (sc : Scenario) (w : World) (me : Side) (i : ℕ) (c : Core) (p : P
 event-name sc w me i c (Tick k) = refl
 event-name sc w me i c (Arrival place a) = refl
 
-given-at : (sc : Scenario) (name : NodeName) (w : World) (d : Due) (s : Site) → slice_get (due_of sc w) 0 ≡ Some d → slice_get (of_kind d.side w.sites) d.node ≡ Some s
+given-at : (sc : Scenario) (name : NodeName) (w : World) {d s : _} → slice_get (due_of sc w) 0 ≡ Some d → slice_get (of_kind d.side w.sites) d.node ≡ Some s
     → given_next sc name w ≡ if_given sc name w (Some (event_of sc w.ports d.side d.node s.core d.pending))
 unfolding given_next event_at
-given-at sc name w d s first there =
+given-at sc name w {d} {s} first there =
     ap (λ o. if_given sc name w (option_and_then (λ (d : Due). option_map (λ (s : Site). event_of sc w.ports d.side d.node s.core d.pending) (slice_get (of_kind d.side w.sites) d.node)) o)) first
     ∙ ap (λ o. if_given sc name w (option_map (λ (s : Site). event_of sc w.ports d.side d.node s.core d.pending) o)) there
 
@@ -29,19 +28,19 @@ given-none sc name w none =
     ap (λ o. if_given sc name w (option_and_then (λ (d : Due). option_map (λ (s : Site). event_of sc w.ports d.side d.node s.core d.pending) (slice_get (of_kind d.side w.sites) d.node)) o)) none
 
 -- an event is given to the node if it is the node's own and the node goes on
-pub given-by : (sc : Scenario) (name : NodeName) (w : World) (d : Due) (s : Site) (own before : Bool) → slice_get (due_of sc w) 0 ≡ Some d → slice_get (of_kind d.side w.sites) d.node ≡ Some s
+pub given-by : (sc : Scenario) (name : NodeName) (w : World) {d s own before : _} → slice_get (due_of sc w) 0 ≡ Some d → slice_get (of_kind d.side w.sites) d.node ≡ Some s
     → is_node (kind_of name) (index_of name) d.side d.node ≡ own → is_before_end sc (site_of name w) ≡ before
     → given_next sc name w ≡ (if own && before then event_of sc w.ports d.side d.node s.core d.pending ∷ [] else [])
-given-by sc name w d s own before first there is on =
+given-by sc name w {d} {s} {own} first there is on =
     let e : Event = event_of sc w.ports d.side d.node s.core d.pending in
     let same : same_node e.node name ≡ own = ap (λ n. same_node n name) (event-name sc w d.side d.node s.core d.pending) ∙ named name d.side d.node ∙ is in
-    given-at sc name w d s first there ∙ ap (λ b. if b && is_before_end sc (site_of name w) then e ∷ [] else []) same ∙ ap (λ b. if own && b then e ∷ [] else []) on
+    given-at sc name w first there ∙ ap (λ b. if b && is_before_end sc (site_of name w) then e ∷ [] else []) same ∙ ap (λ b. if own && b then e ∷ [] else []) on
 
 -- Steps.
 
-take-sites : (sc : Scenario) (w : World) (d : Due) → slice_get (due_of sc w) 0 ≡ Some d → (take sc w 0).sites ≡ (happens sc w d).sites
+take-sites : (sc : Scenario) (w : World) {d : _} → slice_get (due_of sc w) 0 ≡ Some d → (take sc w 0).sites ≡ (happens sc w d).sites
 unfolding take
-take-sites sc w d first = ap (λ o. (take_if_due sc w o).sites) first ∙ settle-sites sc ByAnEvent 2 (happens sc w d)
+take-sites sc w {d} first = ap (λ o. (take_if_due sc w o).sites) first ∙ settle-sites sc ByAnEvent 2 (happens sc w d)
 
 pub go-on-sites : (sc : Scenario) (w : World) → (go_on sc w).sites ≡ w.sites
 unfolding go_on
@@ -66,7 +65,7 @@ step-sites sc n = by (due_of sc (first_run sc n)) refl
         (ap (λ ds. (step_with sc (first_run sc n) ds).sites) e ∙ go-on-sites sc (first_run sc n))
     by (d ∷ ds) e =
         let first : slice_get (due_of sc (first_run sc n)) 0 ≡ Some d = ap (λ ds. slice_get ds 0) e in
-        Taken d first (ap (λ ds. (step_with sc (first_run sc n) ds).sites) e ∙ take-sites sc (first_run sc n) d first)
+        Taken d first (ap (λ ds. (step_with sc (first_run sc n) ds).sites) e ∙ take-sites sc (first_run sc n) first)
 
 -- One node.
 
@@ -100,18 +99,18 @@ pub record NodeAt (sc : Scenario) (name : NodeName) (n : ℕ) : Type 0 where
   pub there : site_of name (first_run sc n) ≡ Some s
   pub how : Underway sc name n s ⊎ IsDone sc name n s
 
-pub before-end : (sc : Scenario) (name : NodeName) (w : World) (s : Site) → site_of name w ≡ Some s → s.core.state.frame < sc.frames → is_before_end sc (site_of name w) ≡ true
-before-end sc name w s there h = ap (is_before_end sc) there ∙ lt-ltb s.core.state.frame sc.frames h
+pub before-end : (sc : Scenario) (name : NodeName) (w : World) {s : _} → site_of name w ≡ Some s → s.core.state.frame < sc.frames → is_before_end sc (site_of name w) ≡ true
+before-end sc name w {s} there h = ap (is_before_end sc) there ∙ lt-ltb s.core.state.frame sc.frames h
 
-pub after-end : (sc : Scenario) (name : NodeName) (w : World) (s : Site) → site_of name w ≡ Some s → sc.frames ≤ s.core.state.frame → is_before_end sc (site_of name w) ≡ false
-after-end sc name w s there h = ap (is_before_end sc) there ∙ le-ltb s.core.state.frame sc.frames h
+pub after-end : (sc : Scenario) (name : NodeName) (w : World) {s : _} → site_of name w ≡ Some s → sc.frames ≤ s.core.state.frame → is_before_end sc (site_of name w) ≡ false
+after-end sc name w {s} there h = ap (is_before_end sc) there ∙ le-ltb s.core.state.frame sc.frames h
 
 -- if nothing is given, the log stays the same
 same-given : (sc : Scenario) (name : NodeName) (n : ℕ) → given_next sc name (first_run sc n) ≡ [] → given_in sc name (suc n) ≡ given_in sc name n
 same-given sc name n none = ap (λ l. given_in sc name n ++ l) none ∙ append-nil (given_in sc name n)
 
-pub underway-same : (sc : Scenario) (name : NodeName) (n : ℕ) (s z : Site) → given_next sc name (first_run sc n) ≡ [] → Unmoved s z → Underway sc name n s → Underway sc name (suc n) z
-underway-same sc name n s z none same u = record {
+pub underway-same : {sc name n s z : _} → given_next sc name (first_run sc n) ≡ [] → Unmoved s z → Underway sc name n s → Underway sc name (suc n) z
+underway-same {sc} {name} {n} {s} none same u = record {
   p = u.p;
   st = u.st;
   a = u.a;
@@ -127,8 +126,8 @@ underway-same sc name n s z none same u = record {
   before = subst (λ (c : Core). c.state.frame < sc.frames) (sym same.core) u.before;
 }
 
-pub done-same : (sc : Scenario) (name : NodeName) (n : ℕ) (s z : Site) → given_next sc name (first_run sc n) ≡ [] → s.core.state.frame ≤ z.core.state.frame → IsDone sc name n s → IsDone sc name (suc n) z
-done-same sc name n s z none le d =
+pub done-same : {sc : Scenario} {name : NodeName} {n : ℕ} {s : Site} (z : Site) → given_next sc name (first_run sc n) ≡ [] → s.core.state.frame ≤ z.core.state.frame → IsDone sc name n s → IsDone sc name (suc n) z
+done-same {sc} {name} {n} {s} z none le d =
     let same : given_in sc name (suc n) ≡ given_in sc name n = same-given sc name n none in
     let Acts : List Event → List Act = λ events. acts_of sc.sizes sc.plan (kind_of name) (index_of name) (first_core sc.sizes (kind_of name)) (flat_map given events) in
     let after : sc.frames ≤ s.core.state.frame = d.after in
@@ -143,13 +142,13 @@ one-given : (sc : Scenario) (name : NodeName) (n : ℕ) (e : Event) → given_ne
 one-given sc name n e is =
     ap (λ l. flat_map given (given_in sc name n ++ l)) is ∙ flat_map-append given (given_in sc name n) (e ∷ []) ∙ ap (λ l. given_so_far sc name n ++ l) (append-nil (given e))
 
-pub more-made : (sc : Scenario) (name : NodeName) (n : ℕ) (e : Event) (between after : Core) (lines more : List ℕ) (frames others : ℕ) → given_next sc name (first_run sc n) ≡ e ∷ []
+pub more-made : (sc : Scenario) {name : _} (n : ℕ) (e : Event) {between after lines more frames others : _} → given_next sc name (first_run sc n) ≡ e ∷ []
     → Makes sc.sizes sc.plan name (kind_of name) (index_of name) (first_core sc.sizes (kind_of name)) (given_so_far sc name n) between lines frames
     → Makes sc.sizes sc.plan name (kind_of name) (index_of name) between (given e) after more others
     → Makes sc.sizes sc.plan name (kind_of name) (index_of name) (first_core sc.sizes (kind_of name)) (given_so_far sc name (suc n)) after (lines ++ more) (frames + others)
-more-made sc name n e between after lines more frames others is a b =
+more-made sc {name} n e {after} {lines} {more} {frames} {others} is a b =
     subst (λ events. Makes sc.sizes sc.plan name (kind_of name) (index_of name) (first_core sc.sizes (kind_of name)) events after (lines ++ more) (frames + others)) (sym (one-given sc name n e is))
-    (makes-both sc.sizes sc.plan name (kind_of name) (index_of name) (first_core sc.sizes (kind_of name)) between after (given_so_far sc name n) (given e) lines more frames others a b)
+    (makes-both a b)
 
 -- A tick of its own.
 
@@ -157,18 +156,18 @@ none-more : (n : ℕ) → 0 + n ≡ n
 none-more n = omega arith
 
 -- the event of a tick makes of the core what the world makes of it
-pub tick-made : (sc : Scenario) (name : NodeName) (w : World) (s : Site) (p : ℕ) (st : NodeState) (a : Timed) → StandsAt sc (kind_of name) (index_of name) p s.core st a
+pub tick-made : {sc : _} (name : NodeName) (w : World) (s : Site) {p st a : _} → StandsAt sc (kind_of name) (index_of name) p s.core st a
     → Makes sc.sizes sc.plan name (kind_of name) (index_of name) s.core (given (event_of sc w.ports (kind_of name) (index_of name) s.core (Tick a.tick)))
     (pass_and_tick sc w.ports (kind_of name) (index_of name) a.tick s.core).core (act_lines name (pass_and_tick sc w.ports (kind_of name) (index_of name) a.tick s.core))
     (frames_with (pass_and_tick sc w.ports (kind_of name) (index_of name) a.tick s.core).epoch)
 unfolding pass_and_tick
-tick-made sc name w s p st a h =
+tick-made {sc} name w s {a} h =
     let me : Side = kind_of name in
     let i : ℕ = index_of name in
     let c : Core = s.core in
     let x : Act = pass_and_tick sc w.ports me i a.tick c in
     let ready : Core = pass_to a.tick c in
     let later : c.had ≤ a.tick = h.next.later in
-    let made = makes-both sc.sizes sc.plan name me i c ready x.core (replicate (a.tick - c.had) (core.Tick 0)) (core.Tick (word_of sc w.ports i (wants_in sc me i ready)) ∷ []) [] (act_lines name x) 0 (frames_with x.epoch)
-    (makes-passed sc.sizes sc.plan name me i a.tick a.tick c h.next (omega (arith, later))) (makes-tick sc.sizes sc.plan name me i (word_of sc w.ports i (wants_in sc me i ready)) ready x refl) in
+    let made = makes-both
+    (makes-passed name a.tick c h.next (omega (arith, later))) (makes-tick sc.sizes sc.plan name me i (word_of sc w.ports i (wants_in sc me i ready)) ready refl) in
     subst (λ k. Makes sc.sizes sc.plan name me i c (given (event_of sc w.ports me i c (Tick a.tick))) x.core (act_lines name x) k) (none-more (frames_with x.epoch)) made

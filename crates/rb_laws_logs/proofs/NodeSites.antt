@@ -42,10 +42,10 @@ not-it me side i n h = by (is_node side n me i) refl
         let is = node-is side me n i e in
         absurd (true-false (sym (node-itself me i) ∙ ap (λ y. is_node me i y i) is.0 ∙ ap (λ j. is_node me i side j) is.1 ∙ h))
 
-pub elsewhere : (sc : Scenario) (w : World) (d : Due) (me : Side) (i : ℕ) (s : Site) → slice_get (of_kind me w.sites) i ≡ Some s → is_node me i d.side d.node ≡ false
+pub elsewhere : (sc : Scenario) (w : World) (d : Due) (me : Side) (i : ℕ) {s : _} → slice_get (of_kind me w.sites) i ≡ Some s → is_node me i d.side d.node ≡ false
     → Elsewhere sc w d me i s
 unfolding happens with_act
-elsewhere sc w d me i s there apart =
+elsewhere sc w d me i {s} there apart =
     let z = by (slice_get (of_kind d.side w.sites) d.node) in
     record { z = z.0; there = z.1.0; unmoved = z.1.1 }
   where
@@ -83,18 +83,18 @@ elsewhere sc w d me i s there apart =
 
 -- An event of its own.
 
-pub own-tick : (sc : Scenario) (w : World) (me : Side) (i k : ℕ) (x : Act) (s : Site) → slice_get (of_kind me w.sites) i ≡ Some s
+pub own-tick : (sc : Scenario) (w : World) (me : Side) (i k : ℕ) (x : Act) {s : _} → slice_get (of_kind me w.sites) i ≡ Some s
     → slice_get (of_kind me (with_act sc w me i k x).sites) i ≡ Some (after_act sc w.ports me i x s)
 unfolding with_act
-own-tick sc w me i k x s there =
+own-tick sc w me i k x {s} there =
     let change : Site → Site = after_act sc w.ports me i x in
     get-after sc me i x.core.state.frame k x.message change w.sites me i ∙ ap (option_map (after_tick sc me i x.core.state.frame k x.message change me i)) there
     ∙ ap (λ b. Some (reached sc me i x.core.state.frame k x.message me i (elim b as (λ _. Site) [ true ↦ change s | false ↦ s ]))) (node-itself me i)
     ∙ ap Some (reached-not sc me i x.core.state.frame k x.message me i (change s) (ap (λ y. y && (change s).runs) (kind-other me)))
 
-pub own-arrival : (w : World) (me : Side) (i : ℕ) (change : Site → Site) (s : Site) → slice_get (of_kind me w.sites) i ≡ Some s
+pub own-arrival : (w : World) (me : Side) (i : ℕ) (change : Site → Site) {s : _} → slice_get (of_kind me w.sites) i ≡ Some s
     → slice_get (of_kind me (at_node me i change w.sites)) i ≡ Some (change s)
-own-arrival w me i change s there =
+own-arrival w me i change {s} there =
     get-at me me i i change w.sites ∙ ap (option_map (λ s. elim (is_node me i me i) as (λ _. Site) [ true ↦ change s | false ↦ s ])) there
     ∙ ap (λ b. Some (elim b as (λ _. Site) [ true ↦ change s | false ↦ s ])) (node-itself me i)
 
@@ -186,30 +186,30 @@ arrived-rises sc me i place c s =
     let f : (after_arrival sc me i place c s).core.state.frame ≡ s.core.state.frame = ap (λ (z : NodeState). z.frame) e in
     omega (arith, f)
 
-own-rises : (sc : Scenario) (w : World) (me : Side) (i : ℕ) (p : Pending) (s : Site) → slice_get (of_kind me w.sites) i ≡ Some s
+own-rises : (sc : Scenario) (w : World) (me : Side) (i : ℕ) (p : Pending) {s : _} → slice_get (of_kind me w.sites) i ≡ Some s
     → (z : Site) × ((slice_get (of_kind me (with_pending sc w me i s p).sites) i ≡ Some z) × (s.core.state.frame ≤ z.core.state.frame))
 unfolding pass_and_tick
-own-rises sc w me i (Tick k) s there =
+own-rises sc w me i (Tick k) {s} there =
     let x : Act = pass_and_tick sc w.ports me i k s.core in
     let core : (after_act sc w.ports me i x s).core ≡ x.core = act-core sc w.ports me i x s in
     let up : s.core.state.frame ≤ x.core.state.frame = tick-rises sc.sizes sc.plan me i (pass_to k s.core) _ in
     let e : (after_act sc w.ports me i x s).core.state.frame ≡ x.core.state.frame = ap (λ (c : Core). c.state.frame) core in
-    (after_act sc w.ports me i x s, (own-tick sc w me i k x s there, omega (arith, up, e)))
-own-rises sc w me i (Arrival place c) s there = (after_arrival sc me i place c s, (own-arrival w me i (after_arrival sc me i place c) s there, arrived-rises sc me i place c s))
+    (after_act sc w.ports me i x s, (own-tick sc w me i k x there, omega (arith, up, e)))
+own-rises sc w me i (Arrival place c) {s} there = (after_arrival sc me i place c s, (own-arrival w me i (after_arrival sc me i place c) there, arrived-rises sc me i place c s))
 
-pub rises : (sc : Scenario) (w : World) (d : Due) (me : Side) (i : ℕ) (s : Site) → slice_get (of_kind me w.sites) i ≡ Some s → Rises sc w d me i s
+pub rises : (sc : Scenario) (w : World) (d : Due) (me : Side) (i : ℕ) {s : _} → slice_get (of_kind me w.sites) i ≡ Some s → Rises sc w d me i s
 unfolding happens
-rises sc w d me i s there = by (is_node me i d.side d.node) refl
+rises sc w d me i {s} there = by (is_node me i d.side d.node) refl
   where
     by : (b : Bool) → is_node me i d.side d.node ≡ b → Rises sc w d me i s
     by false e =
-        let else_where : Elsewhere sc w d me i s = elsewhere sc w d me i s there e in
+        let else_where : Elsewhere sc w d me i s = elsewhere sc w d me i there e in
         let same : else_where.z.core.state.frame ≡ s.core.state.frame = ap (λ (c : Core). c.state.frame) else_where.unmoved.core in
         record { z = else_where.z; there = else_where.there; frame = omega (arith, same) }
     by true e =
         let is = node-is me d.side i d.node e in
         let its : slice_get (of_kind d.side w.sites) d.node ≡ Some s = ap (λ y. slice_get (of_kind y w.sites) d.node) is.0 ∙ ap (slice_get (of_kind me w.sites)) is.1 ∙ there in
-        let up = own-rises sc w d.side d.node d.pending s its in
+        let up = own-rises sc w d.side d.node d.pending its in
         let now : slice_get (of_kind d.side (happens sc w d).sites) d.node ≡ Some up.0 =
         ap (λ o. slice_get (of_kind d.side (elim o as (λ _. World) [ None ↦ w | Some s ↦ with_pending sc w d.side d.node s d.pending ]).sites) d.node) its ∙ up.1.0 in
         record {

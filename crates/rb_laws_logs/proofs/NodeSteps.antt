@@ -1,6 +1,6 @@
 -- For the law of record and replay: one step of the run keeps what is known of a node that is good
 -- throughout.
-use Rattle.std.proofs.{Common.{◌≡◌, ℕ, suc, ◌+◌, ◌-◌, ◌<◌, ◌≤◌, ◌&&◌, ◌⊎◌, Bool, true, false, List, [], ◌∷◌, ◌++◌, append_assoc, refl, ap, sym, ◌∙◌, subst, arith, inl, inr, Option, Some, None, slice_get, option_and_then, if◌then◌else◌}, Math.ListN.replicate, lemmas.Bool.cases_lt, lemmas.List.append-nil, lemmas.Option.same_Some}
+use Rattle.std.proofs.{Common.{◌≡◌, ℕ, suc, ◌+◌, ◌-◌, ◌<◌, ◌≤◌, ◌&&◌, ◌⊎◌, Bool, true, false, List, [], ◌∷◌, ◌++◌, append_assoc, refl, ap, sym, ◌∙◌, subst, arith, inl, inr, Option, Some, None, slice_get, option_and_then, if◌then◌else◌}, lemmas.Bool.cases_lt, lemmas.List.append-nil, lemmas.Option.same_Some}
 use Rattle.rb_base.specs.{Nodes.Side, declared.event.Event.Event, declared.node.NodeName.NodeName}
 use Rattle.rb_rules.specs.{declared.closing.Closed.Closed, declared.record.Epoch.Epoch, Book.of_kind, Clock.stamp_of, Core.{Act, Core, arrive, epoch_at, first_core, pass_to}, Goodness.{Scenario, clock_of}, Hearing.Coming, Lawful.{IsLawful, kind_of}, NodeState.NodeState, Ports.HandIn, Rounds.moment, WorldStep.{Due, Pending, Site, Timed, World, after_act, after_arrival, due_of, event_of, happens, pass_and_tick, times_of, with_act}, WorldStep.Pending.{Tick, Arrival}}
 use Rattle.rb_rules.proofs.{QuietTicks.arrive-same, RoundStates.HasTicks}
@@ -19,16 +19,16 @@ pub record Here (sc : Scenario) (name : NodeName) (w : World) (h : StandsInRound
   pub sent : Side → ℕ → ℕ → Bool
   pub stands : NodeStands sc [] sent h.now (kind_of name) (index_of name) p s st a
 
-pub here : (sc : Scenario) (name : NodeName) (w : World) (h : StandsInRounds sc w) (s : Site) (p : ℕ) (st : NodeState) (a : Timed) → HasTicks sc.plan → w.hands ≡ [] → site_of name w ≡ Some s
+pub here : {sc : _} (name : NodeName) {w : _} (h : StandsInRounds sc w) {s p st a : _} → HasTicks sc.plan → w.hands ≡ [] → site_of name w ≡ Some s
     → StandsAt sc (kind_of name) (index_of name) p s.core st a → s.ahead ≡ Some a → Here sc name w h s p st a
-here sc name w h s p st a ticks empty there at ahead =
+here {sc} name {w} h {s} {p} {st} {a} ticks empty there at ahead =
     let me : Side = kind_of name in
     let i : ℕ = index_of name in
     let up : IsUp sc [] (sent_by sc [] h.at w.sites) h.now me i (h.at me i) s =
-    subst (λ hs. IsUp sc hs (sent_by sc hs h.at w.sites) h.now me i (h.at me i) s) empty (up-there sc h.now h.at w me i s a h.stands.sites there ahead) in
+    subst (λ hs. IsUp sc hs (sent_by sc hs h.at w.sites) h.now me i (h.at me i) s) empty (up-there w me i h.stands.sites there ahead) in
     let sent : Side → ℕ → ℕ → Bool = sent_by sc [] h.at w.sites in
     let a_is : up.a ≡ a = same_Some up.a a (sym up.stands.receives.pends ∙ ahead) in
-    let p_is : h.at me i ≡ p = one-place sc me i (h.at me i) p s.core s.core up.st st up.a a ticks (stands-at sc sent h.now me i (h.at me i) s up.st up.a ticks up.stands) at refl a_is in
+    let p_is : h.at me i ≡ p = one-place ticks (stands-at ticks up.stands) at refl a_is in
     let moved : NodeStands sc [] sent h.now me i p s up.st a = subst (λ q. NodeStands sc [] sent h.now me i q s up.st a) p_is (subst (NodeStands sc [] sent h.now me i (h.at me i) s up.st) a_is up.stands) in
     let st_is : up.st ≡ st = same_Some up.st st (sym moved.state ∙ at.state) in
     record { is = p_is; sent = sent; stands = subst (λ z. NodeStands sc [] sent h.now me i p s z a) st_is moved }
@@ -56,9 +56,9 @@ record ToldBy (sc : Scenario) (name : NodeName) (lines : List ℕ) (frames q : �
   told : (lines ++ act_lines name x) ++ epoch_lines name begins ≡ told_up_to sc name q
   count : frames + frames_with x.epoch + frames_with begins ≡ (moment sc [] q).frame
 
-after-told : (sc : Scenario) (name : NodeName) (n : ℕ) (s z : Site) (x : Act) (u : Underway sc name n s) (after : AfterTick sc name u.p u.st u.a x z)
+after-told : {sc name n s z x : _} (u : Underway sc name n s) (after : AfterTick sc name u.p u.st u.a x z)
     → ToldBy sc name u.lines u.frames after.q (epoch_at sc.sizes (kind_of name) after.then_st after.b.tick) x
-after-told sc name n s z x u after =
+after-told {sc} {name} {x} u after =
     let begun : List ℕ = epoch_lines name (epoch_at sc.sizes (kind_of name) u.st u.a.tick) in
     let more : List ℕ = delivery_lines name (option_and_then (λ (c : Closed). c.delivered) x.closed) in
     let later : List ℕ = epoch_lines name (epoch_at sc.sizes (kind_of name) after.then_st after.b.tick) in
@@ -71,11 +71,11 @@ after-told sc name n s z x u after =
     }
 
 -- a node in a frame of the scenario is still under way after the tick
-still-underway : (sc : Scenario) (name : NodeName) (n : ℕ) (s z : Site) (x : Act) (e : Event) (u : Underway sc name n s) → AfterTick sc name u.p u.st u.a x z → z.core ≡ x.core
+still-underway : {sc name n s z x : _} (e : Event) (u : Underway sc name n s) → AfterTick sc name u.p u.st u.a x z → z.core ≡ x.core
     → given_next sc name (first_run sc n) ≡ e ∷ [] → Makes sc.sizes sc.plan name (kind_of name) (index_of name) s.core (given e) x.core (act_lines name x) (frames_with x.epoch)
     → (moment sc [] u.p).frame < sc.frames → Underway sc name (suc n) z
-still-underway sc name n s z x e u after core_is is makes inside =
-    let by : ToldBy sc name u.lines u.frames after.q (epoch_at sc.sizes (kind_of name) after.then_st after.b.tick) x = after-told sc name n s z x u after in
+still-underway {sc} {name} {n} {s} {z} {x} e u after core_is is makes inside =
+    let by : ToldBy sc name u.lines u.frames after.q (epoch_at sc.sizes (kind_of name) after.then_st after.b.tick) x = after-told u after in
     let frame : z.core.state.frame ≡ (moment sc [] u.p).frame = after.frame in
     record {
       p = after.q;
@@ -85,23 +85,23 @@ still-underway sc name n s z x e u after core_is is makes inside =
       ahead = after.ahead;
       lines = u.lines ++ act_lines name x;
       frames = u.frames + frames_with x.epoch;
-      makes = more-made sc name n e s.core z.core u.lines (act_lines name x) u.frames (frames_with x.epoch) is u.makes
+      makes = more-made sc n e is u.makes
           (subst (λ c. Makes sc.sizes sc.plan name (kind_of name) (index_of name) s.core (given e) c (act_lines name x) (frames_with x.epoch)) (sym core_is) makes);
       told = by.told;
       count = by.count;
       before = omega (arith, frame, inside);
     }
 
-now-done : (sc : Scenario) (name : NodeName) (n : ℕ) (s z : Site) (x : Act) (e : Event) (u : Underway sc name n s) → HasTicks sc.plan → (after : AfterTick sc name u.p u.st u.a x z) → after.q ≡ u.p
+now-done : {sc name n s z x : _} (e : Event) (u : Underway sc name n s) → HasTicks sc.plan → (after : AfterTick sc name u.p u.st u.a x z) → after.q ≡ u.p
     → epoch_at sc.sizes (kind_of name) after.then_st after.b.tick ≡ None → given_next sc name (first_run sc n) ≡ e ∷ []
     → Makes sc.sizes sc.plan name (kind_of name) (index_of name) s.core (given e) x.core (act_lines name x) (frames_with x.epoch)
     → sc.frames ≤ (moment sc [] u.p).frame → IsDone sc name (suc n) z
-now-done sc name n s z x e u ticks after stays none is makes over =
-    let by : ToldBy sc name u.lines u.frames after.q (epoch_at sc.sizes (kind_of name) after.then_st after.b.tick) x = after-told sc name n s z x u after in
-    let turns : Turns sc u.p sc.frames u.st u.a = turns-now sc (kind_of name) (index_of name) u.p sc.frames s.core u.st u.a ticks u.stands u.before over in
+now-done {sc} {name} {n} {z} {x} e u ticks after stays none is makes over =
+    let by : ToldBy sc name u.lines u.frames after.q (epoch_at sc.sizes (kind_of name) after.then_st after.b.tick) x = after-told u after in
+    let turns : Turns sc u.p sc.frames u.st u.a = turns-now sc.frames ticks u.stands u.before over in
     let last : IsLastBegin sc (last_moment sc) = last-begin sc in
     let place : u.p ≡ last_moment sc = one-number sc [] u.p (last_moment sc) (turns.in_frame ∙ sym last.frame) (turns.window ∙ sym last.window) in
-    let made = more-made sc name n e s.core x.core u.lines (act_lines name x) u.frames (frames_with x.epoch) is u.makes makes in
+    let made = more-made sc n e is u.makes makes in
     let lines : List ℕ = u.lines ++ act_lines name x in
     let count : u.frames + frames_with x.epoch ≡ sc.frames =
     plus-none (u.frames + frames_with x.epoch) ∙ sym (ap (λ o. u.frames + frames_with x.epoch + frames_with o) none) ∙ by.count ∙ ap (λ q. (moment sc [] q).frame) stays ∙ turns.in_frame in
@@ -115,11 +115,11 @@ now-done sc name n s z x e u ticks after stays none is makes over =
     plus-none : (n : ℕ) → n ≡ n + 0
     plus-none n = omega arith
 
-own-tick-step : (sc : Scenario) (name : NodeName) (n k : ℕ) (s : Site) → IsLawful sc → EndsWithoutBreach sc → IsGoodThroughout sc name → site_of name (first_run sc n) ≡ Some s → Underway sc name n s
+own-tick-step : {sc name n : _} (k : ℕ) {s : _} → IsLawful sc → EndsWithoutBreach sc → IsGoodThroughout sc name → site_of name (first_run sc n) ≡ Some s → Underway sc name n s
     → slice_get (due_of sc (first_run sc n)) 0 ≡ Some (record { side = kind_of name; node = index_of name; pending = Tick k })
     → (first_run sc (suc n)).sites ≡ (happens sc (first_run sc n) (record { side = kind_of name; node = index_of name; pending = Tick k })).sites
     → NodeAt sc name (suc n)
-own-tick-step sc name n k s lawful none good there u first sites = record { s = z; there = z_there; how = by at_place }
+own-tick-step {sc} {name} {n} k {s} lawful none good there u first sites = record { s = z; there = z_there; how = by at_place }
   where
     me : Side
     me = kind_of name
@@ -134,19 +134,19 @@ own-tick-step sc name n k s lawful none good there u first sites = record { s = 
     d = record { side = me; node = i; pending = Tick k }
 
     h : StandsInRounds sc w
-    h = (worlds-in-run sc lawful none n).stands
+    h = (worlds-in-run lawful none n).stands
 
     empty : w.hands ≡ []
     empty = no-hands sc n
 
     room : HasRoom sc.plan
-    room = has-room sc lawful
+    room = has-room lawful
 
     due : IsDue w d
-    due = first-due sc n d first
+    due = first-due sc n first
 
     may : MayTake sc w h d
-    may = may-take sc w h d lawful none empty first due
+    may = may-take h lawful none empty first due
 
     ready : IsReady due.t s (Tick k)
     ready = subst (λ s. IsReady due.t s (Tick k)) (same_Some due.s s (sym due.there ∙ there)) due.ready
@@ -167,29 +167,29 @@ own-tick-step sc name n k s lawful none good there u first sites = record { s = 
     z = after_act sc w.ports me i x s
 
     happened : Happened sc w.hands h.at w.sites w.ports me i s u.a x
-    happened = tick-done sc w h may.n me i k due.t s u.a lawful may.may may.early there u.ahead tick time ready.1.1.1.1 (all-pend w due.t due.first)
+    happened = tick-done h lawful may.may may.early there u.ahead tick time ready.1.1.1.1 (all-pend w due.t due.first)
 
     place : Here sc name w h s u.p u.st u.a
-    place = here sc name w h s u.p u.st u.a room.ticks empty there u.stands u.ahead
+    place = here name h room.ticks empty there u.stands u.ahead
 
     at_place : Ticked sc [] w me i u.p s u.a x
     at_place = subst (λ q. Ticked sc [] w me i q s u.a x) place.is (subst (λ hs. Ticked sc hs w me i (h.at me i) s u.a x) empty (ticked sc w h.at me i s u.a x happened))
 
     z_there : site_of name (first_run sc (suc n)) ≡ Some z
     z_there =
-        ap (λ sites. slice_get (of_kind me sites) i) (sites ∙ ap (λ (w : World). w.sites) (happens-is sc w d s there))
-        ∙ subst (λ k. slice_get (of_kind me (with_act sc w me i k (pass_and_tick sc w.ports me i k s.core)).sites) i ≡ Some z) tick (own-tick sc w me i u.a.tick x s there)
+        ap (λ sites. slice_get (of_kind me sites) i) (sites ∙ ap (λ (w : World). w.sites) (happens-is sc w d there))
+        ∙ subst (λ k. slice_get (of_kind me (with_act sc w me i k (pass_and_tick sc w.ports me i k s.core)).sites) i ≡ Some z) tick (own-tick sc w me i u.a.tick x there)
 
     e : Event
     e = event_of sc w.ports me i s.core (Tick u.a.tick)
 
     is : given_next sc name w ≡ e ∷ []
     is =
-        given-by sc name w d s true true first there (node-itself me i) (before-end sc name w s there u.before)
+        given-by sc name w first there (node-itself me i) (before-end sc name w there u.before)
         ∙ ap (λ k. event_of sc w.ports me i s.core (Tick k) ∷ []) (sym tick)
 
     makes : Makes sc.sizes sc.plan name me i s.core (given e) x.core (act_lines name x) (frames_with x.epoch)
-    makes = tick-made sc name w s u.p u.st u.a u.stands
+    makes = tick-made name w s u.stands
 
     st_is : (t : Ticked sc [] w me i u.p s u.a x) → t.st ≡ u.st
     st_is t = same_Some t.st u.st (sym t.there ∙ u.stands.state)
@@ -200,19 +200,19 @@ own-tick-step sc name n k s lawful none good there u first sites = record { s = 
         how : StaysOpen sc [] t.sent u.a.time w.ports me i u.p s t.st u.a.tick x ⊎ (ClosesWindow sc [] t.sent w.ports me i u.p s t.st u.a x × (u.a.tick ≡ last_tick sc (moment sc [] u.p) me t.st))
             → Underway sc name (suc n) z ⊎ IsDone sc name (suc n) z
         how (inl stays) =
-            let open_still = after-open sc name u.p t.sent w.ports s u.st u.a x room.ticks u.stands (subst (λ st. StaysOpen sc [] t.sent u.a.time w.ports me i u.p s st u.a.tick x) (st_is t) stays) in
+            let open_still = after-open name room.ticks u.stands (subst (λ st. StaysOpen sc [] t.sent u.a.time w.ports me i u.p s st u.a.tick x) (st_is t) stays) in
             elim (cases_lt (moment sc [] u.p).frame sc.frames) [
-              | inl inside ↦ inl (still-underway sc name n s z x e u open_still.0 (act-core sc w.ports me i x s) is makes inside)
-              | inr over ↦ inr (now-done sc name n s z x e u room.ticks open_still.0 open_still.1.0 open_still.1.1 is makes over)
+              | inl inside ↦ inl (still-underway e u open_still.0 (act-core sc w.ports me i x s) is makes inside)
+              | inr over ↦ inr (now-done e u room.ticks open_still.0 open_still.1.0 open_still.1.1 is makes over)
             ]
         how (inr closes) =
             let closing : ClosesWindow sc [] t.sent w.ports me i u.p s u.st u.a x = subst (λ st. ClosesWindow sc [] t.sent w.ports me i u.p s st u.a x) (st_is t) closes.0 in
             let last : u.a.tick ≡ last_tick sc (moment sc [] u.p) me u.st = closes.1 ∙ ap (last_tick sc (moment sc [] u.p) me) (st_is t) in
             elim (cases_lt (moment sc [] u.p).frame sc.frames) [
-              | inl inside ↦ inl (still-underway sc name n s z x e u (after-close sc name u.p t.sent w.ports s u.st u.a x room.ticks good inside u.stands closing) (act-core sc w.ports me i x s) is makes inside)
+              | inl inside ↦ inl (still-underway e u (after-close room.ticks good inside u.stands closing) (act-core sc w.ports me i x s) is makes inside)
               | inr over ↦
-                  let turns : Turns sc u.p sc.frames u.st u.a = turns-now sc me i u.p sc.frames s.core u.st u.a room.ticks u.stands u.before over in
-                  absurd (first-not-last sc me u.p u.st u.a lawful turns.window turns.first last)
+                  let turns : Turns sc u.p sc.frames u.st u.a = turns-now sc.frames room.ticks u.stands u.before over in
+                  absurd (first-not-last me u.p u.st u.a lawful turns.window turns.first last)
             ]
 
 -- What comes to it.
@@ -223,44 +223,44 @@ unfolding after_arrival
 arrival-core sc me i place c s = (refl, refl)
 
 -- after an arrival the node stands where it stood
-pub arrival-stands : (sc : Scenario) (name : NodeName) (n place : ℕ) (c : Coming) (s : Site) → IsLawful sc → EndsWithoutBreach sc → site_of name (first_run sc n) ≡ Some s → (u : Underway sc name n s)
+pub arrival-stands : {sc name n : _} (place : ℕ) (c : Coming) {s : _} → IsLawful sc → EndsWithoutBreach sc → site_of name (first_run sc n) ≡ Some s → (u : Underway sc name n s)
     → slice_get (due_of sc (first_run sc n)) 0 ≡ Some (record { side = kind_of name; node = index_of name; pending = Arrival place c })
     → StandsAt sc (kind_of name) (index_of name) u.p (after_arrival sc (kind_of name) (index_of name) place c s).core u.st u.a
-arrival-stands sc name n place c s lawful none there u first =
+arrival-stands {sc} {name} {n} place c {s} lawful none there u first =
     let me : Side = kind_of name in
     let i : ℕ = index_of name in
     let w : World = first_run sc n in
     let d : Due = record { side = me; node = i; pending = Arrival place c } in
-    let h : StandsInRounds sc w = (worlds-in-run sc lawful none n).stands in
-    let room : HasRoom sc.plan = has-room sc lawful in
-    let due : IsDue w d = first-due sc n d first in
+    let h : StandsInRounds sc w = (worlds-in-run lawful none n).stands in
+    let room : HasRoom sc.plan = has-room lawful in
+    let due : IsDue w d = first-due sc n first in
     let ready : IsReady due.t s (Arrival place c) = subst (λ s. IsReady due.t s (Arrival place c)) (same_Some due.s s (sym due.there ∙ there)) due.ready in
     let pend : AllPend c.time w.sites = subst (λ t. AllPend t w.sites) (sym ready.1) (all-pend w due.t due.first) in
     let own : Every (λ u. c.time ≤ u) (times_of s) = pend-of c.time w.sites pend me i s there in
-    let at : Here sc name w h s u.p u.st u.a = here sc name w h s u.p u.st u.a room.ticks (no-hands sc n) there u.stands u.ahead in
+    let at : Here sc name w h s u.p u.st u.a = here name h room.ticks (no-hands sc n) there u.stands u.ahead in
     let z : Site = after_arrival sc me i place c s in
     let stands : NodeStands sc [] at.sent c.time me i u.p z u.st u.a =
-    stands-arrival sc [] at.sent h.now me i u.p place c s u.st u.a
-    (moves-of sc lawful me i (good-clock sc lawful me i (moment sc [] u.p).frame (slot_numbered sc.sizes (moment sc [] u.p).window) u.stands.good))
-    (record { at = ready.0; least = all-after c.time s.ahead s.coming own; before_tick = tick-after c.time s.ahead u.a s.coming u.ahead own }) at.stands in
-    stands-at sc at.sent c.time me i u.p z u.st u.a room.ticks stands
+    stands-arrival
+    (moves-of lawful me i (good-clock lawful me i (moment sc [] u.p).frame (slot_numbered sc.sizes (moment sc [] u.p).window) u.stands.good))
+    (record { at = ready.0; least = all-after c.time s.ahead s.coming own; before_tick = tick-after c.time s.ahead s.coming u.ahead own }) at.stands in
+    stands-at room.ticks stands
 
 -- an arrival passes the quiet ticks before it
 pub arrival-had : (sc : Scenario) (me : Side) (i place : ℕ) (c : Coming) (s : Site) → (after_arrival sc me i place c s).core.had ≡ (pass_to (stamp_of (clock_of sc me i) c.time) s.core).had
 arrival-had sc me i place c s =
     ap (λ (c : Core). c.had) (arrival-core sc me i place c s).0 ∙ (arrive-same sc.sizes me (pass_to (stamp_of (clock_of sc me i) c.time) s.core) c.from c.bytes).1
 
-own-arrival-step : (sc : Scenario) (name : NodeName) (n place : ℕ) (c : Coming) (s : Site) → IsLawful sc → EndsWithoutBreach sc → site_of name (first_run sc n) ≡ Some s → Underway sc name n s
+own-arrival-step : {sc name n : _} (place : ℕ) (c : Coming) {s : _} → IsLawful sc → EndsWithoutBreach sc → site_of name (first_run sc n) ≡ Some s → Underway sc name n s
     → slice_get (due_of sc (first_run sc n)) 0 ≡ Some (record { side = kind_of name; node = index_of name; pending = Arrival place c })
     → (first_run sc (suc n)).sites ≡ (happens sc (first_run sc n) (record { side = kind_of name; node = index_of name; pending = Arrival place c })).sites
     → NodeAt sc name (suc n)
-own-arrival-step sc name n place c s lawful none there u first sites =
+own-arrival-step {sc} {name} {n} place c {s} lawful none there u first sites =
     let me : Side = kind_of name in
     let i : ℕ = index_of name in
     let w : World = first_run sc n in
     let d : Due = record { side = me; node = i; pending = Arrival place c } in
     let z : Site = after_arrival sc me i place c s in
-    let now : StandsAt sc me i u.p z.core u.st u.a = arrival-stands sc name n place c s lawful none there u first in
+    let now : StandsAt sc me i u.p z.core u.st u.a = arrival-stands place c lawful none there u first in
     let stamp : ℕ = stamp_of (clock_of sc me i) c.time in
     let passed : Core = pass_to stamp s.core in
     let parts = arrival-core sc me i place c s in
@@ -270,18 +270,18 @@ own-arrival-step sc name n place c s lawful none there u first sites =
     let state : z.core.state ≡ s.core.state = ap (λ (c : Core). c.state) core_is ∙ same.0 in
     let later : z.core.had ≤ u.a.tick = now.next.later in
     let e : Event = event_of sc w.ports me i s.core (Arrival place c) in
-    let is : given_next sc name w ≡ e ∷ [] = given-by sc name w d s true true first there (node-itself me i) (before-end sc name w s there u.before) in
+    let is : given_next sc name w ≡ e ∷ [] = given-by sc name w first there (node-itself me i) (before-end sc name w there u.before) in
     let made : Makes sc.sizes sc.plan name me i s.core (given e) (arrive sc.sizes me passed c.from c.bytes) ([] ++ []) (0 + 0) =
-    makes-both sc.sizes sc.plan name me i s.core passed (arrive sc.sizes me passed c.from c.bytes) (replicate (stamp - s.core.had) (core.Tick 0)) (core.Arrive c.from c.bytes ∷ []) [] [] 0 0
-    (makes-passed sc.sizes sc.plan name me i stamp u.a.tick s.core u.stands.next (omega (arith, had, later))) (makes-arrival sc.sizes sc.plan name me i c.from c.bytes passed) in
+    makes-both
+    (makes-passed name stamp s.core u.stands.next (omega (arith, had, later))) (makes-arrival sc.sizes sc.plan name me i c.from c.bytes passed) in
     let all : Makes sc.sizes sc.plan name me i (first_core sc.sizes me) (given_so_far sc name (suc n)) z.core (u.lines ++ []) (u.frames + 0) =
-    more-made sc name n e s.core z.core u.lines [] u.frames 0 is u.makes
+    more-made sc n e is u.makes
     (subst (λ c. Makes sc.sizes sc.plan name me i s.core (given e) c [] 0) (sym core_is) made) in
     let frame : z.core.state.frame ≡ s.core.state.frame = ap (λ (z : NodeState). z.frame) state in
     let before : s.core.state.frame < sc.frames = u.before in
     record {
       s = z;
-      there = ap (λ sites. slice_get (of_kind me sites) i) (sites ∙ ap (λ (w : World). w.sites) (happens-is sc w d s there)) ∙ own-arrival w me i (after_arrival sc me i place c) s there;
+      there = ap (λ sites. slice_get (of_kind me sites) i) (sites ∙ ap (λ (w : World). w.sites) (happens-is sc w d there)) ∙ own-arrival w me i (after_arrival sc me i place c) there;
       how = inl (record {
         p = u.p;
         st = u.st;
@@ -302,19 +302,19 @@ own-arrival-step sc name n place c s lawful none there u first sites =
 
 -- Any step.
 
-own-step : (sc : Scenario) (name : NodeName) (n : ℕ) (p : Pending) (s : Site) → IsLawful sc → EndsWithoutBreach sc → IsGoodThroughout sc name → site_of name (first_run sc n) ≡ Some s → Underway sc name n s
+own-step : {sc name n : _} (p : Pending) {s : _} → IsLawful sc → EndsWithoutBreach sc → IsGoodThroughout sc name → site_of name (first_run sc n) ≡ Some s → Underway sc name n s
     → slice_get (due_of sc (first_run sc n)) 0 ≡ Some (record { side = kind_of name; node = index_of name; pending = p })
     → (first_run sc (suc n)).sites ≡ (happens sc (first_run sc n) (record { side = kind_of name; node = index_of name; pending = p })).sites
     → NodeAt sc name (suc n)
-own-step sc name n (Tick k) s lawful none good there u first sites = own-tick-step sc name n k s lawful none good there u first sites
-own-step sc name n (Arrival place c) s lawful none good there u first sites = own-arrival-step sc name n place c s lawful none there u first sites
+own-step (Tick k) lawful none good there u first sites = own-tick-step k lawful none good there u first sites
+own-step (Arrival place c) lawful none good there u first sites = own-arrival-step place c lawful none there u first sites
 
 and-none : {X : Type 0} (a : Bool) (x y : X) → (if a && false then x else y) ≡ y
 and-none true x y = refl
 and-none false x y = refl
 
-pub node-step : (sc : Scenario) (name : NodeName) (n : ℕ) → IsLawful sc → EndsWithoutBreach sc → IsGoodThroughout sc name → NodeAt sc name n → NodeAt sc name (suc n)
-node-step sc name n lawful none good node = by (step-sites sc n)
+pub node-step : {sc name n : _} → IsLawful sc → EndsWithoutBreach sc → IsGoodThroughout sc name → NodeAt sc name n → NodeAt sc name (suc n)
+node-step {sc} {name} {n} lawful none good node = by (step-sites sc n)
   where
     me : Side
     me = kind_of name
@@ -336,23 +336,23 @@ node-step sc name n lawful none good node = by (step-sites sc n)
           s = s;
           there = ap (λ sites. slice_get (of_kind me sites) i) same ∙ node.there;
           how = elim node.how [
-            | inl u ↦ inl (underway-same sc name n s s silent (record { core = refl; ahead = refl }) u)
-            | inr d ↦ inr (done-same sc name n s s silent (omega arith) d)
+            | inl u ↦ inl (underway-same silent (record { core = refl; ahead = refl }) u)
+            | inr d ↦ inr (done-same s silent (omega arith) d)
           ];
         }
 
     -- an event is not given to a node that is done
     when-done : (d : Due) → slice_get (due_of sc w) 0 ≡ Some d → (first_run sc (suc n)).sites ≡ (happens sc w d).sites → IsDone sc name n s → NodeAt sc name (suc n)
     when-done d first is over =
-        let due : IsDue w d = first-due sc n d first in
+        let due : IsDue w d = first-due sc n first in
         let silent : given_next sc name w ≡ [] =
-        given-by sc name w d due.s (is_node me i d.side d.node) false first due.there refl (after-end sc name w s node.there over.after)
+        given-by sc name w first due.there refl (after-end sc name w node.there over.after)
         ∙ and-none (is_node me i d.side d.node) (event_of sc w.ports d.side d.node due.s.core d.pending ∷ []) [] in
-        let up : Rises sc w d me i s = rises sc w d me i s node.there in
+        let up : Rises sc w d me i s = rises sc w d me i node.there in
         record {
           s = up.z;
           there = ap (λ sites. slice_get (of_kind me sites) i) is ∙ up.there;
-          how = inr (done-same sc name n s up.z silent up.frame over);
+          how = inr (done-same up.z silent up.frame over);
         }
 
     underway : (d : Due) → slice_get (due_of sc w) 0 ≡ Some d → (first_run sc (suc n)).sites ≡ (happens sc w d).sites → Underway sc name n s → (b : Bool) → is_node me i d.side d.node ≡ b → NodeAt sc name (suc n)
@@ -360,15 +360,15 @@ node-step sc name n lawful none good node = by (step-sites sc n)
         let its = node-is me d.side i d.node own in
         let d_is : d ≡ record { side = me; node = i; pending = d.pending } =
         ap (λ y. let x : Due = record { side = y; node = d.node; pending = d.pending } in x) its.0 ∙ ap (λ j. let x : Due = record { side = me; node = j; pending = d.pending } in x) its.1 in
-        own-step sc name n d.pending s lawful none good node.there u (first ∙ ap Some d_is) (is ∙ ap (λ d. (happens sc w d).sites) d_is)
+        own-step d.pending lawful none good node.there u (first ∙ ap Some d_is) (is ∙ ap (λ d. (happens sc w d).sites) d_is)
     underway d first is u false own =
-        let due : IsDue w d = first-due sc n d first in
-        let silent : given_next sc name w ≡ [] = given-by sc name w d due.s false true first due.there own (before-end sc name w s node.there u.before) in
-        let apart : Elsewhere sc w d me i s = elsewhere sc w d me i s node.there own in
+        let due : IsDue w d = first-due sc n first in
+        let silent : given_next sc name w ≡ [] = given-by sc name w first due.there own (before-end sc name w node.there u.before) in
+        let apart : Elsewhere sc w d me i s = elsewhere sc w d me i node.there own in
         record {
           s = apart.z;
           there = ap (λ sites. slice_get (of_kind me sites) i) is ∙ apart.there;
-          how = inl (underway-same sc name n s apart.z silent apart.unmoved u);
+          how = inl (underway-same silent apart.unmoved u);
         }
 
     by : StepSites sc n → NodeAt sc name (suc n)

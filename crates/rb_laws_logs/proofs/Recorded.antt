@@ -104,8 +104,8 @@ pub data NextGiven (sc : Scenario) (name : NodeName) (n : ℕ) (s : Site) : Type
       (first : slice_get (due_of sc (first_run sc n)) 0 ≡ Some (record { side = kind_of name; node = index_of name; pending = p }))
       (is : given_next sc name (first_run sc n) ≡ event_of sc (first_run sc n).ports (kind_of name) (index_of name) s.core p ∷ []) → NextGiven sc name n s
 
-next-given : (sc : Scenario) (name : NodeName) (n : ℕ) (node : NodeAt sc name n) → NextGiven sc name n node.s
-next-given sc name n node = by (step-sites sc n)
+next-given : {sc name n : _} (node : NodeAt sc name n) → NextGiven sc name n node.s
+next-given {sc} {name} {n} node = by (step-sites sc n)
   where
     me : Side
     me = kind_of name
@@ -122,9 +122,9 @@ next-given sc name n node = by (step-sites sc n)
     own : (p : Pending) → slice_get (due_of sc w) 0 ≡ Some (record { side = me; node = i; pending = p }) → Underway sc name n s → NextGiven sc name n s
     own p first u =
         let d : Due = record { side = me; node = i; pending = p } in
-        let due : IsDue w d = first-due sc n d first in
+        let due : IsDue w d = first-due sc n first in
         let ready : IsReady due.t s p = subst (λ s. IsReady due.t s p) (same_Some due.s s (sym due.there ∙ node.there)) due.ready in
-        Given p due.t ready u first (given-by sc name w d s true true first node.there (node-itself me i) (before-end sc name w s node.there u.before))
+        Given p due.t ready u first (given-by sc name w first node.there (node-itself me i) (before-end sc name w node.there u.before))
 
     and-none : (a : Bool) (e : Event) → (if a && false then e ∷ [] else []) ≡ []
     and-none true e = refl
@@ -132,8 +132,8 @@ next-given sc name n node = by (step-sites sc n)
 
     at : (d : Due) → slice_get (due_of sc w) 0 ≡ Some d → Underway sc name n s → (b : Bool) → is_node me i d.side d.node ≡ b → NextGiven sc name n s
     at d first u false e =
-        let due : IsDue w d = first-due sc n d first in
-        Idle (given-by sc name w d due.s false true first due.there e (before-end sc name w s node.there u.before))
+        let due : IsDue w d = first-due sc n first in
+        Idle (given-by sc name w first due.there e (before-end sc name w node.there u.before))
     at d first u true e =
         let its = node-is me d.side i d.node e in
         let d_is : d ≡ record { side = me; node = i; pending = d.pending } =
@@ -142,8 +142,8 @@ next-given sc name n node = by (step-sites sc n)
 
     over : (d : Due) → slice_get (due_of sc w) 0 ≡ Some d → IsDone sc name n s → NextGiven sc name n s
     over d first done =
-        let due : IsDue w d = first-due sc n d first in
-        Idle (given-by sc name w d due.s (is_node me i d.side d.node) false first due.there refl (after-end sc name w s node.there done.after)
+        let due : IsDue w d = first-due sc n first in
+        Idle (given-by sc name w first due.there refl (after-end sc name w node.there done.after)
         ∙ and-none (is_node me i d.side d.node) (event_of sc w.ports d.side d.node due.s.core d.pending))
 
     by : StepSites sc n → NextGiven sc name n s
@@ -155,30 +155,30 @@ next-given sc name n node = by (step-sites sc n)
 
 -- What a node is given can happen.
 
-can-happen : (sc : Scenario) (ports : List PortState) (me : Side) (i t : ℕ) (s : Site) (p : Pending) → IsLawful sc → IsReady t s p → Every (λ (c : Coming). c.from < count_of (other me) sc.sizes) s.coming
+can-happen : {sc : _} (ports : List PortState) (me : Side) (i t : ℕ) (s : Site) (p : Pending) → IsLawful sc → IsReady t s p → Every (λ (c : Coming). c.from < count_of (other me) sc.sizes) s.coming
     → AreSized s.coming → MayHappen (count_of (other me) sc.sizes) (event_of sc ports me i s.core p).kind
-can-happen sc ports me i t s (Tick k) lawful ready known sized = by (wants_in sc me i (pass_to k s.core))
+can-happen {sc} ports me i t s (Tick k) lawful ready known sized = by (wants_in sc me i (pass_to k s.core))
   where
     by : (slot : Option ℕ) → MayHappen (count_of (other me) sc.sizes) (kind.Tick (word_of sc ports i slot) (is_some slot))
     by None = refl
-    by (Some slot) = word_fits sc ports i slot (role_of sc.sizes slot) lawful
-can-happen sc ports me i t s (Arrival place c) lawful ready known sized =
-    let from = every-stands (λ (c : Coming). c.from < count_of (other me) sc.sizes) place c s.coming ready.0 known in
-    let bytes = every-stands (λ (c : Coming). IsSized c.bytes) place c s.coming ready.0 sized in
+    by (Some slot) = word_fits ports i slot (role_of sc.sizes slot) lawful
+can-happen {sc} ports me i t s (Arrival place c) lawful ready known sized =
+    let from = every-stands (λ (c : Coming). c.from < count_of (other me) sc.sizes) place s.coming ready.0 known in
+    let bytes = every-stands (λ (c : Coming). IsSized c.bytes) place s.coming ready.0 sized in
     (from, bytes.0, bytes.1)
 
 -- with its next tick the core has had at most 2^31 ticks
-fits : (sc : Scenario) (name : NodeName) (n t : ℕ) (s : Site) (p : Pending) → IsLawful sc → EndsWithoutBreach sc → site_of name (first_run sc n) ≡ Some s → IsReady t s p → Underway sc name n s
+fits : {sc name n : _} (t : ℕ) {s : _} (p : Pending) → IsLawful sc → EndsWithoutBreach sc → site_of name (first_run sc n) ≡ Some s → IsReady t s p → Underway sc name n s
     → slice_get (due_of sc (first_run sc n)) 0 ≡ Some (record { side = kind_of name; node = index_of name; pending = p })
     → s.core.had + ticks_given (event_of sc (first_run sc n).ports (kind_of name) (index_of name) s.core p) ≤ 2 ^ 31
-fits sc name n t s (Tick k) lawful none there ready u first =
+fits t {s} (Tick k) lawful none there ready u first =
     let a_is : ready.0 ≡ u.a = same_Some ready.0 u.a (sym ready.1.0 ∙ u.ahead) in
     let at : u.a.tick ≡ k = ap (λ (a : Timed). a.tick) (sym a_is) ∙ ready.1.1.0 in
     let later : s.core.had ≤ u.a.tick = u.stands.next.later in
     let below : u.a.tick < 2 ^ 31 = u.stands.next.below in
     omega (arith, at, later, below)
-fits sc name n t s (Arrival place c) lawful none there ready u first =
-    let now : StandsAt sc (kind_of name) (index_of name) u.p (after_arrival sc (kind_of name) (index_of name) place c s).core u.st u.a = arrival-stands sc name n place c s lawful none there u first in
+fits {sc} {name} t {s} (Arrival place c) lawful none there ready u first =
+    let now : StandsAt sc (kind_of name) (index_of name) u.p (after_arrival sc (kind_of name) (index_of name) place c s).core u.st u.a = arrival-stands place c lawful none there u first in
     let had = arrival-had sc (kind_of name) (index_of name) place c s in
     let later = now.next.later in
     let below : u.a.tick < 2 ^ 31 = now.next.below in
@@ -195,8 +195,8 @@ ticks-append [] ys = omega arith
 ticks-append (x ∷ xs) ys = let rest : ticks_in (xs ++ ys) ≡ ticks_in xs + ticks_in ys = ticks-append xs ys in omega (arith, rest)
 
 -- a node that is underway has had all ticks that it was given
-underway-ticks : (sc : Scenario) (name : NodeName) (n : ℕ) (s : Site) → Underway sc name n s → ticks_in (given_in sc name n) ≡ s.core.had
-underway-ticks sc name n s u =
+underway-ticks : {sc name n s : _} → Underway sc name n s → ticks_in (given_in sc name n) ≡ s.core.had
+underway-ticks {sc} {name} {n} {s} u =
     let later : s.core.had ≤ u.a.tick = u.stands.next.later in
     let below : u.a.tick < 2 ^ 31 = u.stands.next.below in
     let core_is = u.makes.core in
@@ -205,12 +205,12 @@ underway-ticks sc name n s u =
     let same : count_ticks (given_so_far sc name n) ≡ ticks_in (given_in sc name n) = count-given (given_in sc name n) in
     omega (arith, had, counts, same)
 
-can-be-told : (sc : Scenario) → IsListed sc → (name : NodeName) → IsLawful sc → EndsWithoutBreach sc → IsGoodThroughout sc name → (n : ℕ) → CanBeTold sc name (given_in sc name n)
-can-be-told sc listed name lawful none good zero = record { happen = All-nil (λ (e : Event). MayHappen (count_of (other (kind_of name)) sc.sizes) e.kind); ticks = omega arith }
-can-be-told sc listed name lawful none good (suc n) = by (can-be-told sc listed name lawful none good n) (next-given sc name n node)
+can-be-told : {sc : _} → IsListed sc → {name : _} → IsLawful sc → EndsWithoutBreach sc → IsGoodThroughout sc name → (n : ℕ) → CanBeTold sc name (given_in sc name n)
+can-be-told {sc} listed {name} lawful none good zero = record { happen = All-nil (λ (e : Event). MayHappen (count_of (other (kind_of name)) sc.sizes) e.kind); ticks = omega arith }
+can-be-told {sc} listed {name} lawful none good (suc n) = by (can-be-told listed lawful none good n) (next-given node)
   where
     node : NodeAt sc name n
-    node = nodes-at sc name lawful none good n
+    node = nodes-at lawful none good n
 
     me : Side
     me = kind_of name
@@ -230,9 +230,9 @@ can-be-told sc listed name lawful none good (suc n) = by (can-be-told sc listed 
         let e : Event = event_of sc w.ports me i node.s.core p in
         let known : Every (λ (c : Coming). c.from < count_of (other me) sc.sizes) node.s.coming =
         (worlds-known sc (choices_in sc n)).known me i node.s (ap (λ (w : World). slice_get (of_kind me w.sites) i) (sym (run-is sc n)) ∙ node.there) in
-        let happens : MayHappen (count_of (other me) sc.sizes) e.kind = can-happen sc w.ports me i t node.s p lawful ready known (run-sized sc n listed me i node.s node.there) in
-        let had : ticks_in (given_in sc name n) ≡ node.s.core.had = underway-ticks sc name n node.s u in
-        let few : node.s.core.had + ticks_given e ≤ 2 ^ 31 = fits sc name n t node.s p lawful none node.there ready u first in
+        let happens : MayHappen (count_of (other me) sc.sizes) e.kind = can-happen w.ports me i t node.s p lawful ready known (run-sized n listed me i node.s node.there) in
+        let had : ticks_in (given_in sc name n) ≡ node.s.core.had = underway-ticks u in
+        let few : node.s.core.had + ticks_given e ≤ 2 ^ 31 = fits t p lawful none node.there ready u first in
         let sum : ticks_in (given_in sc name n ++ e ∷ []) ≡ ticks_in (given_in sc name n) + (ticks_given e + 0) = ticks-append (given_in sc name n) (e ∷ []) in
         subst (λ l. CanBeTold sc name (given_in sc name n ++ l)) (sym is) (record {
           happen = All-append May (given_in sc name n) (e ∷ []) before.happen (All-cons May e [] happens (All-nil May));
@@ -247,7 +247,7 @@ node-of sizes (node.Rmu i) h = h
 
 pub a-log-tells-the-report : ALogTellsTheReport
 a-log-tells-the-report sc lawful listed none name good events are t sizes plan =
-    let told : CanBeTold sc name events = subst (CanBeTold sc name) (sym are.all) (can-be-told sc listed name lawful none good are.steps) in
+    let told : CanBeTold sc name events = subst (CanBeTold sc name) (sym are.all) (can-be-told listed lawful none good are.steps) in
     let within : index_of name < count_of (kind_of name) sc.sizes = good_counts sc (kind_of name) (index_of name) sc.frames 0 good in
     let tellable : IsTellable (record { sizes = sc.sizes; plan = sc.plan }) name events = record {
       shape = lawful.sizes;

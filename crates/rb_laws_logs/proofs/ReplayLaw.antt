@@ -16,9 +16,9 @@ use Rattle.rb_laws_logs.proofs.{Gathered.if_there, NoBreach.{IsLastBegin, goes-o
 
 -- At first.
 
-first-core : (sc : Scenario) (me : Side) (i : ℕ) (s : Site) → i < count_of me sc.sizes → slice_get (of_kind me (first_world sc).sites) i ≡ Some s → s.core ≡ first_core sc.sizes me
+first-core : (sc : Scenario) (me : Side) (i : ℕ) {s : _} → i < count_of me sc.sizes → slice_get (of_kind me (first_world sc).sites) i ≡ Some s → s.core ≡ first_core sc.sizes me
 unfolding first_world
-first-core sc me i s within there =
+first-core sc me i {s} within there =
     let make : Side → ℕ → Site = λ me i. proceed sc me i (fresh_site sc.sizes me) in
     let same : make me i ≡ s = same_Some (make me i) s (sym (get-made sc.sizes make me i within) ∙ there) in
     ap (λ (z : Site). z.core) (sym same) ∙ proceed-core sc me i (fresh_site sc.sizes me)
@@ -27,33 +27,33 @@ moment-zero : (sc : Scenario) → (moment sc [] 0).frame ≡ 0
 unfolding begin_frame
 moment-zero sc = refl
 
-node-first : (sc : Scenario) (name : NodeName) → IsLawful sc → EndsWithoutBreach sc → IsGoodThroughout sc name → NodeAt sc name 0
-node-first sc name lawful none good =
+node-first : {sc name : _} → IsLawful sc → EndsWithoutBreach sc → IsGoodThroughout sc name → NodeAt sc name 0
+node-first {sc} {name} lawful none good =
     let me : Side = kind_of name in
     let i : ℕ = index_of name in
     let w : World = first_world sc in
-    let room : HasRoom sc.plan = has-room sc lawful in
+    let room : HasRoom sc.plan = has-room lawful in
     let empty : w.hands ≡ [] = no-hands sc 0 in
-    let world : WorldInRounds sc 0 at_begin w = first-in-rounds sc lawful room in
+    let world : WorldInRounds sc 0 at_begin w = first-in-rounds lawful room in
     let now_good : is_good_at sc (moment sc [] 0) me i ≡ true = good-moment sc name 0 good (goes-on sc none 0 (omega arith)) in
     let within : i < count_of me sc.sizes = good_counts sc me i (moment sc [] 0).frame (slot_numbered sc.sizes (moment sc [] 0).window) now_good in
     let many : length (of_kind me w.sites) ≡ count_of me sc.sizes = world.sites.counts me in
     let site = item-at (of_kind me w.sites) i (omega (arith, within, many)) in
     let s : Site = site.0 in
     let its_good : is_good_at sc (moment sc w.hands (at_begin me i)) me i ≡ true = subst (λ hs. is_good_at sc (moment sc hs (at_begin me i)) me i ≡ true) (sym empty) now_good in
-    let runs : s.runs ≡ true = runs-there sc w.hands 0 at_begin w.sites world.sites me i s site.1 its_good in
+    let runs : s.runs ≡ true = runs-there world.sites me i site.1 its_good in
     let up : IsUp sc [] (sent_by sc [] at_begin w.sites) 0 me i 0 s =
     subst (λ hs. IsUp sc hs (sent_by sc hs at_begin w.sites) 0 me i 0 s) empty (world.sites.up me i s site.1 runs) in
     let sent : Side → ℕ → ℕ → Bool = sent_by sc [] at_begin w.sites in
-    let core : s.core ≡ first_core sc.sizes me = first-core sc me i s within site.1 in
+    let core : s.core ≡ first_core sc.sizes me = first-core sc me i within site.1 in
     let had : s.core.had ≡ 0 = ap (λ (c : Core). c.had) core in
     let from : up.st.epoch + first_of sc.sizes sc.plan me up.st (moment sc [] 0).window ≤ s.core.had = up.stands.from in
-    let pends : PendsFirst sc [] me i 0 s = first-pends sc [] sent 0 me i 0 s up.st up.a up.stands (omega (arith, had, from)) in
-    let stands : StandsAt sc me i 0 s.core up.st up.a = stands-at sc sent 0 me i 0 s up.st up.a room.ticks up.stands in
+    let pends : PendsFirst sc [] me i 0 s = first-pends up.stands (omega (arith, had, from)) in
+    let stands : StandsAt sc me i 0 s.core up.st up.a = stands-at room.ticks up.stands in
     let a_is : pends.a ≡ up.a = same_Some pends.a up.a (sym pends.ahead ∙ up.stands.receives.pends) in
     let st_is : pends.st ≡ up.st = same_Some pends.st up.st (sym pends.state ∙ stands.state) in
     let first : up.st.epoch ≡ up.a.tick = sym (ap (λ (z : NodeState). z.epoch) st_is) ∙ sym pends.first ∙ ap (λ (a : Timed). a.tick) a_is in
-    let begins : epoch_at sc.sizes me up.st up.a.tick ≡ Some (epoch_of sc.sizes me up.st) = now-begins sc.sizes me up.st up.a.tick first in
+    let begins : epoch_at sc.sizes me up.st up.a.tick ≡ Some (epoch_of sc.sizes me up.st) = now-begins sc.sizes me up.st first in
     let zero_frame : up.st.frame ≡ 0 = stands.frame ∙ moment-zero sc in
     let frame : s.core.state.frame ≡ 0 = ap (λ (c : Core). c.state.frame) core in
     let some : 1 ≤ sc.frames = lawful.frames.0 in
@@ -76,9 +76,9 @@ node-first sc name lawful none good =
     }
 
 -- `NodeAt` holds in each world of the run
-pub nodes-at : (sc : Scenario) (name : NodeName) → IsLawful sc → EndsWithoutBreach sc → IsGoodThroughout sc name → (n : ℕ) → NodeAt sc name n
-nodes-at sc name lawful none good zero = node-first sc name lawful none good
-nodes-at sc name lawful none good (suc n) = node-step sc name n lawful none good (nodes-at sc name lawful none good n)
+pub nodes-at : {sc name : _} → IsLawful sc → EndsWithoutBreach sc → IsGoodThroughout sc name → (n : ℕ) → NodeAt sc name n
+nodes-at lawful none good zero = node-first lawful none good
+nodes-at lawful none good (suc n) = node-step lawful none good (nodes-at lawful none good n)
 
 -- At the end.
 
@@ -168,14 +168,14 @@ go-on-end sc w = by w.book.ended
     by true h = inl h
     by false h = settle-end sc ByItself 2 w h
 
-take-end : (sc : Scenario) (w : World) (d : Due) → slice_get (due_of sc w) 0 ≡ Some d → (take sc w 0).book.upcoming ≡ End → EndsNext sc (happens sc w d)
+take-end : (sc : Scenario) (w : World) {d : _} → slice_get (due_of sc w) 0 ≡ Some d → (take sc w 0).book.upcoming ≡ End → EndsNext sc (happens sc w d)
 unfolding take
-take-end sc w d first h = settle-end sc ByAnEvent 2 (happens sc w d) (ap (λ o. (take_if_due sc w o).book.upcoming) (sym first) ∙ h)
+take-end sc w {d} first h = settle-end sc ByAnEvent 2 (happens sc w d) (ap (λ o. (take_if_due sc w o).book.upcoming) (sym first) ∙ h)
 
 -- in a world where all good nodes have told of that start the node is in the frame
-told-in : (sc : Scenario) (name : NodeName) (n : ℕ) → IsLawful sc → EndsWithoutBreach sc → IsGoodThroughout sc name → (node : NodeAt sc name n)
+told-in : {sc name n : _} → IsLawful sc → EndsWithoutBreach sc → IsGoodThroughout sc name → (node : NodeAt sc name n)
     → is_complete sc (first_run sc n).sites (Begin sc.frames) ≡ true → sc.frames ≤ node.s.core.state.frame
-told-in sc name n lawful none good node complete = by node.how
+told-in {sc} {name} {n} lawful none good node complete = by node.how
   where
     me : Side
     me = kind_of name
@@ -190,13 +190,13 @@ told-in sc name n lawful none good node complete = by node.how
     s = node.s
 
     h : StandsInRounds sc w
-    h = (worlds-in-run sc lawful none n).stands
+    h = (worlds-in-run lawful none n).stands
 
     has : Side → ℕ → Site → Bool
     has me i s = not (is_good sc me i sc.frames 0) || is_some (begun_for sc.frames s.begun)
 
     told : has me i s ≡ true
-    told = each-at (map_each has w.sites) me i (has me i s) complete (get-each has w.sites me i ∙ ap (option_map (has me i)) node.there)
+    told = each-at (map_each has w.sites) me i complete (get-each has w.sites me i ∙ ap (option_map (has me i)) node.there)
 
     begun : is_some (begun_for sc.frames s.begun) ≡ true
     begun = ap (λ b. not b || is_some (begun_for sc.frames s.begun)) (sym good) ∙ told
@@ -215,8 +215,8 @@ told-in sc name n lawful none good node complete = by node.how
     by : Underway sc name n s ⊎ IsDone sc name n s → sc.frames ≤ s.core.state.frame
     by (inr over) = over.after
     by (inl u) =
-        let room : HasRoom sc.plan = has-room sc lawful in
-        let place : Here sc name w h s u.p u.st u.a = here sc name w h s u.p u.st u.a room.ticks (no-hands sc n) node.there u.stands u.ahead in
+        let room : HasRoom sc.plan = has-room lawful in
+        let place : Here sc name w h s u.p u.st u.a = here name h room.ticks (no-hands sc n) node.there u.stands u.ahead in
         let tells : NodeTold sc [] me i u.p s = subst (λ q. NodeTold sc [] me i q s) place.is (subst (λ hs. NodeTold sc hs me i (h.at me i) s) (no-hands sc n) (h.stands.told me i s node.there)) in
         let early : its.0.frame * (windows_in sc.sizes + 1) ≤ u.p = tells.begun its.0 its.1.0 in
         let same : its.0.frame * (windows_in sc.sizes + 1) ≡ last_moment sc = ap (λ f. f * (windows_in sc.sizes + 1)) its.1.1 in
@@ -224,54 +224,54 @@ told-in sc name n lawful none good node complete = by node.how
           | inl lt ↦ let below : u.p < last_moment sc = number-below sc u.p lt in absurd (omega (arith, early, same, below))
           | inr ge ↦ ge
         ] in
-        let turns : Turns sc u.p sc.frames u.st u.a = turns-now sc me i u.p sc.frames s.core u.st u.a room.ticks u.stands u.before from in
+        let turns : Turns sc u.p sc.frames u.st u.a = turns-now sc.frames room.ticks u.stands u.before from in
         let past : u.st.epoch < u.a.tick = tells.fresh its.0 u.a u.st its.1.0 (its.1.1 ∙ sym turns.in_frame) turns.window u.ahead u.stands.state in
         let now : u.st.epoch ≡ u.a.tick = turns.first in
         absurd (omega (arith, past, now))
 
-some-none : {X : Type 0} (x : X) → Some x ≡ None → ⊥
-some-none x e = cc
+some-none : {X : Type 0} {x : X} → Some x ≡ None → ⊥
+some-none e = cc
 
 -- the node is in the frame after the last, as it must be when the end comes next
 abbrev IsIn : Scenario → NodeName → World → Type 0
 IsIn sc name w = (s : Site) → site_of name w ≡ Some s → sc.frames ≤ s.core.state.frame
 
-step-ends : (sc : Scenario) (name : NodeName) → IsLawful sc → EndsWithoutBreach sc → IsGoodThroughout sc name → (n : ℕ) → ((first_run sc n).book.upcoming ≡ End → IsIn sc name (first_run sc n))
-    → (ds : List Due) → due_of sc (first_run sc n) ≡ ds → (step_with sc (first_run sc n) ds).book.upcoming ≡ End → StepSites sc n → IsIn sc name (first_run sc (suc n))
-step-ends sc name lawful none good n before ds e h step = by ds e h step
+step-ends : {sc : _} (name : NodeName) → IsLawful sc → EndsWithoutBreach sc → IsGoodThroughout sc name → {n : ℕ} → ((first_run sc n).book.upcoming ≡ End → IsIn sc name (first_run sc n))
+    → {ds : _} → due_of sc (first_run sc n) ≡ ds → (step_with sc (first_run sc n) ds).book.upcoming ≡ End → StepSites sc n → IsIn sc name (first_run sc (suc n))
+step-ends {sc} name lawful none good {n} before {ds} e h step = by ds e h step
   where
     w : World
     w = first_run sc n
 
     complete_then : is_complete sc (first_run sc (suc n)).sites (Begin sc.frames) ≡ true → IsIn sc name (first_run sc (suc n))
     complete_then complete s there =
-        let next : NodeAt sc name (suc n) = nodes-at sc name lawful none good (suc n) in
+        let next : NodeAt sc name (suc n) = nodes-at lawful none good (suc n) in
         let same : next.s ≡ s = same_Some next.s s (sym next.there ∙ there) in
-        subst (λ (s : Site). sc.frames ≤ s.core.state.frame) same (told-in sc name (suc n) lawful none good next complete)
+        subst (λ (s : Site). sc.frames ≤ s.core.state.frame) same (told-in lawful none good next complete)
 
     by : (ds : List Due) → due_of sc w ≡ ds → (step_with sc w ds).book.upcoming ≡ End → StepSites sc n → IsIn sc name (first_run sc (suc n))
     by [] e h (Still nothing same) = elim (go-on-end sc w h) [
       | inl up ↦ λ s there. before up s (ap (λ sites. slice_get (of_kind (kind_of name) sites) (index_of name)) (sym same) ∙ there)
       | inr complete ↦ complete_then (subst (λ sites. is_complete sc sites (Begin sc.frames) ≡ true) (sym same) complete)
     ]
-    by [] e h (Taken d first is) = absurd (some-none d (sym first ∙ ap (λ ds. slice_get ds 0) e))
-    by (x ∷ ds) e h (Still nothing same) = absurd (some-none x (sym (ap (λ ds. slice_get ds 0) e) ∙ nothing))
-    by (x ∷ ds) e h (Taken d first is) = elim (take-end sc w d first h) [
+    by [] e h (Taken d first is) = absurd (some-none (sym first ∙ ap (λ ds. slice_get ds 0) e))
+    by (x ∷ ds) e h (Still nothing same) = absurd (some-none (sym (ap (λ ds. slice_get ds 0) e) ∙ nothing))
+    by (x ∷ ds) e h (Taken d first is) = elim (take-end sc w first h) [
       | inr complete ↦ complete_then (subst (λ sites. is_complete sc sites (Begin sc.frames) ≡ true) (sym is) complete)
       | inl up ↦ λ s there.
-          let node : NodeAt sc name n = nodes-at sc name lawful none good n in
+          let node : NodeAt sc name n = nodes-at lawful none good n in
           let was : sc.frames ≤ node.s.core.state.frame = before (sym (ap (λ (b : Book). b.upcoming) (happens-book sc w d)) ∙ up) node.s node.there in
-          let risen : Rises sc w d (kind_of name) (index_of name) node.s = rises sc w d (kind_of name) (index_of name) node.s node.there in
+          let risen : Rises sc w d (kind_of name) (index_of name) node.s = rises sc w d (kind_of name) (index_of name) node.there in
           let same : risen.z ≡ s = same_Some risen.z s (sym risen.there ∙ ap (λ sites. slice_get (of_kind (kind_of name) sites) (index_of name)) (sym is) ∙ there) in
           let more : node.s.core.state.frame ≤ risen.z.core.state.frame = risen.frame in
           subst (λ (s : Site). sc.frames ≤ s.core.state.frame) same (omega (arith, was, more))
     ]
 
-ends-after : (sc : Scenario) (name : NodeName) → IsLawful sc → EndsWithoutBreach sc → IsGoodThroughout sc name → (n : ℕ) → (first_run sc n).book.upcoming ≡ End → IsIn sc name (first_run sc n)
+ends-after : {sc : _} (name : NodeName) → IsLawful sc → EndsWithoutBreach sc → IsGoodThroughout sc name → (n : ℕ) → (first_run sc n).book.upcoming ≡ End → IsIn sc name (first_run sc n)
 unfolding first_world first_step
-ends-after sc name lawful none good zero h = absurd (begin-end 0 h)
-ends-after sc name lawful none good (suc n) h =
-    step-ends sc name lawful none good n (ends-after sc name lawful none good n) (due_of sc (first_run sc n)) refl h (step-sites sc n)
+ends-after name lawful none good zero h = absurd (begin-end 0 h)
+ends-after {sc} name lawful none good (suc n) h =
+    step-ends name lawful none good (ends-after name lawful none good n) refl h (step-sites sc n)
 
 -- a run that has ended waits for the end
 settles-at : (sc : Scenario) (p : ℕ) → (moment sc [] p).book.ended ≡ false → (moment sc [] p).book.upcoming ≡ next_of sc (moment sc [] p).frame (moment sc [] p).window
@@ -290,9 +290,9 @@ end-next sc none =
     same-is : (a : ℕ) → (a == a) ≡ true
     same-is a = grind (arith, nat_tests)
 
-ended-next : (sc : Scenario) → EndsWithoutBreach sc → (b : Book) → IsOfMoment sc [] b → b.ended ≡ true → b.upcoming ≡ End
-ended-next sc none b (inl fresh) h = true-false (sym h ∙ ap (λ (b : Book). b.ended) fresh)
-ended-next sc none b (inr at) h =
+ended-next : (sc : Scenario) → EndsWithoutBreach sc → {b : _} → IsOfMoment sc [] b → b.ended ≡ true → b.upcoming ≡ End
+ended-next sc none {b} (inl fresh) h = true-false (sym h ∙ ap (λ (b : Book). b.ended) fresh)
+ended-next sc none {b} (inr at) h =
     let g : ℕ = at.0 in
     let p : ℕ = suc (last_moment sc) in
     elim (cases_lt (last_moment sc) g) [
@@ -305,23 +305,23 @@ ended-next sc none b (inr at) h =
     ]
 
 -- the node is done at the end
-pub done-at : (sc : Scenario) (name : NodeName) → IsLawful sc → EndsWithoutBreach sc → IsGoodThroughout sc name → (n : ℕ) → (first_run sc n).book.ended ≡ true → (s : Site) × IsDone sc name n s
-done-at sc name lawful none good n ended =
-    let node : NodeAt sc name n = nodes-at sc name lawful none good n in
+pub done-at : {sc name : _} → IsLawful sc → EndsWithoutBreach sc → IsGoodThroughout sc name → (n : ℕ) → (first_run sc n).book.ended ≡ true → (s : Site) × IsDone sc name n s
+done-at {sc} {name} lawful none good n ended =
+    let node : NodeAt sc name n = nodes-at lawful none good n in
     let w : World = first_run sc n in
-    let of : IsOfMoment sc [] w.book = subst (λ hs. IsOfMoment sc hs w.book) (no-hands sc n) (worlds-in-run sc lawful none n).stands.stands.book in
-    let after : sc.frames ≤ node.s.core.state.frame = ends-after sc name lawful none good n (ended-next sc none w.book of ended) node.s node.there in
+    let of : IsOfMoment sc [] w.book = subst (λ hs. IsOfMoment sc hs w.book) (no-hands sc n) (worlds-in-run lawful none n).stands.stands.book in
+    let after : sc.frames ≤ node.s.core.state.frame = ends-after name lawful none good n (ended-next sc none of ended) node.s node.there in
     (node.s, elim node.how [ inl u ↦ (let before : node.s.core.state.frame < sc.frames = u.before in absurd (omega (arith, before, after))) | inr over ↦ over ])
 
 -- The text.
 
-report-text : (sc : Scenario) (name : NodeName) → IsLawful sc → EndsWithoutBreach sc → IsGoodThroughout sc name
+report-text : {sc : _} (name : NodeName) → IsLawful sc → EndsWithoutBreach sc → IsGoodThroughout sc name
     → report_of_node name (records_of sc []) ≡ told_up_to sc name (last_moment sc) ++ end_text sc.frames
-report-text sc name lawful none good =
+report-text {sc} name lawful none good =
     let p : ℕ = last_moment sc in
     let given : List Record = (moment sc [] p).book.given in
     let begin : IsLastBegin sc p = last-begin sc in
-    let told : AreTold sc name p = are-told sc name (has-room sc lawful).ticks good p (goes-on sc none p (omega arith)) in
+    let told : AreTold sc name p = are-told (has-room lawful).ticks good p (goes-on sc none p (omega arith)) in
     let records : records_of sc [] ≡ given ++ Ended ∷ [] =
     records-are sc [] ∙ ap (λ n. (moment sc [] n).book.given) (steps-are sc) ∙ ap (λ (b : Book). b.given) (last-book sc none) in
     ap (report_of_node name) records ∙ lines-append name 0 given (Ended ∷ [])
@@ -332,8 +332,8 @@ report-text sc name lawful none good =
 pub replay-is-the-report : ReplayIsTheReport
 unfolding replay_text
 replay-is-the-report sc lawful none name good events are =
-    let done = done-at sc name lawful none good are.steps are.over in
+    let done = done-at lawful none good are.steps are.over in
     ap (λ events. replay_text sc.sizes sc.plan name (flat_map given events)) are.all
     ∙ ap (λ l. l ++ end_text (frames_in (acts_so_far sc name are.steps))) done.1.told
     ∙ ap (λ n. told_up_to sc name (last_moment sc) ++ end_text n) done.1.count
-    ∙ sym (report-text sc name lawful none good)
+    ∙ sym (report-text name lawful none good)

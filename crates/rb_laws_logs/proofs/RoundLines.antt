@@ -76,19 +76,19 @@ has-state sc name p ticks good =
 abbrev pub is_second : Sizes → ℕ → Bool
 is_second sizes n = nat_lt n (3 * sync_slot_of sizes) && (n % 3 == 1)
 
-not-two : (n k : ℕ) → n ≡ k % 3 + 1 → (k % 3 == 1) ≡ false → (n == 2) ≡ false
-not-two n k e h = grind (arith, nat_tests)
+not-two : {n : ℕ} (k : ℕ) → n ≡ k % 3 + 1 → (k % 3 == 1) ≡ false → (n == 2) ≡ false
+not-two k e h = grind (arith, nat_tests)
 
-four-not-two : (n : ℕ) → n ≡ 4 → (n == 2) ≡ false
-four-not-two n e = grind (arith, nat_tests)
+four-not-two : {n : ℕ} → n ≡ 4 → (n == 2) ≡ false
+four-not-two e = grind (arith, nat_tests)
 
-pub nothing-told : (sc : Scenario) (name : NodeName) (m : Moment) → HasState sc name m → m.window ≤ stages_in sc.sizes → is_second sc.sizes m.window ≡ false → window_text sc name m ≡ []
-nothing-told sc name m state within not_second =
-    silent-window sc m name st state.there (elim (cases_lt m.window (stages_in sc.sizes)) [
+pub nothing-told : {sc name m : _} → HasState sc name m → m.window ≤ stages_in sc.sizes → is_second sc.sizes m.window ≡ false → window_text sc name m ≡ []
+nothing-told {sc} {name} {m} state within not_second =
+    silent-window sc m name state.there (elim (cases_lt m.window (stages_in sc.sizes)) [
       | inl lt ↦
           let is_stage : (window_in sc m (kind_of name) st).stage ≡ m.window % 3 + 1 = stage-is-of sc.sizes sc.plan (kind_of name) st m.window lt in
           by (nat_lt m.window (3 * sync_slot_of sc.sizes)) (m.window % 3 == 1) refl refl not_second is_stage
-      | inr ge ↦ and_left stage_two slot_below (four-not-two (window_in sc m (kind_of name) st).stage (tail-stage sc.sizes sc.plan (kind_of name) st m.window (omega arith)))
+      | inr ge ↦ and_left stage_two slot_below (four-not-two (tail-stage sc.sizes sc.plan (kind_of name) st (omega arith)))
     ])
   where
     st : NodeState
@@ -106,7 +106,7 @@ nothing-told sc name m state within not_second =
     by : (b c : Bool) → nat_lt m.window (3 * sync_slot_of sc.sizes) ≡ b → (m.window % 3 == 1) ≡ c → (b && c) ≡ false
         → (window_in sc m (kind_of name) st).stage ≡ m.window % 3 + 1 → (stage_two && slot_below) ≡ false
     by true true e f h stage = cc
-    by b false e f h stage = and_left stage_two slot_below (not-two (window_in sc m (kind_of name) st).stage m.window stage f)
+    by b false e f h stage = and_left stage_two slot_below (not-two m.window stage f)
     by false true e f h stage =
         and_right stage_two slot_below
         (ap not (eq-eqb (window_in sc m (kind_of name) st).slot (sync_slot_of sc.sizes)
@@ -133,8 +133,8 @@ pub record Adds (sc : Scenario) (name : NodeName) (m next : Moment) : Type 0 whe
   pub lines : lines_after name (newest_after 0 m.book.given) more ++ waiting sc name next ≡ waiting sc name m ++ step_text sc name m next
   pub newest : newest_after (newest_after 0 m.book.given) more ≡ next.frame
 
-adds-told : (sc : Scenario) (name : NodeName) (p : ℕ) → Adds sc name (moment sc [] p) (moment sc [] (suc p)) → AreTold sc name p → AreTold sc name (suc p)
-adds-told sc name p adds told =
+adds-told : {sc name p : _} → Adds sc name (moment sc [] p) (moment sc [] (suc p)) → AreTold sc name p → AreTold sc name (suc p)
+adds-told {sc} {name} {p} adds told =
     let given : List Record = (moment sc [] p).book.given in
     let before : List ℕ = lines_after name 0 given in
     let now : List ℕ = lines_after name (newest_after 0 given) adds.more in
@@ -166,8 +166,8 @@ stage-book sc place rows b = by b.ended refl (verdict_of stages)
     by false e (Some cause) h = true-false h
     by false e None h = record { given = refl; lines = refl }
 
-all-empty : (a b c d : List ℕ) → a ≡ [] → b ≡ [] → c ≡ [] → d ≡ [] → a ++ b ≡ c ++ d
-all-empty a b c d e f g h = rw (e, f, g, h) refl
+all-empty : {a b c d : List ℕ} → a ≡ [] → b ≡ [] → c ≡ [] → d ≡ [] → a ++ b ≡ c ++ d
+all-empty e f g h = rw (e, f, g, h) refl
 
 -- the record of a slot adds its lines if it is given, and nothing else
 slot-record : (name : NodeName) (newest frame slot : ℕ) (lines : List SlotLine) (b : Bool)
@@ -207,11 +207,11 @@ counts sizes n = record {
     and-true false = refl
 
 -- a stage adds what its window told
-stage-adds : (sc : Scenario) (name : NodeName) (p : ℕ) → HasState sc name (moment sc [] p) → (moment sc [] p).window < stages_in sc.sizes
+stage-adds : {sc name : _} (p : ℕ) → HasState sc name (moment sc [] p) → (moment sc [] p).window < stages_in sc.sizes
     → (moment sc [] (suc p)).book.ended ≡ false → newest_after 0 (moment sc [] p).book.given ≡ (moment sc [] p).frame
     → Adds sc name (moment sc [] p) (moment sc [] (suc p))
 unfolding step after_window
-stage-adds sc name p state stage going newest =
+stage-adds {sc} {name} p state stage going newest =
     record {
       more = more;
       given = ap (λ (b : Book). b.given) book_is ∙ book.given;
@@ -285,7 +285,7 @@ stage-adds sc name p state stage going newest =
       | inr ge ↦
           cond-false (waits_now sc.sizes next.window) _ [] (and_left (nat_lt next.window (3 * sync_slot_of sc.sizes)) (next.window % 3 == 2)
           (le-ltb next.window (3 * sync_slot_of sc.sizes) (let e : next.window ≡ n + 1 = later.window in omega (arith, e, ge))))
-          ∙ sym (nothing-told sc name m state (omega (arith, stage)) (and_left (nat_lt n (3 * sync_slot_of sc.sizes)) (n % 3 == 1) (le-ltb n (3 * sync_slot_of sc.sizes) ge)))
+          ∙ sym (nothing-told state (omega (arith, stage)) (and_left (nat_lt n (3 * sync_slot_of sc.sizes)) (n % 3 == 1) (le-ltb n (3 * sync_slot_of sc.sizes) ge)))
       | inl lt ↦ by (n % 3 == 1) refl lt
     ]
       where
@@ -304,7 +304,7 @@ stage-adds sc name p state stage going newest =
         by : (b : Bool) → (n % 3 == 1) ≡ b → n < 3 * sync_slot_of sc.sizes → waiting sc name next ≡ window_text sc name m
         by false e lt =
             cond-false (waits_now sc.sizes next.window) _ [] (and_right (nat_lt next.window (3 * sync_slot_of sc.sizes)) (next.window % 3 == 2) (next_not n next.window later.window e))
-            ∙ sym (nothing-told sc name m state (omega (arith, stage)) (and_right (nat_lt n (3 * sync_slot_of sc.sizes)) (n % 3 == 1) e))
+            ∙ sym (nothing-told state (omega (arith, stage)) (and_right (nat_lt n (3 * sync_slot_of sc.sizes)) (n % 3 == 1) e))
         by true e lt =
             let below : next.window < 3 * sync_slot_of sc.sizes = subst (λ k. k < 3 * sync_slot_of sc.sizes) (sym later.window) (still_below n (sync_slot_of sc.sizes) lt e) in
             let two : (n % 3 + 1 == 2) ≡ true = let one : n % 3 ≡ 1 = grind (arith, nat_tests) in eq-eqb (n % 3 + 1) 2 (omega arith) in
@@ -315,7 +315,7 @@ stage-adds sc name p state stage going newest =
             ∙ ap (λ f. flat_map (delivered_by name f (slot_numbered sc.sizes next.window)) (filter_map line_in rows.bius)) later.frame
             ∙ ap (λ k. flat_map (delivered_by name m.frame (slot_numbered sc.sizes k)) (filter_map line_in rows.bius)) later.window
             ∙ ap (λ s. flat_map (delivered_by name m.frame s) (filter_map line_in rows.bius)) (same_slot n (sync_slot_of sc.sizes) e)
-            ∙ slot-lines sc m name state.st state.there
+            ∙ slot-lines sc m name state.there
 
     lines_are : lines_after name newest_now more ++ waiting sc name next ≡ waiting sc name m ++ step_text sc name m next
     lines_are =
@@ -323,11 +323,11 @@ stage-adds sc name p state stage going newest =
         ∙ ap (λ l. waiting sc name m ++ l) (waits ∙ sym text)
 
 -- what the tail adds: nothing
-tail-adds : (sc : Scenario) (name : NodeName) (p : ℕ) → HasState sc name (moment sc [] p) → (moment sc [] p).window ≡ stages_in sc.sizes
+tail-adds : {sc name : _} (p : ℕ) → HasState sc name (moment sc [] p) → (moment sc [] p).window ≡ stages_in sc.sizes
     → (moment sc [] (suc p)).book.ended ≡ false → newest_after 0 (moment sc [] p).book.given ≡ (moment sc [] p).frame
     → Adds sc name (moment sc [] p) (moment sc [] (suc p))
 unfolding step after_window
-tail-adds sc name p state tail going newest =
+tail-adds {sc} {name} p state tail going newest =
     let m : Moment = moment sc [] p in
     let next : Moment = moment sc [] (suc p) in
     let inside : m.window < windows_in sc.sizes = omega (arith, tail) in
@@ -343,11 +343,11 @@ tail-adds sc name p state tail going newest =
     record {
       more = [];
       given = ap (λ (b : Book). b.given) same ∙ sym (append-nil m.book.given);
-      lines = all-empty [] (waiting sc name next) (waiting sc name m) (step_text sc name m next) refl
+      lines = all-empty refl
           (cond-false (waits_now sc.sizes next.window) _ [] (and_left (nat_lt next.window (3 * sync_slot_of sc.sizes)) (next.window % 3 == 2) (le-ltb next.window (3 * sync_slot_of sc.sizes) (omega (arith, window, above)))))
           (cond-false (waits_now sc.sizes m.window) _ [] (and_left (nat_lt m.window (3 * sync_slot_of sc.sizes)) (m.window % 3 == 2) (le-ltb m.window (3 * sync_slot_of sc.sizes) above)))
           (cond-true (nat_lt m.window (windows_in sc.sizes)) (window_text sc name m) (block_text sc name next) in_frame
-          ∙ nothing-told sc name m state (omega (arith, tail)) (and_left (nat_lt m.window (3 * sync_slot_of sc.sizes)) (m.window % 3 == 1) (le-ltb m.window (3 * sync_slot_of sc.sizes) above)));
+          ∙ nothing-told state (omega (arith, tail)) (and_left (nat_lt m.window (3 * sync_slot_of sc.sizes)) (m.window % 3 == 1) (le-ltb m.window (3 * sync_slot_of sc.sizes) above)));
       newest = newest ∙ sym later.frame;
     }
 
@@ -384,11 +384,11 @@ pub none-waits : (sc : Scenario) (name : NodeName) (m : Moment) → m.window ≡
 none-waits sc name m first =
     cond-false (waits_now sc.sizes m.window) _ [] (and_right (nat_lt m.window (3 * sync_slot_of sc.sizes)) (m.window % 3 == 2) (ap (λ k. k % 3 == 2) first))
 
-end-adds : (sc : Scenario) (name : NodeName) (p : ℕ) → HasTicks sc.plan → IsGoodThroughout sc name → windows_in sc.sizes ≤ (moment sc [] p).window
+end-adds : {sc : Scenario} {name : NodeName} (p : ℕ) → HasTicks sc.plan → IsGoodThroughout sc name → windows_in sc.sizes ≤ (moment sc [] p).window
     → (moment sc [] (suc p)).book.ended ≡ false → newest_after 0 (moment sc [] p).book.given ≡ (moment sc [] p).frame
     → Adds sc name (moment sc [] p) (moment sc [] (suc p))
 unfolding step begin_frame
-end-adds sc name p ticks good over going newest =
+end-adds {sc} {name} p ticks good over going newest =
     let m : Moment = moment sc [] p in
     let next : Moment = moment sc [] (suc p) in
     let later : IsFrameLater sc [] m next = frame-later sc [] m over in
@@ -403,7 +403,7 @@ end-adds sc name p ticks good over going newest =
     ap (λ b. (stepped sc [] m b (nat_lt m.window (windows_in sc.sizes))).book) (not-over sc p going)
     ∙ ap (λ b. (stepped sc [] m false b).book) outside in
     let lines : FrameLines sc name (m.frame + 1) (newest_after 0 m.book.given) state.st (frame_records (m.frame + 1) bs) =
-    frame-lines sc (m.frame + 1) (newest_after 0 m.book.given) m.ports (next_frame sc [] m).nodes name state.st
+    frame-lines sc (newest_after 0 m.book.given) m.ports (next_frame sc [] m).nodes name
     (ap (λ nodes. slice_get (of_kind (kind_of name) nodes) (index_of name)) (sym later.nodes) ∙ state.there)
     (good-begin sc name (m.frame + 1) good (omega (arith, bound, frame))) (state.frame ∙ frame) in
     let above : 3 * sync_slot_of sc.sizes ≤ m.window = omega (arith, over) in
@@ -420,15 +420,15 @@ end-adds sc name p ticks good over going newest =
 
 -- Moments.
 
-first-told : (sc : Scenario) (name : NodeName) → HasTicks sc.plan → IsGoodThroughout sc name → (moment sc [] 0).book.ended ≡ false → AreTold sc name 0
+first-told : {sc : Scenario} {name : NodeName} → HasTicks sc.plan → IsGoodThroughout sc name → (moment sc [] 0).book.ended ≡ false → AreTold sc name 0
 unfolding begin_frame
-first-told sc name ticks good going =
+first-told {sc} {name} ticks good going =
     let m : Moment = moment sc [] 0 in
     let state : HasState sc name m = has-state sc name 0 ticks (good-moment sc name 0 good going) in
     let bs : List Begun = present (in_order (map_each (begun_if_good sc 0 (map (port_at sc []) (numbers sc.sizes.bius))) m.nodes)) in
     let given : m.book.given ≡ frame_records 0 bs = frame-book sc 0 bs fresh_book going in
     let lines : FrameLines sc name 0 0 state.st (frame_records 0 bs) =
-    frame-lines sc 0 0 (map (port_at sc []) (numbers sc.sizes.bius)) m.nodes name state.st state.there (good-begin sc name 0 good (omega arith)) state.frame in
+    frame-lines sc 0 (map (port_at sc []) (numbers sc.sizes.bius)) m.nodes name state.there (good-begin sc name 0 good (omega arith)) state.frame in
     record {
       lines = ap (λ l. lines_after name 0 m.book.given ++ l) (none-waits sc name m refl) ∙ append-nil (lines_after name 0 m.book.given)
           ∙ ap (lines_after name 0) given ∙ lines.lines ∙ sym (ap (λ o. if_there (λ st. epoch_lines name (Some (epoch_of sc.sizes (kind_of name) st))) o) state.there);
@@ -436,18 +436,18 @@ first-told sc name ticks good going =
     }
 
 -- `AreTold` holds in each moment of a run that goes on
-pub are-told : (sc : Scenario) (name : NodeName) → HasTicks sc.plan → IsGoodThroughout sc name → (p : ℕ) → (moment sc [] p).book.ended ≡ false → AreTold sc name p
-are-told sc name ticks good zero going = first-told sc name ticks good going
-are-told sc name ticks good (suc p) going =
+pub are-told : {sc : Scenario} {name : NodeName} → HasTicks sc.plan → IsGoodThroughout sc name → (p : ℕ) → (moment sc [] p).book.ended ≡ false → AreTold sc name p
+are-told ticks good zero going = first-told ticks good going
+are-told {sc} {name} ticks good (suc p) going =
     let m : Moment = moment sc [] p in
     let now : m.book.ended ≡ false = still-running sc p going in
-    let told : AreTold sc name p = are-told sc name ticks good p now in
+    let told : AreTold sc name p = are-told ticks good p now in
     let state : HasState sc name m = has-state sc name p ticks (good-moment sc name p good now) in
     let adds : Adds sc name m (moment sc [] (suc p)) = elim (cases_lt m.window (stages_in sc.sizes)) [
-      | inl stage ↦ stage-adds sc name p state stage going told.newest
+      | inl stage ↦ stage-adds p state stage going told.newest
       | inr past ↦ elim (cases_lt m.window (windows_in sc.sizes)) [
-        | inl inside ↦ tail-adds sc name p state (omega (arith, past, inside)) going told.newest
-        | inr over ↦ end-adds sc name p ticks good over going told.newest
+        | inl inside ↦ tail-adds p state (omega (arith, past, inside)) going told.newest
+        | inr over ↦ end-adds p ticks good over going told.newest
       ]
     ] in
-    adds-told sc name p adds told
+    adds-told adds told

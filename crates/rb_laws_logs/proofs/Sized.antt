@@ -33,8 +33,8 @@ append : (xs ys : List Coming) → AreSized xs → AreSized ys → AreSized (xs 
 append [] ys a b = b
 append (x ∷ xs) ys a b = (a.0, append xs ys a.1 b)
 
-said : (sc : Scenario) → IsListed sc → (me : Side) (i : ℕ) (span : Span) (j : ℕ) → AreSized (said_by sc me i span j)
-said sc listed me i span j =
+said : {sc : _} → IsListed sc → (me : Side) (i : ℕ) (span : Span) (j : ℕ) → AreSized (said_by sc me i span j)
+said {sc} listed me i span j =
     let made : Say → Said = said_of sc.plan.version (clock_of sc me i) span in
     let coming : Said → Coming = λ s. record { time = s.time; from = j; bytes = s.bytes } in
     let entries : All (λ (s : Said). IsSized s.bytes) (map made (filter (is_said me i j span) sc.says)) =
@@ -49,35 +49,35 @@ of-all : (f : ℕ → List Coming) (a n : ℕ) → ((k : ℕ) → AreSized (f k)
 of-all f a zero all = tt
 of-all f a (suc n) all = append (f a) (flat_map f (range_with_len (a + 1) n)) (all a) (of-all f (a + 1) n all)
 
-says-sized : (sc : Scenario) (me : Side) (i : ℕ) (span : Span) → IsListed sc → AreSized (says_in sc me i span)
+says-sized : {sc : _} (me : Side) (i : ℕ) (span : Span) → IsListed sc → AreSized (says_in sc me i span)
 unfolding says_in
-says-sized sc me i span listed =
+says-sized {sc} me i span listed =
     of-all (λ j. elim (is_good sc (other me) j span.place.frame span.place.slot) [ true ↦ [] | false ↦ said_by sc me i span j ]) 0 (count_of (other me) sc.sizes)
     (λ j. by j (is_good sc (other me) j span.place.frame span.place.slot))
   where
     by : (j : ℕ) (b : Bool) → AreSized (elim b as (λ _. List Coming) [ true ↦ [] | false ↦ said_by sc me i span j ])
     by j true = tt
-    by j false = said sc listed me i span j
+    by j false = said listed me i span j
 
 -- One node.
 
-entered : (sc : Scenario) (me : Side) (i : ℕ) (o : Option Span) (s : Site) → IsListed sc → AreSized s.coming → AreSized (enter sc me i o s).coming
-entered sc me i None s listed is = append s.coming [] is tt
-entered sc me i (Some span) s listed is = by (is_good sc me i span.place.frame span.place.slot)
+entered : {sc : _} (me : Side) (i : ℕ) (o : Option Span) (s : Site) → IsListed sc → AreSized s.coming → AreSized (enter sc me i o s).coming
+entered me i None s listed is = append s.coming [] is tt
+entered {sc} me i (Some span) s listed is = by (is_good sc me i span.place.frame span.place.slot)
   where
     by : (b : Bool) → AreSized (elim b as (λ _. Site) [ true ↦ await sc me i (says_in sc me i span) s | false ↦ stop s ]).coming
-    by true = append s.coming (says_in sc me i span) is (says-sized sc me i span listed)
+    by true = append s.coming (says_in sc me i span) is (says-sized me i span listed)
     by false = tt
 
-proceeds : (sc : Scenario) (me : Side) (i : ℕ) (s : Site) → IsListed sc → AreSized s.coming → AreSized (proceed sc me i s).coming
+proceeds : {sc : _} (me : Side) (i : ℕ) (s : Site) → IsListed sc → AreSized s.coming → AreSized (proceed sc me i s).coming
 unfolding proceed
-proceeds sc me i s = entered sc me i (span_from sc.sizes sc.plan me s.core.state s.core.had) s
+proceeds {sc} me i s = entered me i (span_from sc.sizes sc.plan me s.core.state s.core.had) s
 
-acts : (sc : Scenario) (ports : List PortState) (me : Side) (i : ℕ) (x : Act) (s : Site) → IsListed sc → AreSized s.coming → AreSized (after_act sc ports me i x s).coming
+acts : {sc : _} (ports : List PortState) (me : Side) (i : ℕ) (x : Act) (s : Site) → IsListed sc → AreSized s.coming → AreSized (after_act sc ports me i x s).coming
 unfolding after_act
-acts sc ports me i x s listed is =
+acts {sc} ports me i x s listed is =
     let closed : Site = with_close me i x.core.state x.closed (record s { core = x.core }) in
-    proceeds sc me i (with_epoch sc ports me i x.epoch closed) listed
+    proceeds me i (with_epoch sc ports me i x.epoch closed) listed
     (subst AreSized (sym (epoch-coming sc ports me i x.epoch closed ∙ close-coming me i x.core.state x.closed (record s { core = x.core }))) is)
 
 arrives : (sc : Scenario) (me : Side) (i place : ℕ) (c : Coming) (s : Site) → AreSized s.coming → AreSized (after_arrival sc me i place c s).coming
@@ -96,55 +96,55 @@ sends sc me side j frame x i s is = by (same_side side (other me) && s.runs)
 abbrev pub AllSized : Each Site → Type 0
 AllSized sites = (me : Side) (i : ℕ) (s : Site) → slice_get (of_kind me sites) i ≡ Some s → AreSized s.coming
 
-each-sized : (f : Side → ℕ → Site → Site) (sites : Each Site) → ((me : Side) (i : ℕ) (s : Site) → AreSized s.coming → AreSized (f me i s).coming) → AllSized sites → AllSized (map_each f sites)
-each-sized f sites go h me i s e =
+each-sized : (f : Side → ℕ → Site → Site) {sites : _} → ((me : Side) (i : ℕ) (s : Site) → AreSized s.coming → AreSized (f me i s).coming) → AllSized sites → AllSized (map_each f sites)
+each-sized f {sites} go h me i s e =
     let was = option_map-back (f me i) (slice_get (of_kind me sites) i) s (sym (get-each f sites me i) ∙ e) in
     subst (λ (s : Site). AreSized s.coming) was.1.1 (go me i was.0 (h me i was.0 was.1.0))
 
-at-sized : (me : Side) (i : ℕ) (change : Site → Site) (sites : Each Site) → ((s : Site) → AreSized s.coming → AreSized (change s).coming) → AllSized sites → AllSized (at_node me i change sites)
-at-sized me i change sites go =
-    each-sized (λ side n s. elim (same_side side me && (n == i)) as (λ _. Site) [ true ↦ change s | false ↦ s ]) sites (λ side n s is. by s is (same_side side me && (n == i)))
+at-sized : (me : Side) (i : ℕ) (change : Site → Site) {sites : _} → ((s : Site) → AreSized s.coming → AreSized (change s).coming) → AllSized sites → AllSized (at_node me i change sites)
+at-sized me i change go =
+    each-sized (λ side n s. elim (same_side side me && (n == i)) as (λ _. Site) [ true ↦ change s | false ↦ s ]) (λ side n s is. by s is (same_side side me && (n == i)))
   where
     by : (s : Site) → AreSized s.coming → (b : Bool) → AreSized (elim b as (λ _. Site) [ true ↦ change s | false ↦ s ]).coming
     by s is true = go s is
     by s is false = is
 
-message-sized : (sc : Scenario) (me : Side) (j frame tick : ℕ) (m : Option Message) (sites : Each Site) → AllSized sites → AllSized (with_message sc me j frame tick m sites)
-message-sized sc me j frame tick None sites is = is
-message-sized sc me j frame tick (Some m) sites is =
-    each-sized (sent_to sc me j frame (record { tick = tick; message = m })) sites (λ side i s k. sends sc me side j frame (record { tick = tick; message = m }) i s k) is
+message-sized : (sc : Scenario) (me : Side) (j frame tick : ℕ) (m : Option Message) {sites : _} → AllSized sites → AllSized (with_message sc me j frame tick m sites)
+message-sized sc me j frame tick None is = is
+message-sized sc me j frame tick (Some m) is =
+    each-sized (sent_to sc me j frame (record { tick = tick; message = m })) (λ side i s k. sends sc me side j frame (record { tick = tick; message = m }) i s k) is
 
-pending-sized : (sc : Scenario) (w : World) (me : Side) (i : ℕ) (s : Site) (p : Pending) → IsListed sc → AllSized w.sites → AllSized (with_pending sc w me i s p).sites
+pending-sized : {sc : _} (w : World) (me : Side) (i : ℕ) (s : Site) (p : Pending) → IsListed sc → AllSized w.sites → AllSized (with_pending sc w me i s p).sites
 unfolding with_act
-pending-sized sc w me i s (Tick k) listed is =
+pending-sized {sc} w me i s (Tick k) listed is =
     let x : Act = pass_and_tick sc w.ports me i k s.core in
-    message-sized sc me i x.core.state.frame k x.message (at_node me i (after_act sc w.ports me i x) w.sites)
-    (at-sized me i (after_act sc w.ports me i x) w.sites (λ z k. acts sc w.ports me i x z listed k) is)
-pending-sized sc w me i s (Arrival place c) listed is = at-sized me i (after_arrival sc me i place c) w.sites (λ z k. arrives sc me i place c z k) is
+    message-sized sc me i x.core.state.frame k x.message
+    (at-sized me i (after_act sc w.ports me i x) (λ z k. acts w.ports me i x z listed k) is)
+pending-sized {sc} w me i s (Arrival place c) listed is = at-sized me i (after_arrival sc me i place c) (λ z k. arrives sc me i place c z k) is
 
-happens-sized : (sc : Scenario) (w : World) (d : Due) → IsListed sc → AllSized w.sites → AllSized (happens sc w d).sites
+happens-sized : {sc : _} (w : World) (d : Due) → IsListed sc → AllSized w.sites → AllSized (happens sc w d).sites
 unfolding happens
-happens-sized sc w d listed is = by (slice_get (of_kind d.side w.sites) d.node)
+happens-sized {sc} w d listed is = by (slice_get (of_kind d.side w.sites) d.node)
   where
     by : (o : Option Site) → AllSized (elim o as (λ _. World) [ None ↦ w | Some s ↦ with_pending sc w d.side d.node s d.pending ]).sites
     by None = is
-    by (Some s) = pending-sized sc w d.side d.node s d.pending listed is
+    by (Some s) = pending-sized w d.side d.node s d.pending listed is
 
 -- The run.
 
-first-sized : (sc : Scenario) → IsListed sc → AllSized (first_world sc).sites
+first-sized : {sc : _} → IsListed sc → AllSized (first_world sc).sites
 unfolding first_world
-first-sized sc listed me i s e =
+first-sized {sc} listed me i s e =
     let make : Side → ℕ → Site = λ me i. proceed sc me i (fresh_site sc.sizes me) in
     let within : i < length (of_kind me (each_of sc.sizes make)) = slice_get_within (of_kind me (each_of sc.sizes make)) i s e in
     let long : length (of_kind me (each_of sc.sizes make)) ≡ count_of me sc.sizes = first-counts sc.sizes make me in
     let made : slice_get (of_kind me (each_of sc.sizes make)) i ≡ Some (make me i) = get-made sc.sizes make me i (omega (arith, within, long)) in
-    subst (λ (s : Site). AreSized s.coming) (same_Some (make me i) s (sym made ∙ e)) (proceeds sc me i (fresh_site sc.sizes me) listed tt)
+    subst (λ (s : Site). AreSized s.coming) (same_Some (make me i) s (sym made ∙ e)) (proceeds me i (fresh_site sc.sizes me) listed tt)
 
-pub run-sized : (sc : Scenario) (n : ℕ) → IsListed sc → AllSized (first_run sc n).sites
-run-sized sc zero listed = first-sized sc listed
-run-sized sc (suc n) listed = by (run-sized sc n listed) (step-sites sc n)
+pub run-sized : {sc : _} (n : ℕ) → IsListed sc → AllSized (first_run sc n).sites
+run-sized zero listed = first-sized listed
+run-sized {sc} (suc n) listed = by (run-sized n listed) (step-sites sc n)
   where
     by : AllSized (first_run sc n).sites → StepSites sc n → AllSized (first_run sc (suc n)).sites
     by before (Still nothing same) = subst AllSized (sym same) before
-    by before (Taken d first is) = subst AllSized (sym is) (happens-sized sc (first_run sc n) d listed before)
+    by before (Taken d first is) = subst AllSized (sym is) (happens-sized (first_run sc n) d listed before)

@@ -22,18 +22,18 @@ plus-none n = omega arith
 -- Begins.
 
 -- what a node says of the convicted nodes does not change within a frame
-convicted-stay : (sizes : Sizes) (side me : Side) (a b : NodeState) → Stays a b → convicted_of sizes side me b ≡ convicted_of sizes side me a
-convicted-stay sizes Biu Biu a b h = rw (h.near) refl
-convicted-stay sizes Rmu Rmu a b h = rw (h.near) refl
-convicted-stay sizes Biu Rmu a b h = rw (h.trusted) refl
-convicted-stay sizes Rmu Biu a b h = rw (h.trusted) refl
+convicted-stay : (sizes : Sizes) (side me : Side) {a b : _} → Stays a b → convicted_of sizes side me b ≡ convicted_of sizes side me a
+convicted-stay sizes Biu Biu h = rw (h.near) refl
+convicted-stay sizes Rmu Rmu h = rw (h.near) refl
+convicted-stay sizes Biu Rmu h = rw (h.trusted) refl
+convicted-stay sizes Rmu Biu h = rw (h.trusted) refl
 
-epoch-stays : (sizes : Sizes) (me : Side) (a b : NodeState) → Stays a b → epoch_of sizes me b ≡ epoch_of sizes me a
-epoch-stays sizes me a b h =
+epoch-stays : (sizes : Sizes) (me : Side) {a b : _} → Stays a b → epoch_of sizes me b ≡ epoch_of sizes me a
+epoch-stays sizes me {a} {b} h =
     ap (λ f. let e : Epoch = record { frame = f; tick = b.epoch; biu = convicted_of sizes Biu me b; rmu = convicted_of sizes Rmu me b } in e) h.frame
     ∙ ap (λ t. let e : Epoch = record { frame = a.frame; tick = t; biu = convicted_of sizes Biu me b; rmu = convicted_of sizes Rmu me b } in e) h.epoch
-    ∙ ap (λ c. let e : Epoch = record { frame = a.frame; tick = a.epoch; biu = c; rmu = convicted_of sizes Rmu me b } in e) (convicted-stay sizes Biu me a b h)
-    ∙ ap (λ c. let e : Epoch = record { frame = a.frame; tick = a.epoch; biu = convicted_of sizes Biu me a; rmu = c } in e) (convicted-stay sizes Rmu me a b h)
+    ∙ ap (λ c. let e : Epoch = record { frame = a.frame; tick = a.epoch; biu = c; rmu = convicted_of sizes Rmu me b } in e) (convicted-stay sizes Biu me h)
+    ∙ ap (λ c. let e : Epoch = record { frame = a.frame; tick = a.epoch; biu = convicted_of sizes Biu me a; rmu = c } in e) (convicted-stay sizes Rmu me h)
 
 in-stays : (sizes : Sizes) (plan : Plan) (me : Side) (i : ℕ) (st : NodeState) (n word k : ℕ) → Stays st (state_in sizes plan me i st n word k)
 in-stays sizes plan me i st n word k = by (gone (sending_at sizes plan me i st n word) k)
@@ -42,17 +42,17 @@ in-stays sizes plan me i st n word k = by (gone (sending_at sizes plan me i st n
     by true = keeping-stays sizes me i st (window_numbered sizes plan me st n).slot (window_numbered sizes plan me st n).stage word
     by false = stays-refl st
 
-begin-stays : (sizes : Sizes) (me : Side) (a b : NodeState) (k : ℕ) → Stays a b → epoch_at sizes me b k ≡ epoch_at sizes me a k
-begin-stays sizes me a b k h =
+begin-stays : (sizes : Sizes) (me : Side) {a b : _} (k : ℕ) → Stays a b → epoch_at sizes me b k ≡ epoch_at sizes me a k
+begin-stays sizes me {a} {b} k h =
     ap (λ t. elim (t == k) as (λ _. Option Epoch) [ true ↦ Some (epoch_of sizes me b) | false ↦ None ]) h.epoch
-    ∙ ap (λ e. elim (a.epoch == k) as (λ _. Option Epoch) [ true ↦ Some e | false ↦ None ]) (epoch-stays sizes me a b h)
+    ∙ ap (λ e. elim (a.epoch == k) as (λ _. Option Epoch) [ true ↦ Some e | false ↦ None ]) (epoch-stays sizes me h)
 
 -- no frame begins with a tick after the epoch
 none-begins : (sizes : Sizes) (me : Side) (st : NodeState) (k : ℕ) → st.epoch < k → epoch_at sizes me st k ≡ None
 none-begins sizes me st k h = ap (λ b. elim b as (λ _. Option Epoch) [ true ↦ Some (epoch_of sizes me st) | false ↦ None ]) (less-differs st.epoch k h)
 
-pub now-begins : (sizes : Sizes) (me : Side) (st : NodeState) (k : ℕ) → st.epoch ≡ k → epoch_at sizes me st k ≡ Some (epoch_of sizes me st)
-now-begins sizes me st k h = ap (λ b. elim b as (λ _. Option Epoch) [ true ↦ Some (epoch_of sizes me st) | false ↦ None ]) (eq-eqb st.epoch k h)
+pub now-begins : (sizes : Sizes) (me : Side) (st : NodeState) {k : ℕ} → st.epoch ≡ k → epoch_at sizes me st k ≡ Some (epoch_of sizes me st)
+now-begins sizes me st {k} h = ap (λ b. elim b as (λ _. Option Epoch) [ true ↦ Some (epoch_of sizes me st) | false ↦ None ]) (eq-eqb st.epoch k h)
 
 -- moment `p` is the first window of the frame, and the pending tick is the node's epoch
 pub record Turns (sc : Scenario) (p frame : ℕ) (st : NodeState) (a : Timed) : Type 0 where
@@ -60,9 +60,9 @@ pub record Turns (sc : Scenario) (p frame : ℕ) (st : NodeState) (a : Timed) : 
   pub window : (moment sc [] p).window ≡ 0
   pub in_frame : (moment sc [] p).frame ≡ frame
 
-pub turns-now : (sc : Scenario) (me : Side) (i p frame : ℕ) (c : Core) (st : NodeState) (a : Timed) → HasTicks sc.plan → StandsAt sc me i p c st a → c.state.frame < frame
+pub turns-now : {sc : Scenario} {me : Side} {i p : ℕ} (frame : ℕ) {c : Core} {st : NodeState} {a : Timed} → HasTicks sc.plan → StandsAt sc me i p c st a → c.state.frame < frame
     → frame ≤ (moment sc [] p).frame → Turns sc p frame st a
-turns-now sc me i p frame c st a ticks h before from =
+turns-now {sc} {me} {i} {p} frame {c} {st} {a} ticks h before from =
     let m : Moment = moment sc [] p in
     let y : NodeState = state_in sc.sizes sc.plan me i st m.window (word_at sc m me i st) a.tick in
     let stays : Stays st y = in-stays sc.sizes sc.plan me i st m.window (word_at sc m me i st) a.tick in
@@ -77,28 +77,28 @@ turns-now sc me i p frame c st a ticks h before from =
           let up : y.frame ≡ c.state.frame + 1 = ap (λ (z : NodeState). z.frame) (sym now) ∙ turned.1 in
           record {
             first = epoch;
-            window = first-window sc.sizes sc.plan me st m.window a.tick ticks h.window.window h.window.at epoch;
+            window = first-window m.window ticks h.window.window h.window.at epoch;
             in_frame = omega (arith, up, y_frame, before, from);
           }
     ]
 
 -- Deliveries.
 
-close-text : (name : NodeName) (frame slot : ℕ) (sizes : Sizes) (kept : NodeState) (in_slot stage first : ℕ) (o : Option Delivery) → kept.frame ≡ frame → in_slot ≡ slot
+close-text : (name : NodeName) {frame slot : ℕ} (sizes : Sizes) (kept : NodeState) {in_slot : ℕ} (stage first : ℕ) (o : Option Delivery) → kept.frame ≡ frame → in_slot ≡ slot
     → ((d : Delivery) → o ≡ Some d → Delivers sizes (kind_of name) kept in_slot stage d)
     → delivery_lines name o ≡ line_text frame slot (option_map (line_of_node (index_of name)) o)
-close-text name frame slot sizes kept in_slot stage first None e f delivers = refl
-close-text name frame slot sizes kept in_slot stage first (Some d) e f delivers =
+close-text name sizes kept stage first None e f delivers = refl
+close-text name {frame} sizes kept {in_slot} stage first (Some d) e f delivers =
     let its : Delivers sizes (kind_of name) kept in_slot stage d = delivers d refl in
     ap (λ f. delivery_text f d.slot (index_of name) d.sender d.value) (its.frame ∙ e) ∙ ap (λ s. delivery_text frame s (index_of name) d.sender d.value) (its.in_slot ∙ f)
 
 -- the line of a delivery is that of the rounds
-delivered-text : (sc : Scenario) (name : NodeName) (p : ℕ) (sent : Side → ℕ → ℕ → Bool) (ports : List PortState) (s : Site) (st : NodeState) (a : Timed) (x : Act)
+delivered-text : {sc : _} (name : NodeName) {p sent ports s st a x : _}
     → slice_get (of_kind (kind_of name) (moment sc [] p).nodes) (index_of name) ≡ Some st → st.frame ≡ (moment sc [] p).frame
     → ClosesWindow sc [] sent ports (kind_of name) (index_of name) p s st a x
     → delivery_lines name (option_and_then (λ c. c.delivered) x.closed) ≡ window_text sc name (moment sc [] p)
 unfolding row_of
-delivered-text sc name p sent ports s st a x there frame closes =
+delivered-text {sc} name {p} {s} {st} {a} {x} there frame closes =
     let m : Moment = moment sc [] p in
     let me : Side = kind_of name in
     let i : ℕ = index_of name in
@@ -111,7 +111,7 @@ delivered-text sc name p sent ports s st a x there frame closes =
     let kept_frame : kept.frame ≡ m.frame = (keeping-stays sc.sizes me i st w.slot w.stage (word_at sc m me i st)).frame ∙ frame in
     ap (λ o. delivery_lines name (option_and_then (λ (c : Closed). c.delivered) o)) its
     ∙ close-by (λ o. delivery_lines name o ≡ line_text m.frame slot (option_map (line_of_node i) o)) sc.sizes me i kept w.slot w.stage w.first _ refl
-    (λ d delivers. close-text name m.frame slot sc.sizes kept w.slot w.stage 0 (Some d) kept_frame (slot-is sc.sizes sc.plan me st m.window)
+    (λ d delivers. close-text name sc.sizes kept w.stage 0 (Some d) kept_frame (slot-is sc.sizes sc.plan me st m.window)
     (λ e same_d. subst (Delivers sc.sizes me kept w.slot w.stage) (same_Some d e same_d) delivers))
     ∙ ap (λ (c : Closed). line_text m.frame slot (option_map (line_of_node i) c.delivered)) (sym same)
     ∙ sym (ap (λ o. line_text m.frame slot (line_in o)) closes.told.1.1)
@@ -133,10 +133,10 @@ pub record AfterTick (sc : Scenario) (name : NodeName) (p : ℕ) (st : NodeState
   pub count : (moment sc [] p).frame + frames_with (epoch_at sc.sizes (kind_of name) then_st b.tick) ≡ (moment sc [] q).frame
 
 -- `AfterTick` holds after a tick that leaves the window open
-pub after-open : (sc : Scenario) (name : NodeName) (p : ℕ) (sent : Side → ℕ → ℕ → Bool) (ports : List PortState) (s : Site) (st : NodeState) (a : Timed) (x : Act)
+pub after-open : {sc : Scenario} (name : NodeName) {p : ℕ} {sent : Side → ℕ → ℕ → Bool} {ports : List PortState} {s : Site} {st : NodeState} {a : Timed} {x : Act}
     → HasTicks sc.plan → StandsAt sc (kind_of name) (index_of name) p s.core st a → StaysOpen sc [] sent a.time ports (kind_of name) (index_of name) p s st a.tick x
     → (after : AfterTick sc name p st a x (after_act sc ports (kind_of name) (index_of name) x s)) × ((after.q ≡ p) × (epoch_at sc.sizes (kind_of name) after.then_st after.b.tick ≡ None))
-after-open sc name p sent ports s st a x ticks h stays =
+after-open {sc} name {p} {ports} {s} {st} {a} {x} ticks h stays =
     let m : Moment = moment sc [] p in
     let me : Side = kind_of name in
     let i : ℕ = index_of name in
@@ -144,7 +144,7 @@ after-open sc name p sent ports s st a x ticks h stays =
     let z : Site = after_act sc ports me i x s in
     let core : z.core ≡ x.core = act-core sc ports me i x s in
     let had : z.core.had ≡ a.tick + 1 = ap (λ (c : Core). c.had) core ∙ stays.act.had in
-    let now : StandsAt sc me i p z.core st stays.a = stands-at sc sent a.time me i p z st stays.a ticks stays.stands in
+    let now : StandsAt sc me i p z.core st stays.a = stands-at ticks stays.stands in
     let later : z.core.had ≤ stays.a.tick = now.next.later in
     let from : st.epoch + first_of sc.sizes sc.plan me st m.window ≤ a.tick = h.window.at.from in
     let none : epoch_at sc.sizes me st stays.a.tick ≡ None = none-begins sc.sizes me st stays.a.tick (omega (arith, had, later, from)) in (
@@ -155,7 +155,7 @@ after-open sc name p sent ports s st a x ticks h stays =
         stands = now;
         ahead = stays.stands.receives.pends;
         frame = ap (λ (c : Core). c.state.frame) core ∙ ap (λ (z : NodeState). z.frame) stays.act.state ∙ state-frame sc me i st m.window word (a.tick + 1) ∙ h.frame;
-        epoch = stays.act.epoch ∙ begin-stays sc.sizes me st (state_in sc.sizes sc.plan me i st m.window word a.tick) a.tick (in-stays sc.sizes sc.plan me i st m.window word a.tick);
+        epoch = stays.act.epoch ∙ begin-stays sc.sizes me a.tick (in-stays sc.sizes sc.plan me i st m.window word a.tick);
         told = ap (λ o. told_up_to sc name p ++ (delivery_lines name (option_and_then (λ (c : Closed). c.delivered) o) ++ epoch_lines name (epoch_at sc.sizes me st stays.a.tick))) stays.act.closed
             ∙ ap (λ o. told_up_to sc name p ++ ([] ++ epoch_lines name o)) none ∙ append-nil (told_up_to sc name p);
         count = ap (λ o. m.frame + frames_with o) none ∙ plus-none m.frame;
@@ -166,8 +166,8 @@ after-open sc name p sent ports s st a x ticks h stays =
 -- Closes.
 
 -- a node's first window begins with its frame, and all others later
-later-begins : (sizes : Sizes) (plan : Plan) (me : Side) (st : NodeState) (n : ℕ) → HasTicks plan → 1 ≤ n → n ≤ stages_in sizes → 1 ≤ first_of sizes plan me st n
-later-begins sizes plan me st n ticks some le = let before : last_of sizes plan me st 0 < first_of sizes plan me st n = ends-before-later sizes plan me st 0 n ticks some le in omega (arith, before)
+later-begins : (sizes : Sizes) {plan : _} (me : Side) (st : NodeState) (n : ℕ) → HasTicks plan → 1 ≤ n → n ≤ stages_in sizes → 1 ≤ first_of sizes plan me st n
+later-begins sizes {plan} me st n ticks some le = let before : last_of sizes plan me st 0 < first_of sizes plan me st n = ends-before-later sizes me st 0 n ticks some le in omega (arith, before)
 
 -- the step from a window, and from the end of a frame
 window-step : (sc : Scenario) (name : NodeName) (p : ℕ) → (moment sc [] p).window < windows_in sc.sizes → told_up_to sc name (suc p) ≡ told_up_to sc name p ++ window_text sc name (moment sc [] p)
@@ -208,9 +208,9 @@ from-tail sc name p h =
     (frame-step sc name (suc p) (omega (arith, w, h)) ∙ ap (λ l. l ++ block_text sc name (moment sc [] (suc (suc p)))) (window-step sc name p (omega (arith, h)))
     ∙ append_assoc (told_up_to sc name p) (window_text sc name (moment sc [] p)) (block_text sc name (moment sc [] (suc (suc p)))))
 
-from-last : (sc : Scenario) (name : NodeName) (p : ℕ) → HasTicks sc.plan → IsGoodThroughout sc name → (moment sc [] p).frame < sc.frames → (moment sc [] p).window + 1 ≡ stages_in sc.sizes
+from-last : {sc : Scenario} {name : NodeName} (p : ℕ) → HasTicks sc.plan → IsGoodThroughout sc name → (moment sc [] p).frame < sc.frames → (moment sc [] p).window + 1 ≡ stages_in sc.sizes
     → Place sc name p (suc (suc (suc p)))
-from-last sc name p ticks good inside h =
+from-last {sc} {name} p ticks good inside h =
     let m : Moment = moment sc [] p in
     let tail_at : Moment = moment sc [] (suc p) in
     let end_at : Moment = moment sc [] (suc (suc p)) in
@@ -222,7 +222,7 @@ from-last sc name p ticks good inside h =
     let w2 : end_at.window ≡ tail_at.window + 1 = end.window in
     let next : IsFrameLater sc [] end_at next_at = frame-later sc [] end_at (omega (arith, w, w2, h)) in
     let state : HasState sc name tail_at = has-state sc name (suc p) ticks (good-inside sc name (suc p) good (omega (arith, f, inside))) in
-    let silent : window_text sc name tail_at ≡ [] = nothing-told sc name tail_at state (omega (arith, w, h)) (past-exact tail_at.window (sync_slot_of sc.sizes) (omega (arith, w, h))) in
+    let silent : window_text sc name tail_at ≡ [] = nothing-told state (omega (arith, w, h)) (past-exact tail_at.window (sync_slot_of sc.sizes) (omega (arith, w, h))) in
     Next (next.frame ∙ ap (λ f. f + 1) (end.frame ∙ f)) next.window
     (frame-step sc name (suc (suc p)) (omega (arith, w, w2, h))
     ∙ ap (λ l. l ++ block_text sc name next_at) (window-step sc name (suc p) (omega (arith, w, h)) ∙ ap (λ l. told_up_to sc name (suc p) ++ l) silent ∙ append-nil (told_up_to sc name (suc p)) ∙ window-step sc name p (omega (arith, h)))
@@ -232,9 +232,9 @@ from-last sc name p ticks good inside h =
     past-exact n s h = ap (λ b. b && (n % 3 == 1)) (le-ltb n (3 * s) h)
 
 -- a node that has closed the window of moment `p` has its place in moment `q`
-closes-to : (sc : Scenario) (name : NodeName) (p q : ℕ) → HasTicks sc.plan → IsGoodThroughout sc name → (moment sc [] p).frame < sc.frames → (moment sc [] p).window ≤ stages_in sc.sizes
+closes-to : {sc : Scenario} {name : NodeName} (p q : ℕ) → HasTicks sc.plan → IsGoodThroughout sc name → (moment sc [] p).frame < sc.frames → (moment sc [] p).window ≤ stages_in sc.sizes
     → (q ≡ next_stage sc.sizes (moment sc [] p) p) ⊎ ((q ≡ suc p) × ((moment sc [] q).window ≡ stages_in sc.sizes)) → Place sc name p q
-closes-to sc name p q ticks good inside within (inr tail) =
+closes-to {sc} {name} p q ticks good inside within (inr tail) =
     let m : Moment = moment sc [] p in
     elim (cases_lt m.window (stages_in sc.sizes)) [
       | inl lt ↦ subst (Place sc name p) (sym tail.0) (to-window sc name p lt)
@@ -244,14 +244,14 @@ closes-to sc name p q ticks good inside within (inr tail) =
           let e : (moment sc [] (suc p)).window ≡ stages_in sc.sizes = ap (λ q. (moment sc [] q).window) (sym tail.0) ∙ tail.1 in
           absurd (omega (arith, w, e, ge))
     ]
-closes-to sc name p q ticks good inside within (inl stage) =
+closes-to {sc} {name} p q ticks good inside within (inl stage) =
     let m : Moment = moment sc [] p in
     elim (cases_lt (m.window + 1) (stages_in sc.sizes)) [
       | inl lt ↦ subst (Place sc name p) (sym (stage ∙ next-inner sc.sizes m p lt)) (to-window sc name p (omega (arith, lt)))
       | inr ge ↦ elim (cases_lt m.window (stages_in sc.sizes)) [
         | inl last ↦
             let is : q ≡ suc (suc (suc p)) = stage ∙ next-outer sc.sizes m p ge ∙ omega (arith, ge, last) in
-            subst (Place sc name p) (sym is) (from-last sc name p ticks good inside (omega (arith, ge, last)))
+            subst (Place sc name p) (sym is) (from-last p ticks good inside (omega (arith, ge, last)))
         | inr over ↦
             let is : q ≡ suc (suc p) = stage ∙ next-outer sc.sizes m p ge ∙ omega (arith, over, within) in
             subst (Place sc name p) (sym is) (from-tail sc name p (omega (arith, over, within)))
@@ -259,10 +259,10 @@ closes-to sc name p q ticks good inside within (inl stage) =
     ]
 
 -- the node is good in its place
-good-there : (sc : Scenario) (name : NodeName) (p q : ℕ) → IsGoodThroughout sc name → (moment sc [] p).frame < sc.frames → Place sc name p q
+good-there : {sc name p q : _} → IsGoodThroughout sc name → (moment sc [] p).frame < sc.frames → Place sc name p q
     → is_good_at sc (moment sc [] q) (kind_of name) (index_of name) ≡ true
-good-there sc name p q good inside (Inside same some within told) = good-inside sc name q good (omega (arith, same, inside))
-good-there sc name p q good inside (Next frame first told) =
+good-there {sc} {name} {q} good inside (Inside same some within told) = good-inside sc name q good (omega (arith, same, inside))
+good-there {sc} {name} {q} good inside (Next frame first told) =
     let z : slot_numbered sc.sizes 0 ≡ 0 = omega arith in
     ap (λ w. is_good sc (kind_of name) (index_of name) (moment sc [] q).frame (slot_numbered sc.sizes w)) first
     ∙ ap (is_good sc (kind_of name) (index_of name) (moment sc [] q).frame) z ∙ good-begin sc name (moment sc [] q).frame good (omega (arith, frame, inside))
@@ -272,31 +272,31 @@ pub record ToldThere (sc : Scenario) (name : NodeName) (p q : ℕ) (text : List 
   pub told : told_up_to sc name p ++ (text ++ epoch_lines name begins) ≡ told_up_to sc name q
   pub count : (moment sc [] p).frame + frames_with begins ≡ (moment sc [] q).frame
 
-told-there : (sc : Scenario) (name : NodeName) (p q : ℕ) (sent : Side → ℕ → ℕ → Bool) (t : ℕ) (z : Site) (text : List ℕ) → HasTicks sc.plan → text ≡ window_text sc name (moment sc [] p) → Place sc name p q
+told-there : {sc : Scenario} {name : NodeName} {p q : ℕ} {sent : Side → ℕ → ℕ → Bool} {t : ℕ} {z : Site} {text : List ℕ} → HasTicks sc.plan → text ≡ window_text sc name (moment sc [] p) → Place sc name p q
     → (goes : GoesOn sc [] sent t (kind_of name) (index_of name) q z) → StandsAt sc (kind_of name) (index_of name) q z.core goes.st goes.a
     → ToldThere sc name p q text (epoch_at sc.sizes (kind_of name) goes.st goes.a.tick)
-told-there sc name p q sent t z text ticks is (Inside same some within told) goes stands =
+told-there {sc} {name} {p} {q} {text} ticks is (Inside same some within told) goes stands =
     let me : Side = kind_of name in
     let n : ℕ = (moment sc [] q).window in
-    let first : 1 ≤ first_of sc.sizes sc.plan me goes.st n = later-begins sc.sizes sc.plan me goes.st n ticks some within in
+    let first : 1 ≤ first_of sc.sizes sc.plan me goes.st n = later-begins sc.sizes me goes.st n ticks some within in
     let from : goes.st.epoch + first_of sc.sizes sc.plan me goes.st n ≤ goes.a.tick = stands.window.at.from in
     let none : epoch_at sc.sizes me goes.st goes.a.tick ≡ None = none-begins sc.sizes me goes.st goes.a.tick (omega (arith, first, from)) in
     subst (ToldThere sc name p q text) (sym none) (record {
       told = ap (λ l. told_up_to sc name p ++ l) (append-nil text ∙ is) ∙ sym told;
       count = plus-none (moment sc [] p).frame ∙ sym same;
     })
-told-there sc name p q sent t z text ticks is (Next frame first told) goes stands =
+told-there {sc} {name} {p} {q} {z} {text} ticks is (Next frame first told) goes stands =
     let me : Side = kind_of name in
     let i : ℕ = index_of name in
     let n : Moment = moment sc [] q in
     let zero_first : first_of sc.sizes sc.plan me goes.st n.window ≡ 0 =
     ap (first_of sc.sizes sc.plan me goes.st) first ∙ first-same sc.sizes sc.plan me goes.st 0 (omega arith) ∙ none-times sc.plan.l in
     let had : z.core.had ≡ goes.st.epoch = goes.had ∙ ap (λ k. goes.st.epoch + k) zero_first ∙ plus-none goes.st.epoch in
-    let pends : PendsFirst sc [] me i q z = first-pends sc [] sent t me i q z goes.st goes.a goes.stands had in
+    let pends : PendsFirst sc [] me i q z = first-pends goes.stands had in
     let a_is : pends.a ≡ goes.a = same_Some pends.a goes.a (sym pends.ahead ∙ goes.stands.receives.pends) in
     let st_is : pends.st ≡ goes.st = same_Some pends.st goes.st (sym pends.state ∙ stands.state) in
     let at : goes.st.epoch ≡ goes.a.tick = sym (ap (λ (z : NodeState). z.epoch) st_is) ∙ sym pends.first ∙ ap (λ (a : Timed). a.tick) a_is in
-    let now : epoch_at sc.sizes me goes.st goes.a.tick ≡ Some (epoch_of sc.sizes me goes.st) = now-begins sc.sizes me goes.st goes.a.tick at in
+    let now : epoch_at sc.sizes me goes.st goes.a.tick ≡ Some (epoch_of sc.sizes me goes.st) = now-begins sc.sizes me goes.st at in
     let block : block_text sc name n ≡ epoch_lines name (Some (epoch_of sc.sizes me goes.st)) = ap (if_there (λ st. epoch_lines name (Some (epoch_of sc.sizes me st)))) stands.state in
     let its_frame : goes.st.frame ≡ (moment sc [] p).frame + 1 = stands.frame ∙ frame in
     let one : frames_with (Some (epoch_of sc.sizes me goes.st)) ≡ 1 =
@@ -311,10 +311,10 @@ told-there sc name p q sent t z text ticks is (Next frame first told) goes stand
     none-times l = omega arith
 
 -- `AfterTick` holds after a tick that closes the window
-pub after-close : (sc : Scenario) (name : NodeName) (p : ℕ) (sent : Side → ℕ → ℕ → Bool) (ports : List PortState) (s : Site) (st : NodeState) (a : Timed) (x : Act)
+pub after-close : {sc : Scenario} {name : NodeName} {p : ℕ} {sent : Side → ℕ → ℕ → Bool} {ports : List PortState} {s : Site} {st : NodeState} {a : Timed} {x : Act}
     → HasTicks sc.plan → IsGoodThroughout sc name → (moment sc [] p).frame < sc.frames → StandsAt sc (kind_of name) (index_of name) p s.core st a
     → ClosesWindow sc [] sent ports (kind_of name) (index_of name) p s st a x → AfterTick sc name p st a x (after_act sc ports (kind_of name) (index_of name) x s)
-after-close sc name p sent ports s st a x ticks good inside h closes =
+after-close {sc} {name} {p} {ports} {s} {st} {a} {x} ticks good inside h closes =
     let m : Moment = moment sc [] p in
     let me : Side = kind_of name in
     let i : ℕ = index_of name in
@@ -322,18 +322,18 @@ after-close sc name p sent ports s st a x ticks good inside h closes =
     let z : Site = after_act sc ports me i x s in
     let q : ℕ = closes.q in
     let core : z.core ≡ x.core = act-core sc ports me i x s in
-    let place : Place sc name p q = closes-to sc name p q ticks good inside h.window.window closes.place in
+    let place : Place sc name p q = closes-to p q ticks good inside h.window.window closes.place in
     let w : Window = window_in sc m me st in
     let frame : x.core.state.frame ≡ m.frame =
     ap (λ (c : Core). c.state.frame) closes.act.core
     ∙ (close-stays sc.sizes me i (kept_in sc.sizes sc.plan me i st m.window word) w.slot w.stage w.first _).frame
     ∙ (keeping-stays sc.sizes me i st w.slot w.stage word).frame ∙ h.frame in
     elim closes.goes [
-      | inr stops ↦ absurd (true-false (sym (good-there sc name p q good inside place) ∙ stops.not_good))
+      | inr stops ↦ absurd (true-false (sym (good-there good inside place) ∙ stops.not_good))
       | inl goes ↦
-          let now : StandsAt sc me i q z.core goes.st goes.a = stands-at sc sent a.time me i q z goes.st goes.a ticks goes.stands in
+          let now : StandsAt sc me i q z.core goes.st goes.a = stands-at ticks goes.stands in
           let told : ToldThere sc name p q (delivery_lines name (option_and_then (λ c. c.delivered) x.closed)) (epoch_at sc.sizes me goes.st goes.a.tick) =
-          told-there sc name p q sent a.time z _ ticks (delivered-text sc name p sent ports s st a x h.state h.frame closes) place goes now in
+          told-there ticks (delivered-text name h.state h.frame closes) place goes now in
           record {
             q = q;
             then_st = goes.st;
@@ -341,7 +341,7 @@ after-close sc name p sent ports s st a x ticks good inside h closes =
             stands = now;
             ahead = goes.stands.receives.pends;
             frame = ap (λ (c : Core). c.state.frame) core ∙ frame;
-            epoch = closes.act.epoch ∙ begin-stays sc.sizes me st (state_in sc.sizes sc.plan me i st m.window word a.tick) a.tick (in-stays sc.sizes sc.plan me i st m.window word a.tick);
+            epoch = closes.act.epoch ∙ begin-stays sc.sizes me a.tick (in-stays sc.sizes sc.plan me i st m.window word a.tick);
             told = told.told;
             count = told.count;
           }
@@ -351,11 +351,11 @@ after-close sc name p sent ports s st a x ticks good inside h closes =
     true-false e = cc
 
 -- a frame's first tick is not the last of its window
-pub first-not-last : (sc : Scenario) (me : Side) (p : ℕ) (st : NodeState) (a : Timed) → IsLawful sc → (moment sc [] p).window ≡ 0 → st.epoch ≡ a.tick
+pub first-not-last : {sc : _} (me : Side) (p : ℕ) (st : NodeState) (a : Timed) → IsLawful sc → (moment sc [] p).window ≡ 0 → st.epoch ≡ a.tick
     → a.tick ≡ last_tick sc (moment sc [] p) me st → ⊥
-first-not-last sc me p st a lawful first now last =
+first-not-last {sc} me p st a lawful first now last =
     let m : Moment = moment sc [] p in
-    let room : HasRoom sc.plan = has-room sc lawful in
+    let room : HasRoom sc.plan = has-room lawful in
     let at : last_of sc.sizes sc.plan me st m.window ≡ 0 * sc.plan.l + sc.plan.l - 1 =
     ap (last_of sc.sizes sc.plan me st) first ∙ last-same sc.sizes sc.plan me st 0 (omega arith) in
     let long : sc.plan.h < sc.plan.l = room.inside.in_l in

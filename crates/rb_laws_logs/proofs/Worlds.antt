@@ -2,7 +2,7 @@
 -- it has no breach: all nodes stand in the rounds, and so does one that takes a tick.
 use Rattle.std.proofs.{Common.{◌≡◌, ℕ, zero, suc, ◌<◌, ◌≤◌, ◌⊎◌, Bool, true, false, List, [], ◌∷◌, refl, ap, sym, ◌∙◌, subst, inl, inr, Some, None, slice_get}, lemmas.Option.same_Some}
 use Rattle.rb_base.specs.{Nodes.Side, Nodes.Side.Biu}
-use Rattle.rb_rules.specs.{Book.of_kind, Goodness.Scenario, Hearing.port_at, Lawful.IsLawful, Moments.IsRunning, NodeState.NodeState, Ports.HandIn, Rounds.moment, WorldStep.{Due, Site, Timed, World, due_of, first_world, go_on, needs_no_event, pass_and_tick, settle}, WorldStep.Pending.Tick, WorldStep.Way.ByItself}
+use Rattle.rb_rules.specs.{Book.of_kind, Goodness.Scenario, Hearing.port_at, Lawful.IsLawful, Moments.IsRunning, NodeState.NodeState, Ports.HandIn, Rounds.moment, WorldStep.{Due, Timed, World, due_of, first_world, go_on, needs_no_event, pass_and_tick, settle}, WorldStep.Pending.Tick, WorldStep.Way.ByItself}
 use Rattle.rb_laws_events.proofs.{BreakNodes.BreaksAt, Behind.WaitsAt, DueEvents.IsDue, EventsHold.{any, nodes_at}, EveryWorld.{AnyWorld, InRun, due-going}, Invariant.{last_tick, next_stage}, NodeActs.HasRoom, OneEvent.{ClosesEarlier, MayHappen, WorldInRounds}, OneTake.{StandsInRounds, are-in-time, closes-earlier, settle-hands, take-hands, world-waits}, PortMoments.has-word, SameHeard.Every, TickRooms.has-room, UpToThere.{Reaches, next-up-to, reach, reaches-first}, WorldEvents.{AfterTick, tick-event}, WorldNodes.events-due, WorldStands.{AllPend, IsUp, IsDown, sent_by}}
 use Rattle.rb_laws_logs.specs.{Given.{first_run, first_step, step_with}, Laws.EndsWithoutBreach}
 use Rattle.rb_laws_logs.proofs.NoBreach.{breaks-not, choices_in, run-is}
@@ -28,20 +28,20 @@ no-hands sc (suc n) = by (due_of sc (first_run sc n)) ∙ no-hands sc n
 
 -- In the run.
 
-in-run : (sc : Scenario) (w : World) → IsLawful sc → EndsWithoutBreach sc → w.hands ≡ [] → AnyWorld sc (nodes_at sc) w → InRun sc w
-in-run sc w lawful none empty (inl run) = run
-in-run sc w lawful none empty (inr (inl off)) = absurd (breaks-not sc lawful none off.stands.b off.stands.q (subst (λ hs. BreaksAt sc hs off.stands.b off.stands.q) empty off.stands.off))
-in-run sc w lawful none empty (inr (inr over)) = absurd (breaks-not sc lawful none over.b over.q (subst (λ hs. BreaksAt sc hs over.b over.q) empty over.off))
+in-run : {sc : Scenario} {w : World} → IsLawful sc → EndsWithoutBreach sc → w.hands ≡ [] → AnyWorld sc (nodes_at sc) w → InRun sc w
+in-run lawful none empty (inl run) = run
+in-run {sc} lawful none empty (inr (inl off)) = absurd (breaks-not lawful none (subst (λ hs. BreaksAt sc hs off.stands.b off.stands.q) empty off.stands.off))
+in-run {sc} lawful none empty (inr (inr over)) = absurd (breaks-not lawful none (subst (λ hs. BreaksAt sc hs over.b over.q) empty over.off))
 
-pub worlds-in-run : (sc : Scenario) → IsLawful sc → EndsWithoutBreach sc → (n : ℕ) → InRun sc (first_run sc n)
-worlds-in-run sc lawful none n =
-    in-run sc (first_run sc n) lawful none (no-hands sc n) (subst (AnyWorld sc (nodes_at sc)) (sym (run-is sc n)) (any sc lawful (choices_in sc n)))
+pub worlds-in-run : {sc : _} → IsLawful sc → EndsWithoutBreach sc → (n : ℕ) → InRun sc (first_run sc n)
+worlds-in-run {sc} lawful none n =
+    in-run lawful none (no-hands sc n) (subst (AnyWorld sc (nodes_at sc)) (sym (run-is sc n)) (any lawful (choices_in sc n)))
 
 -- A due event.
 
-pub first-due : (sc : Scenario) (n : ℕ) (d : Due) → slice_get (due_of sc (first_run sc n)) 0 ≡ Some d → IsDue (first_run sc n) d
-first-due sc n d e =
-    subst (λ w. IsDue w d) (sym (run-is sc n)) (events-due sc (choices_in sc n) 0 d (ap (λ w. slice_get (due_of sc w) 0) (sym (run-is sc n)) ∙ e))
+pub first-due : (sc : Scenario) (n : ℕ) {d : _} → slice_get (due_of sc (first_run sc n)) 0 ≡ Some d → IsDue (first_run sc n) d
+first-due sc n {d} e =
+    subst (λ w. IsDue w d) (sym (run-is sc n)) (events-due sc (choices_in sc n) 0 (ap (λ w. slice_get (due_of sc w) 0) (sym (run-is sc n)) ∙ e))
 
 -- event `d` may happen, and closes no window in which other nodes are not in time
 pub record MayTake (sc : Scenario) (w : World) (h : StandsInRounds sc w) (d : Due) : Type 0 where
@@ -49,15 +49,15 @@ pub record MayTake (sc : Scenario) (w : World) (h : StandsInRounds sc w) (d : Du
   pub may : MayHappen sc h.at w n
   pub early : ClosesEarlier sc w.hands h.at n d.side d.node d.pending
 
-pub may-take : (sc : Scenario) (w : World) (h : StandsInRounds sc w) (d : Due) → IsLawful sc → EndsWithoutBreach sc → w.hands ≡ [] → slice_get (due_of sc w) 0 ≡ Some d → IsDue w d
+pub may-take : {sc w : _} (h : StandsInRounds sc w) {d : _} → IsLawful sc → EndsWithoutBreach sc → w.hands ≡ [] → slice_get (due_of sc w) 0 ≡ Some d → IsDue w d
     → MayTake sc w h d
-may-take sc w h d lawful none empty first due = from-where waits.1.from
+may-take {sc} {w} h {d} lawful none empty first due = from-where waits.1.from
   where
     open_still : (w.book.ended ≡ false) × (needs_no_event sc w.book.upcoming ≡ false)
-    open_still = due-going sc w 0 d first
+    open_still = due-going sc w 0 first
 
     waits : (n : ℕ) × WaitsAt sc w.hands h.at w.sites w.book n
-    waits = world-waits sc h.now h.at w h.stands open_still.0 open_still.1
+    waits = world-waits h.stands open_still.0 open_still.1
 
     n : ℕ
     n = waits.0
@@ -66,25 +66,25 @@ may-take sc w h d lawful none empty first due = from-where waits.1.from
     reached r = record {
       n = n;
       may = record { stage = waits.1.stage; bound = waits.1.bound; within = waits.1.within; up_to = r.up_to };
-      early = closes-earlier sc h.now h.at w n d lawful h.stands waits.1 r.up_to due;
+      early = closes-earlier lawful h.stands waits.1 r.up_to due;
     }
 
     from-where : (n ≡ 0) ⊎ ((g : ℕ) × (IsRunning (moment sc w.hands g) × ((n ≡ next_stage sc.sizes (moment sc w.hands g) g) × (w.book ≡ (moment sc w.hands g).book)))) → MayTake sc w h d
-    from-where (inl at_first) = reached (reaches-first sc w.hands lawful n waits.1.stage at_first)
-    from-where (inr from) = elim (reach sc w.hands lawful n waits.1.stage from.0 from.1.0 from.1.1.0) [
+    from-where (inl at_first) = reached (reaches-first w.hands lawful waits.1.stage at_first)
+    from-where (inr from) = elim (reach w.hands lawful waits.1.stage from.0 from.1.0 from.1.1.0) [
       | inl r ↦ reached r
-      | inr b ↦ absurd (breaks-not sc lawful none from.0 b.0 (subst (λ hs. BreaksAt sc hs from.0 b.0) empty b.1))
+      | inr b ↦ absurd (breaks-not lawful none (subst (λ hs. BreaksAt sc hs from.0 b.0) empty b.1))
     ]
 
 -- after a tick the node stands in the rounds
-pub tick-done : (sc : Scenario) (w : World) (h : StandsInRounds sc w) (n : ℕ) (me : Side) (i k t : ℕ) (s : Site) (a : Timed) → IsLawful sc → MayHappen sc h.at w n
+pub tick-done : {sc w : _} (h : StandsInRounds sc w) {n me i k t s a : _} → IsLawful sc → MayHappen sc h.at w n
     → ClosesEarlier sc w.hands h.at n me i (Tick k) → slice_get (of_kind me w.sites) i ≡ Some s → s.ahead ≡ Some a → a.tick ≡ k → a.time ≡ t
     → Every (λ c. t < c.time) s.coming → AllPend t w.sites → AfterTick sc w.hands h.at w.sites w.ports me i s a (pass_and_tick sc w.ports me i a.tick s.core)
-tick-done sc w h n me i k t s a lawful may early there pend tick time alone first =
+tick-done {sc} {w} h {n} {me} {i} {t} {s} {a} lawful may early there pend tick time alone first =
     let hands : List HandIn = w.hands in
     let at : Side → ℕ → ℕ = h.at in
     let now : ℕ = h.now in
-    let room : HasRoom sc.plan = has-room sc lawful in
+    let room : HasRoom sc.plan = has-room lawful in
     let world : WorldInRounds sc now at w = h.stands in
     let runs : s.runs ≡ true = is-up s.runs refl in
     let up : IsUp sc hands (sent_by sc hands at w.sites) now me i (at me i) s = world.sites.up me i s there runs in
@@ -94,7 +94,7 @@ tick-done sc w h n me i k t s a lawful may early there pend tick time alone firs
     λ st e last. early st e (sym tick ∙ last) in
     let port : me ≡ Biu → port_at sc w.ports i ≡ port_at sc (moment sc hands (at me i)).ports i =
     λ e. world.ports i s (ap (λ y. slice_get (of_kind y w.sites) i) (sym e) ∙ there) runs ∙ ap (λ y. port_at sc (moment sc hands (at y i)).ports i) (sym e) in
-    tick-event sc hands now at w.sites w.ports me i s a lawful room (are-in-time sc now at w n world may) world.passed world.sites (record {
+    tick-event lawful room (are-in-time world may) world.passed world.sites (record {
       there = there;
       runs = runs;
       pend = pend;
@@ -102,7 +102,7 @@ tick-done sc w h n me i k t s a lawful may early there pend tick time alone firs
       first = subst (λ t. AllPend t w.sites) (sym time) first;
       later = later;
       word = λ st e. has-word sc w.ports (moment sc hands (at me i)) me i st port;
-      next = λ st e last. next-up-to sc hands n (at me i) may.up_to may.stage (closes_early st e last) up.stands.stands.window;
+      next = λ st e last. next-up-to (at me i) may.up_to may.stage (closes_early st e last) up.stands.stands.window;
     })
   where
     some-none : None ≡ Some a → ⊥

@@ -24,8 +24,8 @@ pub record Keeps (q frame : ℕ) (s : Standing) (Against : ℕ → ℕ → Type 
   pub trusted : (j : ℕ) → Against j frame → has s.trusted j ≡ true
   pub past : (j f : ℕ) → Against j f → f ≤ frame
 
-pub follows : (q frame : ℕ) (s : Standing) (Against : ℕ → ℕ → Type 0) → Keeps q frame s Against → FollowsEvidence q frame s Against
-follows q frame s Against k = record {
+pub follows : {q frame s : _} (Against : ℕ → ℕ → Type 0) → Keeps q frame s Against → FollowsEvidence q frame s Against
+follows {q} {frame} Against k = record {
   direct = λ j below. (
     λ h. let is : IsNewest q frame (Against j) (k.newest j) = k.is j below h in record { f = k.newest j; is_of = is.is_of; lasts = is.lasts },
     λ some. k.accused j some.f below some.is_of some.lasts,
@@ -64,9 +64,9 @@ first-keeps q count Against none = record {
   past = λ j f a. absurd (none j f a);
 }
 
-pub same-keeps : (q frame : ℕ) (s : Standing) (Before After : ℕ → ℕ → Type 0) → ((j f : ℕ) → Before j f → After j f) → ((j f : ℕ) → After j f → Before j f)
+pub same-keeps : {q frame s : _} (Before After : ℕ → ℕ → Type 0) → ((j f : ℕ) → Before j f → After j f) → ((j f : ℕ) → After j f → Before j f)
     → Keeps q frame s Before → Keeps q frame s After
-same-keeps q frame s Before After on back k = record {
+same-keeps {q} {frame} Before After on back k = record {
   newest = k.newest;
   says = k.says;
   is = λ j below h.
@@ -87,10 +87,10 @@ pub record Adds (evidence : ℕ → Bool) (frame : ℕ) (Before After : ℕ → 
   pub added : (j : ℕ) → evidence j ≡ true → After j frame
   pub only : (j f : ℕ) → After j f → Before j f ⊎ ((f ≡ frame) × (evidence j ≡ true))
 
-pub window-keeps : (q frame : ℕ) (s : Standing) (evidence : ℕ → Bool) (mismatch : ℕ) (Before After : ℕ → ℕ → Type 0)
+pub window-keeps : {q frame : ℕ} {s : Standing} {evidence : ℕ → Bool} (mismatch : ℕ) (Before After : ℕ → ℕ → Type 0)
     → ((j : ℕ) → evidence j ≡ true → has s.trusted j ≡ true) → Adds evidence frame Before After → Keeps q frame s Before
     → Keeps q frame (record (with_evidence evidence s) { mismatch = mismatch }) After
-window-keeps q frame s evidence mismatch Before After against adds k = record {
+window-keeps {q} {frame} {s} {evidence} mismatch Before After against adds k = record {
   newest = newest_with evidence frame k.newest;
   says = λ j below h.
       let of : StandsForNewest (with_evidence evidence s) frame j (newest_with evidence frame k.newest j) =
@@ -138,9 +138,9 @@ window-keeps q frame s evidence mismatch Before After against adds k = record {
 
 -- The end of a frame.
 
-pub turn-keeps : (q frame trusted : ℕ) (s : Standing) (Against : ℕ → ℕ → Type 0) → q ≤ 4096 → Keeps q frame s Against
+pub turn-keeps : {q frame : ℕ} (trusted : ℕ) {s : _} (Against : ℕ → ℕ → Type 0) → q ≤ 4096 → Keeps q frame s Against
     → Keeps q (frame + 1) (standing_at_end q (record s { trusted = trusted })) Against
-turn-keeps q frame trusted s Against most k = record {
+turn-keeps {q} {frame} trusted {s} Against most k = record {
   newest = k.newest;
   says = ends.newest_stays;
   is = λ j below h.

@@ -64,9 +64,9 @@ least f p n short (suc m) rest from d each fits =
 -- Owners.
 
 -- a trusted BIU that asks for `request` slots owns at least as many, up to an equal share
-pub owners-share : (sizes : Sizes) (trusted : ℕ) (requests : List Heard) (i request : ℕ) → 1 ≤ sizes.bius → i < sizes.bius → has trusted i ≡ true
+pub owners-share : (sizes : Sizes) (trusted : ℕ) (requests : List Heard) (i : ℕ) {request : ℕ} → 1 ≤ sizes.bius → i < sizes.bius → has trusted i ≡ true
     → request_in (get_or requests i Fault) ≡ request → min request (sizes.data_slots / sizes.bius) ≤ slots_of i (owners_of sizes trusted requests)
-owners-share sizes trusted requests i request some inside trust asks =
+owners-share sizes trusted requests i {request} some inside trust asks =
     let m : ℕ = min request (sizes.data_slots / sizes.bius) in
     let asked : m ≤ request = min-le_left request (sizes.data_slots / sizes.bius) in
     let shared : m ≤ sizes.data_slots / sizes.bius = min-le_right request (sizes.data_slots / sizes.bius) in

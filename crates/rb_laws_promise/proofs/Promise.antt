@@ -4,4 +4,4 @@ use Rattle.rb_laws_events.proofs.NodesAreTheBus.{keeps-time}
 use Rattle.rb_laws_promise.specs.Laws.{ThePromiseIsKept}
 
 pub promise : ThePromiseIsKept
-promise sc hands law = keeps_the_promise sc hands law (keeps-time sc hands law)
+promise sc hands law = keeps_the_promise sc hands law (keeps-time hands law)

@@ -3,7 +3,7 @@
 use Rattle.std.proofs.{Common.{◌≡◌, ℕ, zero, suc, ◌+◌, ◌*◌, ◌<◌, ◌≤◌, ◌==◌, nat_lt, Bool, true, false, inl, inr, List, [], ◌∷◌, ◌++◌, length, get_or, if◌then◌else◌, refl, sym, ◌∙◌, ap, subst, arith}, lemmas.Bool.{cases_lt, cases_order, ltb-true}, lemmas.Bool.Decides.nat_tests, lemmas.List.length-append, Math.ListN.get_or-append, Math.Nat.mul-le-mul_right, Math.Seq.get_or-append_seam}
 use Rattle.rb_base.specs.{Nodes.has, Nodes.Side.Biu, Sizes.sync_slot_of, declared.values.Heard.Heard, declared.values.Heard.TheVariants.{Word, Fault}}
 use Rattle.rb_base.proofs.Plain.{eq_self, times-more}
-use Rattle.rb_rules.specs.{declared.role.Role.TheVariants.Schedule, AbstractBus.{AbstractBus, FrameStep, IsRun, IsStep, MayHave, SlotStep}, Goodness.{Scenario, is_good}, Lawful.IsLawful, Moments.{IsComplete, offered_in}, Owners.{owners_of, request_in}, Ports.HandIn, Slots.{role_of, sender_in}, Slots.Sender.{Nobody, Node}, StandsFor.{StandsFor, steps_to}}
+use Rattle.rb_rules.specs.{declared.role.Role.TheVariants.Schedule, AbstractBus.{AbstractBus, FrameStep, IsRun, IsStep, MayHave, SlotStep}, Goodness.{Scenario, is_good}, Lawful.IsLawful, Moments.{IsComplete, offered_in}, Owners.{owners_of, request_in}, Slots.{role_of, sender_in}, Slots.Sender.{Nobody, Node}, StandsFor.{StandsFor, steps_to}}
 use Rattle.rb_rules.proofs.Slots.{schedule_role}
 use Rattle.rb_laws_agreement.proofs.Goodnesses.{good_counts, good_earlier}
 use Rattle.rb_laws_events.proofs.NodesAreTheBus.{stands-for}
@@ -20,8 +20,8 @@ record IsAt (sc : Scenario) (n : ℕ) (b : AbstractBus) : Type 0 where
   within : b.slot ≤ sync_slot_of sc.sizes
   values : length b.values ≡ b.slot
 
-at-next : (sc : Scenario) (offered : ℕ → ℕ → ℕ → ℕ) (n : ℕ) (b c : AbstractBus) → IsAt sc n b → IsStep sc offered b c → IsAt sc (suc n) c
-at-next sc offered n b c here step = by (nat_lt b.slot (sync_slot_of sc.sizes)) refl step
+at-next : {sc : _} (offered : ℕ → ℕ → ℕ → ℕ) {n b c : _} → IsAt sc n b → IsStep sc offered b c → IsAt sc (suc n) c
+at-next {sc} offered {n} {b} {c} here step = by (nat_lt b.slot (sync_slot_of sc.sizes)) refl step
   where
     size : ℕ
     size = sync_slot_of sc.sizes + 1
@@ -47,13 +47,13 @@ at-next sc offered n b c here step = by (nat_lt b.slot (sync_slot_of sc.sizes)) 
           values = refl;
         })
 
-at-each : (sc : Scenario) (offered : ℕ → ℕ → ℕ → ℕ) (steps : ℕ) (bus : ℕ → AbstractBus) → IsRun sc offered steps bus → (n : ℕ) → n ≤ steps → IsAt sc n (bus n)
-at-each sc offered steps bus run zero le = subst (IsAt sc 0) (sym run.first) (record { place = start (sync_slot_of sc.sizes + 1); within = omega arith; values = refl })
+at-each : {sc offered steps bus : _} → IsRun sc offered steps bus → (n : ℕ) → n ≤ steps → IsAt sc n (bus n)
+at-each {sc} run zero le = subst (IsAt sc 0) (sym run.first) (record { place = start (sync_slot_of sc.sizes + 1); within = omega arith; values = refl })
   where
     start : (k : ℕ) → 0 ≡ 0 * k + 0
     start k = omega arith
-at-each sc offered steps bus run (suc n) le =
-    at-next sc offered n (bus n) (bus (suc n)) (at-each sc offered steps bus run n (omega (arith, le))) (run.each_step n (omega (arith, le)))
+at-each {offered} run (suc n) le =
+    at-next offered (at-each run n (omega (arith, le))) (run.each_step n (omega (arith, le)))
 
 -- two places with one number of steps are one place
 apart : (size f g x y : ℕ) → f < g → x < size → f * size + x ≡ g * size + y → ⊥
@@ -77,8 +77,8 @@ record IsHere (frame slot : ℕ) (b : AbstractBus) : Type 0 where
   slot_is : b.slot ≡ slot
   values : length b.values ≡ slot
 
-here-at : (sc : Scenario) (frame slot : ℕ) (b : AbstractBus) → slot ≤ sync_slot_of sc.sizes → IsAt sc (steps_to sc.sizes frame slot) b → IsHere frame slot b
-here-at sc frame slot b le at =
+here-at : {sc : Scenario} (frame slot : ℕ) {b : AbstractBus} → slot ≤ sync_slot_of sc.sizes → IsAt sc (steps_to sc.sizes frame slot) b → IsHere frame slot b
+here-at {sc} frame slot {b} le at =
     let size : ℕ = sync_slot_of sc.sizes + 1 in
     let place : frame * size + slot ≡ b.frame * size + b.slot = at.place in
     let within : b.slot ≤ sync_slot_of sc.sizes = at.within in
@@ -90,10 +90,10 @@ here-at sc frame slot b le at =
 -- A slot step.
 
 -- the value of its own schedule slot is the request of a good BIU that is trusted
-request-is : (sc : Scenario) (b : AbstractBus) (offered : ℕ → ℕ) (value : Heard) (i : ℕ) → b.slot ≡ i → i < sc.sizes.bius → has b.bius i ≡ true
+request-is : (sc : Scenario) (b : AbstractBus) (offered : ℕ → ℕ) {value i : _} → b.slot ≡ i → i < sc.sizes.bius → has b.bius i ≡ true
     → is_good sc Biu i b.frame b.slot ≡ true → MayHave sc b offered (role_of sc.sizes b.slot) (sender_in b.bius b.rmus b.owners (role_of sc.sizes b.slot)) value
     → value ≡ Word (get_or sc.requests i 0)
-request-is sc b offered value i here inside trust good may =
+request-is sc b offered {value} {i} here inside trust good may =
     let role : role_of sc.sizes b.slot ≡ Schedule i = ap (role_of sc.sizes) here ∙ schedule_role sc.sizes i inside in
     by (has b.bius i) trust (subst (λ r. MayHave sc b offered r (sender_in b.bius b.rmus b.owners r) value) role may)
   where
@@ -108,9 +108,9 @@ record HasShare (sc : Scenario) (i slot : ℕ) (b : AbstractBus) : Type 0 where
   asked : i < slot → get_or b.values i Fault ≡ Word (get_or sc.requests i 0)
   owns : sc.sizes.bius ≤ slot → share_of sc i ≤ slots_of i b.owners
 
-share-next : (sc : Scenario) (offered : ℕ → ℕ) (value : Heard) (i frame slot : ℕ) (b c : AbstractBus) → 1 ≤ sc.sizes.bius → i < sc.sizes.bius → IsHere frame slot b
+share-next : {sc : Scenario} {offered : ℕ → ℕ} {value : Heard} {i frame slot : ℕ} {b c : AbstractBus} → 1 ≤ sc.sizes.bius → i < sc.sizes.bius → IsHere frame slot b
     → has b.bius i ≡ true → is_good sc Biu i frame slot ≡ true → SlotStep sc offered value b c → HasShare sc i slot b → HasShare sc i (suc slot) c
-share-next sc offered value i frame slot b c some inside here trust good step has-share =
+share-next {sc} {offered} {value} {i} {frame} {slot} {b} some inside here trust good step has-share =
     subst (HasShare sc i (suc slot)) (sym step.after_is) (record { asked = asked; owns = owns })
   where
     values : List Heard
@@ -126,7 +126,7 @@ share-next sc offered value i frame slot b c some inside here trust good step ha
               let same : i ≡ slot = omega (arith, below, more) in
               ap (λ k. get_or values k Fault) (same ∙ sym here.values)
               ∙ get_or-append_seam b.values value [] Fault
-              ∙ request-is sc b offered value i (here.slot_is ∙ sym same) inside trust
+              ∙ request-is sc b offered (here.slot_is ∙ sym same) inside trust
               (ap (λ f. is_good sc Biu i f b.slot) here.frame_is ∙ ap (is_good sc Biu i frame) here.slot_is ∙ good) step.may_have
         ]
 
@@ -137,30 +137,30 @@ share-next sc offered value i frame slot b c some inside here trust good step ha
               let at : b.slot ≡ slot = here.slot_is in
               let e : b.slot + 1 ≡ sc.sizes.bius = omega (arith, late, last, at) in
               subst (λ t. share_of sc i ≤ slots_of i (if t then owners_of sc.sizes b.bius values else b.owners)) (sym (ap (λ k. k == sc.sizes.bius) e ∙ eq_self sc.sizes.bius))
-              (owners-share sc.sizes b.bius values i (get_or sc.requests i 0) some inside trust (ap request_in (asked (omega (arith, late, inside)))))
+              (owners-share sc.sizes b.bius values i some inside trust (ap request_in (asked (omega (arith, late, inside)))))
           | inr past ↦
               let at : b.slot ≡ slot = here.slot_is in
               let other : (b.slot + 1 == sc.sizes.bius) ≡ false = grind (arith, nat_tests) in
               subst (λ t. share_of sc i ≤ slots_of i (if t then owners_of sc.sizes b.bius values else b.owners)) (sym other) (has-share.owns past)
         ]
 
-share-at : (sc : Scenario) (hands : List HandIn) → IsLawful sc → (s : StandsFor sc hands) (frame last : ℕ) → last ≤ sync_slot_of sc.sizes → IsComplete sc hands frame last
+share-at : {sc hands : _} → IsLawful sc → (s : StandsFor sc hands) (frame : ℕ) {last : ℕ} → last ≤ sync_slot_of sc.sizes → IsComplete sc hands frame last
     → (i : ℕ) → is_good sc Biu i frame last ≡ true → (slot : ℕ) → slot ≤ last → HasShare sc i slot (s.bus (steps_to sc.sizes frame slot))
-share-at sc hands law s frame last le complete i good zero below =
+share-at {sc} law s frame le complete i good zero below =
     let some : 1 ≤ sc.sizes.bius = law.sizes.some_biu in
     record { asked = λ less. absurd (omega (arith, less)); owns = λ none. absurd (omega (arith, none, some)) }
-share-at sc hands law s frame last le complete i good (suc slot) below =
+share-at {sc} {hands} law s frame {last} le complete i good (suc slot) below =
     let start : ℕ = frame * (sync_slot_of sc.sizes + 1) in
     let n : ℕ = steps_to sc.sizes frame slot in
     let run : IsRun sc (offered_in sc hands) (steps_to sc.sizes frame last + 1) s.bus = s.run_to_slot frame last le complete in
-    let here : IsHere frame slot (s.bus n) = here-at sc frame slot (s.bus n) (omega (arith, below, le)) (at-each sc (offered_in sc hands) _ s.bus run n (fits start slot last below)) in
+    let here : IsHere frame slot (s.bus n) = here-at frame slot (omega (arith, below, le)) (at-each run n (fits start slot last below)) in
     let at : (s.bus n).slot ≡ slot = here.slot_is in
     let earlier : is_good sc Biu i frame slot ≡ true = good_earlier sc Biu i frame slot last (omega (arith, below)) good in
     let inside : i < sc.sizes.bius = good_counts sc Biu i frame slot earlier in
     let trust : has (s.bus n).bius i ≡ true =
-    (s.slots frame slot (omega (arith, below, le)) (slot-earlier sc hands frame slot last (omega (arith, below)) complete)).good_are_trusted Biu i earlier in
+    (s.slots frame slot (omega (arith, below, le)) (slot-earlier sc hands frame slot (omega (arith, below)) complete)).good_are_trusted Biu i earlier in
     subst (λ k. HasShare sc i (suc slot) (s.bus k)) (number start slot)
-    (by (nat_lt (s.bus n).slot (sync_slot_of sc.sizes)) (omega (arith, at, below, le)) here trust earlier inside (share-at sc hands law s frame last le complete i good slot (omega (arith, below)))
+    (by (nat_lt (s.bus n).slot (sync_slot_of sc.sizes)) (omega (arith, at, below, le)) here trust earlier inside (share-at law s frame le complete i good slot (omega (arith, below)))
     refl (run.each_step n (within start slot last below)))
   where
     fits : (a slot last : ℕ) → suc slot ≤ last → a + slot ≤ a + last + 1
@@ -182,7 +182,7 @@ share-at sc hands law s frame last le complete i good (suc slot) below =
           | false ↦ FrameStep sc (s.bus (steps_to sc.sizes frame slot)) (s.bus (suc (steps_to sc.sizes frame slot)))
         ] → HasShare sc i (suc slot) (s.bus (suc (steps_to sc.sizes frame slot)))
     by true less here trust good inside share e step =
-        share-next sc _ step.0 i frame slot (s.bus (steps_to sc.sizes frame slot)) (s.bus (suc (steps_to sc.sizes frame slot))) law.sizes.some_biu inside here trust good step.1 share
+        share-next law.sizes.some_biu inside here trust good step.1 share
     by false less here trust good inside share e step = absurd (grind (arith, nat_tests))
 
 -- The law.
@@ -192,7 +192,7 @@ shares-kept sc hands law frame slot late le complete me j st before i good =
     let s : StandsFor sc hands = stands-for sc hands law in
     let n : ℕ = steps_to sc.sizes frame slot in
     let run : IsRun sc (offered_in sc hands) (n + 1) s.bus = s.run_to_slot frame slot le complete in
-    let here : IsHere frame slot (s.bus n) = here-at sc frame slot (s.bus n) le (at-each sc (offered_in sc hands) (n + 1) s.bus run n (omega arith)) in
+    let here : IsHere frame slot (s.bus n) = here-at frame slot le (at-each run n (omega arith)) in
     let at : (s.bus n).slot ≡ slot = here.slot_is in
     let owners : st.owners ≡ (s.bus n).owners = ((s.slots frame slot le complete).before me j st before).owners (omega (arith, late, at)) in
-    subst (λ o. share_of sc i ≤ slots_of i o) (sym owners) ((share-at sc hands law s frame slot le complete i good slot (omega arith)).owns late)
+    subst (λ o. share_of sc i ≤ slots_of i o) (sym owners) ((share-at law s frame le complete i good slot (omega arith)).owns late)

@@ -11,8 +11,8 @@ use mathlib.Core.Path.{fun_ext}
 -- Any function.
 
 -- nothing that is lawful speaks of what faulty nodes do
-lawful-behaving : (sc : Scenario) (b : Behavior) → IsLawful sc → IsLawful (behaving sc b)
-lawful-behaving sc b l = record {
+lawful-behaving : {sc : _} (b : Behavior) → IsLawful sc → IsLawful (behaving sc b)
+lawful-behaving {sc} b l = record {
   sizes = l.sizes;
   plan = l.plan;
   version = l.version;
@@ -39,7 +39,7 @@ lawful-behaving sc b l = record {
     onset (Some at) is = is
 
 pub any-behavior : AnyBehaviorKeepsThePromise
-any-behavior sc hands law b = kept (behaving sc b) hands (lawful-behaving sc b law)
+any-behavior sc hands law b = kept (behaving sc b) hands (lawful-behaving b law)
 
 -- A step with one behavior and with another.
 
@@ -192,12 +192,12 @@ abbrev chosen_by : Scenario → Strategy → List HandIn → Behavior
 chosen_by sc plays hands me i span j = plays (moment_against sc plays hands (number_of sc.sizes span.place)) me i span j
 
 -- a good node knows which window of which frame it is in
-chosen-alike : (sc : Scenario) (plays : Strategy) (hands : List HandIn) (n : ℕ) (m : Moment) → IsLawful sc → moment (behaving sc (chosen_by sc plays hands)) hands n ≡ m → moment_against sc plays hands n ≡ m
+chosen-alike : {sc : _} (plays : Strategy) (hands : List HandIn) (n : ℕ) {m : _} → IsLawful sc → moment (behaving sc (chosen_by sc plays hands)) hands n ≡ m → moment_against sc plays hands n ≡ m
     → m.window < windows_in sc.sizes → AreAlikeIn sc (chosen_by sc plays hands) (plays m) m
-chosen-alike sc plays hands n m law is against inside me i st there good j =
+chosen-alike {sc} plays hands n {m} law is against inside me i st there good j =
     let b : Behavior = chosen_by sc plays hands in
     let w : Window = window_in sc m me st in
-    let stand : AllStand (behaving sc b) m = subst (AllStand (behaving sc b)) is (moments-stand (behaving sc b) hands n (has_ticks sc law)) in
+    let stand : AllStand (behaving sc b) m = subst (AllStand (behaving sc b)) is (moments-stand (behaving sc b) hands n (has_ticks law)) in
     let here : is_good (behaving sc b) me i m.frame (slot_numbered sc.sizes m.window) ≡ true =
     good-is sc b me i m.frame (slot_numbered sc.sizes m.window) ∙ ap (is_good sc me i m.frame) (sym (slot-is sc.sizes sc.plan me st m.window)) ∙ good in
     let frame : st.frame ≡ m.frame = (stand.stands me i st there here).frame in
@@ -210,18 +210,18 @@ chosen-alike sc plays hands n m law is against inside me i st there good j =
     at : (all slot stage window f g : ℕ) → f ≡ g → n ≡ g * all + window → 3 * slot + stage ≡ window + 1 → f * all + 3 * slot + stage - 1 ≡ n
     at all slot stage window f g same number place = let e : f * all ≡ g * all = ap (λ k. k * all) same in omega (arith, e, number, place)
 
-moments-same : (sc : Scenario) (plays : Strategy) (hands : List HandIn) → IsLawful sc → (n : ℕ) → moment (behaving sc (chosen_by sc plays hands)) hands n ≡ moment_against sc plays hands n
+moments-same : {sc : _} (plays : Strategy) (hands : List HandIn) → IsLawful sc → (n : ℕ) → moment (behaving sc (chosen_by sc plays hands)) hands n ≡ moment_against sc plays hands n
 unfolding begin_frame with_frame
-moments-same sc plays hands law zero = refl
-moments-same sc plays hands law (suc n) =
+moments-same plays hands law zero = refl
+moments-same {sc} plays hands law (suc n) =
     let b : Behavior = chosen_by sc plays hands in
     let m : Moment = moment_against sc plays hands n in
-    ap (step (behaving sc b) hands) (moments-same sc plays hands law n)
-    ∙ step-alike sc hands b (plays m) m (chosen-alike sc plays hands n m law (moments-same sc plays hands law n) refl)
+    ap (step (behaving sc b) hands) (moments-same plays hands law n)
+    ∙ step-alike sc hands b (plays m) m (chosen-alike plays hands n law (moments-same plays hands law n) refl)
 
 pub no-gain : StrategiesGainNothing
 no-gain sc hands law plays = record {
   chosen = chosen_by sc plays hands;
-  same = moments-same sc plays hands law;
+  same = moments-same plays hands law;
   kept = any-behavior sc hands law (chosen_by sc plays hands);
 }

@@ -3,7 +3,7 @@ use Rattle.std.proofs.Common.{◌≡◌, ◌≤◌, Bool, true, false, List, [],
 use Rattle.rb_rules.specs.{Hearing.Coming, WorldStep.{World, go_on, settle}, WorldStep.Way.ByItself}
 use Rattle.rb_laws_events.proofs.{SameHeard.Every, EachAlike.each-alike}
 use Rattle.rb_laws_sweeps.specs.{AheadOf.ahead_of, Laws.{GoOnPassesASweep, NobodyIsAhead}, Sweeping.swept}
-use Rattle.rb_laws_sweeps.proofs.{EachNode.each-itself, GoesOn.{sweep_to, swept-told}, Settles.settle-changed, Sweeps.sweep-stays}
+use Rattle.rb_laws_sweeps.proofs.{EachNode.each-itself, GoesOn.swept-told, Settles.settle-changed, Sweeps.sweep-stays}
 
 pub at-any-time : (cs : List Coming) → Every (λ c. 0 ≤ c.time) cs
 at-any-time [] = tt
@@ -21,4 +21,4 @@ go-on-passes sc until w = by w.book.ended
     by : (b : Bool) → (elim b as (λ _. World) [ true ↦ ahead_of sc until w | false ↦ settle sc ByItself 2 (ahead_of sc until w) ])
         ≡ ahead_of sc until (elim b as (λ _. World) [ true ↦ w | false ↦ settle sc ByItself 2 w ])
     by true = refl
-    by false = settle-changed sc ByItself 2 (sweep_to sc until) w (swept-told sc until)
+    by false = settle-changed sc ByItself 2 w (swept-told sc until)

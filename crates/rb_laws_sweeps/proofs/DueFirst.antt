@@ -13,15 +13,15 @@ flat-append : {X Y : Type 0} (f : X → List Y) (xs ys : List X) → flat_map f 
 flat-append f [] ys = refl
 flat-append f (x ∷ xs) ys = ap (λ l. f x ++ l) (flat-append f xs ys) ∙ sym (append_assoc (f x) (flat_map f xs) (flat_map f ys))
 
-made-none : {X Y : Type 0} (k : ℕ) (make : ℕ → X → List Y) (xs : List X) → flat_map (λ l. l) (map_from k make xs) ≡ [] → (m : ℕ) (y : X) → slice_get xs m ≡ Some y → make (k + m) y ≡ []
-made-none k make [] none m y there = cc
-made-none k make (x ∷ xs) none zero y there =
+made-none : {X Y : Type 0} (k : ℕ) (make : ℕ → X → List Y) (xs : List X) → flat_map (λ l. l) (map_from k make xs) ≡ [] → (m : ℕ) {y : X} → slice_get xs m ≡ Some y → make (k + m) y ≡ []
+made-none k make [] none m there = cc
+made-none k make (x ∷ xs) none zero {y} there =
     let z : k + 0 ≡ k = omega arith in
     let same : x ≡ y = same_Some x y there in
     ap (make (k + 0)) (sym same) ∙ ap (λ m. make m x) z ∙ (append-none (make k x) (flat_map (λ l. l) (map_from (k + 1) make xs)) none).0
-made-none k make (x ∷ xs) none (suc m) y there =
+made-none k make (x ∷ xs) none (suc m) {y} there =
     let s : k + suc m ≡ k + 1 + m = omega arith in
-    ap (λ n. make n y) s ∙ made-none (k + 1) make xs (append-none (make k x) (flat_map (λ l. l) (map_from (k + 1) make xs)) none).1 m y there
+    ap (λ n. make n y) s ∙ made-none (k + 1) make xs (append-none (make k x) (flat_map (λ l. l) (map_from (k + 1) make xs)) none).1 m there
 
 -- The first node that has something ready.
 
@@ -33,8 +33,8 @@ pub record FirstDue (sc : Scenario) (w : World) (t : ℕ) (d : Due) : Type 0 whe
   pub is : Begins d (ready_at sc.sizes t side j s)
   pub before : (you : Side) (n : ℕ) (z : Site) → slice_get (of_kind you w.sites) n ≡ Some z → is_behind you n side j ≡ true → ready_at sc.sizes t you n z ≡ []
 
-first-due : (sc : Scenario) (w : World) (t : ℕ) (d : Due) → Begins d (due_at sc w (Some t)) → FirstDue sc w t d
-first-due sc w t d is = by (flat_map (λ l. l) bius) refl (is.0, sym (flat-append (λ l. l) bius rmus) ∙ is.1)
+first-due : (sc : Scenario) (w : World) (t : ℕ) {d : _} → Begins d (due_at sc w (Some t)) → FirstDue sc w t d
+first-due sc w t {d} is = by (flat_map (λ l. l) bius) refl (is.0, sym (flat-append (λ l. l) bius rmus) ∙ is.1)
   where
     ready : Side → ℕ → Site → List Due
     ready = ready_at sc.sizes t
@@ -48,7 +48,7 @@ first-due sc w t d is = by (flat_map (λ l. l) bius) refl (is.0, sym (flat-appen
     by : (l : List Due) → flat_map (λ l. l) bius ≡ l → Begins d (flat_map (λ l. l) bius ++ flat_map (λ l. l) rmus) → FirstDue sc w t d
     by (y ∷ ys) e is =
         let head : y ≡ d = head-same y d (ys ++ flat_map (λ l. l) rmus) is.0 (ap (λ l. l ++ flat_map (λ l. l) rmus) (sym e) ∙ is.1) in
-        let r : FirstMade 0 (ready Biu) w.sites.bius d = first-made 0 (ready Biu) w.sites.bius d (ys, e ∙ ap (λ y. y ∷ ys) head) in
+        let r : FirstMade 0 (ready Biu) w.sites.bius d = first-made 0 (ready Biu) w.sites.bius (ys, e ∙ ap (λ y. y ∷ ys) head) in
         let z : 0 + r.n ≡ r.n = omega arith in
         record {
           side = Biu;
@@ -64,7 +64,7 @@ first-due sc w t d is = by (flat_map (λ l. l) bius) refl (is.0, sym (flat-appen
         before r Rmu n z there behind = cc
     by [] e is =
         let rest : Begins d (flat_map (λ l. l) rmus) = (is.0, ap (λ l. l ++ flat_map (λ l. l) rmus) (sym e) ∙ is.1) in
-        let r : FirstMade 0 (ready Rmu) w.sites.rmus d = first-made 0 (ready Rmu) w.sites.rmus d rest in
+        let r : FirstMade 0 (ready Rmu) w.sites.rmus d = first-made 0 (ready Rmu) w.sites.rmus rest in
         let z : 0 + r.n ≡ r.n = omega arith in
         record {
           side = Rmu;
@@ -76,14 +76,14 @@ first-due sc w t d is = by (flat_map (λ l. l) bius) refl (is.0, sym (flat-appen
         }
       where
         before : (r : FirstMade 0 (ready Rmu) w.sites.rmus d) (you : Side) (n : ℕ) (z : Site) → slice_get (of_kind you w.sites) n ≡ Some z → is_behind you n Rmu r.n ≡ true → ready you n z ≡ []
-        before r Biu n z there behind = let o : 0 + n ≡ n = omega arith in ap (λ k. ready Biu k z) (sym o) ∙ made-none 0 (ready Biu) w.sites.bius e n z there
+        before r Biu n z there behind = let o : 0 + n ≡ n = omega arith in ap (λ k. ready Biu k z) (sym o) ∙ made-none 0 (ready Biu) w.sites.bius e n there
         before r Rmu n z there behind = let o : 0 + n ≡ n = omega arith in ap (λ k. ready Rmu k z) (sym o) ∙ r.before n z (ltb-true n r.n behind) there
 
 -- What is due.
 
-due-is-at : (sc : Scenario) (w : World) (t : ℕ) → NeedsEvent sc w → least (flat_map times_of (in_order w.sites)) ≡ Some t → due_of sc w ≡ due_at sc w (Some t)
+due-is-at : {sc w t : _} → NeedsEvent sc w → least (flat_map times_of (in_order w.sites)) ≡ Some t → due_of sc w ≡ due_at sc w (Some t)
 unfolding due_of
-due-is-at sc w t event e =
+due-is-at {sc} {w} event e =
     ap (λ b. elim (b || needs_no_event sc w.book.upcoming) as (λ _. List Due) [ true ↦ [] | false ↦ due_at sc w (least (flat_map times_of (in_order w.sites))) ]) event.going
     ∙ ap (λ b. elim b as (λ _. List Due) [ true ↦ [] | false ↦ due_at sc w (least (flat_map times_of (in_order w.sites))) ]) event.needs
     ∙ ap (due_at sc w) e
@@ -95,23 +95,23 @@ pub record WhatIsDue (sc : Scenario) (w : World) : Type 0 where
   pub pend : AllPend t w.sites
   pub due : FirstDue sc w t d
 
-pub what-is-due : (sc : Scenario) (w : World) → Goes sc w → (me : Side) (i : ℕ) (s : Site) (a : Timed) → slice_get (of_kind me w.sites) i ≡ Some s → s.ahead ≡ Some a → WhatIsDue sc w
-what-is-due sc w h me i s a there pends = by (due_of sc w) refl
+pub what-is-due : {sc w : _} → Goes sc w → (me : Side) (i : ℕ) {s a : _} → slice_get (of_kind me w.sites) i ≡ Some s → s.ahead ≡ Some a → WhatIsDue sc w
+what-is-due {sc} {w} h me i there pends = by (due_of sc w) refl
   where
     time : (t : ℕ) × (least (flat_map times_of (in_order w.sites)) ≡ Some t)
-    time = some-time w me i s a there pends
+    time = some-time w me i there pends
 
     goes : (w.book.ended || needs_no_event sc w.book.upcoming) ≡ false
     goes = ap (λ b. b || needs_no_event sc w.book.upcoming) h.event.going ∙ h.event.needs
 
     by : (ds : List Due) → due_of sc w ≡ ds → WhatIsDue sc w
-    by [] e = absurd (some-due sc w time.0 (record { known = h.known.known }) goes time.1 e)
+    by [] e = absurd (some-due (record { known = h.known.known }) goes time.1 e)
     by (d ∷ ds) e = record {
       d = d;
       is = (ds, e);
       t = time.0;
       pend = all-pend w time.0 (least-of (flat_map times_of (in_order w.sites)) time.0 time.1);
-      due = first-due sc w time.0 d (ds, sym (due-is-at sc w time.0 h.event time.1) ∙ e);
+      due = first-due sc w time.0 (ds, sym (due-is-at h.event time.1) ∙ e);
     }
 
 -- The first due event.
@@ -139,15 +139,15 @@ none-begins d rest e = absurd (no d rest e)
     no d rest e = cc
 
 -- a tick at time `t` is among what is ready at that time
-tick-there : {P : Type 0} (me : Side) (i t : ℕ) (o : Option Timed) (a : Timed) → o ≡ Some a → a.time ≡ t → tick_at me i t o ≡ [] → P
-tick-there me i t o a e time none =
+tick-there : {P : Type 0} (me : Side) (i : ℕ) {t : ℕ} {o : Option Timed} {a : Timed} → o ≡ Some a → a.time ≡ t → tick_at me i t o ≡ [] → P
+tick-there me i {t} {a} e time none =
     none-begins (record { side = me; node = i; pending = Tick a.tick }) []
     (sym none ∙ ap (tick_at me i t) e
     ∙ ap (λ b. elim b as (λ _. List Due) [ true ↦ record { side = me; node = i; pending = Tick a.tick } ∷ [] | false ↦ [] ]) (eq-eqb a.time t time))
 
-tick-is : (me : Side) (i t : ℕ) (o : Option Timed) (d : Due) → Begins d (tick_at me i t o) → (b : Timed) × ((o ≡ Some b) × ((b.time ≡ t) × (d ≡ record { side = me; node = i; pending = Tick b.tick })))
-tick-is me i t None d is = none-begins d is.0 is.1
-tick-is me i t (Some b) d is = by (b.time == t) refl is
+tick-is : (me : Side) (i t : ℕ) (o : Option Timed) {d : _} → Begins d (tick_at me i t o) → (b : Timed) × ((o ≡ Some b) × ((b.time ≡ t) × (d ≡ record { side = me; node = i; pending = Tick b.tick })))
+tick-is me i t None {d} is = none-begins d is.0 is.1
+tick-is me i t (Some b) {d} is = by (b.time == t) refl is
   where
     by : (c : Bool) → (b.time == t) ≡ c → Begins d (elim c as (λ _. List Due) [ true ↦ record { side = me; node = i; pending = Tick b.tick } ∷ [] | false ↦ [] ])
         → (b2 : Timed) × ((Some b ≡ Some b2) × ((b2.time ≡ t) × (d ≡ record { side = me; node = i; pending = Tick b2.tick })))
@@ -157,8 +157,8 @@ tick-is me i t (Some b) d is = by (b.time == t) refl is
         same x y e = grind (arith, nat_tests)
     by false e is = none-begins d is.0 is.1
 
-pub which-due : (sc : Scenario) (w : World) → Goes sc w → (me : Side) (i : ℕ) (a : Timed) → (first : IsFirstTick w me i a) → (it : WhatIsDue sc w) → ArrivalDue w me i a it.d ⊎ TickDue w me i a it.d
-which-due sc w h me i a first it = by (ready it.due.side it.due.j it.due.s it.due.there)
+pub which-due : {sc w : _} → Goes sc w → {me i a : _} → (first : IsFirstTick w me i a) → (it : WhatIsDue sc w) → ArrivalDue w me i a it.d ⊎ TickDue w me i a it.d
+which-due {sc} {w} h {me} {i} {a} first it = by (ready it.due.side it.due.j it.due.s it.due.there)
   where
     t : ℕ
     t = it.t
@@ -167,7 +167,7 @@ which-due sc w h me i a first it = by (ready it.due.side it.due.j it.due.s it.du
     coming you n z there = all-after t z.ahead z.coming (pend-of t w.sites it.pend you n z there)
 
     ready : (you : Side) (n : ℕ) (z : Site) → slice_get (of_kind you w.sites) n ≡ Some z → ReadyFirst sc.sizes t you n z
-    ready you n z there = ready-first sc.sizes t you n z (h.known.known you n z there) (coming you n z there)
+    ready you n z there = ready-first sc.sizes t n z (h.known.known you n z there) (coming you n z there)
 
     -- if nothing is ready at a node, its arrivals and its tick come later
     none-ready : (you : Side) (n : ℕ) (z : Site) → slice_get (of_kind you w.sites) n ≡ Some z → ready_at sc.sizes t you n z ≡ []
@@ -178,7 +178,7 @@ which-due sc w h me i a first it = by (ready it.due.side it.due.j it.due.s it.du
     ]
 
     low : t ≤ a.time
-    low = tick-after t first.node.ahead a first.node.coming first.pends (pend-of t w.sites it.pend me i first.node first.there)
+    low = tick-after t first.node.ahead first.node.coming first.pends (pend-of t w.sites it.pend me i first.node first.there)
 
     -- if the tick's node is behind that of the first due event, the tick is later
     tick-later : is_behind me i it.due.side it.due.j ≡ true → t < a.time
@@ -186,7 +186,7 @@ which-due sc w h me i a first it = by (ready it.due.side it.due.j it.due.s it.du
       | inl lt ↦ lt
       | inr ge ↦
           let none = none-ready me i first.node first.there (it.due.before me i first.node first.there behind) in
-          tick-there me i t first.node.ahead a first.pends (omega (arith, low, ge)) none.1
+          tick-there me i first.pends (omega (arith, low, ge)) none.1
     ]
 
     arrives : (b : Bool) → is_behind me i it.due.side it.due.j ≡ b → t < until_tick me i a.time it.due.side it.due.j
@@ -264,4 +264,4 @@ which-due sc w h me i a first it = by (ready it.due.side it.due.j it.due.s it.du
           is = head-same it.d (record { side = it.due.side; node = it.due.j; pending = Arrival p.place p.coming }) it.due.is.0 one.1.1.1.0 (sym it.due.is.1 ∙ one.1.1.1.1);
         })
     by (inr later) =
-        inr (ticks later.0 (tick-is it.due.side it.due.j t it.due.s.ahead it.d (it.due.is.0, sym later.1 ∙ it.due.is.1)))
+        inr (ticks later.0 (tick-is it.due.side it.due.j t it.due.s.ahead (it.due.is.0, sym later.1 ∙ it.due.is.1)))

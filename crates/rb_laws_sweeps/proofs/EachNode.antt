@@ -22,8 +22,8 @@ each-itself xs = each-is (map_each (λ side n x. x) xs) xs (from-itself 0 xs.biu
 abbrev pub KeepsAhead : (Side → ℕ → Site → Site) → Type 0
 KeepsAhead g = (side : Side) (j : ℕ) (s : Site) → (g side j s).ahead ≡ s.ahead
 
-pub first-changed : (g : Side → ℕ → Site → Site) (w x : World) (me : Side) (i : ℕ) (a : Timed) → x.sites ≡ map_each g w.sites → KeepsAhead g → IsFirstTick w me i a → IsFirstTick x me i a
-first-changed g w x me i a is keeps h = record {
+pub first-changed : (g : Side → ℕ → Site → Site) {w : World} (x : World) {me : Side} {i : ℕ} {a : Timed} → x.sites ≡ map_each g w.sites → KeepsAhead g → IsFirstTick w me i a → IsFirstTick x me i a
+first-changed g {w} x {me} {i} is keeps h = record {
   node = g me i h.node;
   there = ap (λ sites. slice_get (of_kind me sites) i) is ∙ get-each g w.sites me i ∙ ap (option_map (g me i)) h.there;
   pends = keeps me i h.node ∙ h.pends;
@@ -36,8 +36,8 @@ first-changed g w x me i a is keeps h = record {
     was side j s there =
         option_map-back (g side j) (slice_get (of_kind side w.sites) j) s (sym (get-each g w.sites side j) ∙ ap (λ sites. slice_get (of_kind side sites) j) (sym is) ∙ there)
 
-pub first-back : (g : Side → ℕ → Site → Site) (w x : World) (me : Side) (i : ℕ) (a : Timed) → x.sites ≡ map_each g w.sites → KeepsAhead g → IsFirstTick x me i a → IsFirstTick w me i a
-first-back g w x me i a is keeps h =
+pub first-back : (g : Side → ℕ → Site → Site) (w : World) {x : World} {me : Side} {i : ℕ} {a : Timed} → x.sites ≡ map_each g w.sites → KeepsAhead g → IsFirstTick x me i a → IsFirstTick w me i a
+first-back g w {x} {me} {i} is keeps h =
     let node = was me i h.node h.there in
     record {
       node = node.0;

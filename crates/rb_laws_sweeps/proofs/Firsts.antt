@@ -75,17 +75,17 @@ is-first c cs all = by (first_of cs) refl
     by : (o : Option Placed) → first_of cs ≡ o → ◌≡◌ {A = Option Placed} (Some (first_with c o)) (Some (record { place = 0; coming = c }))
     by None h = refl
     by (Some q) h = ap (λ b. Some (pick c q b))
-        (every-stands (λ d. comes_first c d ≡ true) q.place q.coming cs (first-stands cs q h) all)
+        (every-stands (λ d. comes_first c d ≡ true) q.place cs (first-stands cs q h) all)
 
-pub first-is : (n : ℕ) (c : Coming) (cs : List Coming) → StandsAt n c cs → Every (λ d. comes_first c d ≡ true) cs
+pub first-is : (n : ℕ) {c : _} (cs : List Coming) → StandsAt n c cs → Every (λ d. comes_first c d ≡ true) cs
     → ((m : ℕ) (d : Coming) → m < n → StandsAt m d cs → comes_first d c ≡ false) → first_of cs ≡ Some (record { place = n; coming = c })
 unfolding first_of
-first-is n c [] s all before = absurd s
-first-is zero c (x ∷ xs) s all before =
+first-is n [] s all before = absurd s
+first-is zero {c} (x ∷ xs) s all before =
     subst (λ c. first_of (x ∷ xs) ≡ Some (record { place = 0; coming = c })) s (is-first x xs (subst (λ c. Every (λ d. comes_first c d ≡ true) (x ∷ xs)) (sym s) all).1)
-first-is (suc n) c (x ∷ xs) s all before =
+first-is (suc n) {c} (x ∷ xs) s all before =
     let q : Placed = record { place = n; coming = c } in
-    ap (λ o. Some (first_with x o)) (first-is n c xs s all.1 (λ m d lt at. before (suc m) d (omega (arith, lt)) at))
+    ap (λ o. Some (first_with x o)) (first-is n xs s all.1 (λ m d lt at. before (suc m) d (omega (arith, lt)) at))
     ∙ ap (λ b. Some (pick x q b)) (before 0 x (omega arith) refl)
 
 -- arrivals that come later leave the first one

@@ -30,14 +30,14 @@ each-compose sc until later sites le =
 
 -- A tick of one of them.
 
-message-passes : (sc : Scenario) → IsLawful sc → (until : Side → ℕ → ℕ) (me : Side) (i frame k : ℕ) (m : Option Message) (sites : Each Site)
+message-passes : {sc : _} → IsLawful sc → (until : Side → ℕ → ℕ) (me : Side) (i frame k : ℕ) (m : Option Message) (sites : Each Site)
     → ((side : Side) (n : ℕ) → until side n ≤ time_of (clock_of sc me i) k + 1)
     → with_message sc me i frame k m (each_swept sc until sites) ≡ each_swept sc until (with_message sc me i frame k m sites)
-message-passes sc lawful until me i frame k None sites le = refl
-message-passes sc lawful until me i frame k (Some m) sites le =
+message-passes lawful until me i frame k None sites le = refl
+message-passes {sc} lawful until me i frame k (Some m) sites le =
     let sent : Side → ℕ → Site → Site = sent_to sc me i frame (record { tick = k; message = m }) in
     let both : Side → ℕ → Site → Site = λ side n s. sweep_to sc until side n (sent side n s) in
-    each-fuse sent (sweep_to sc until) both sites (λ side n s. sym (sent-passes sc lawful me side i n frame (until side n) (record { tick = k; message = m }) s (le side n)))
+    each-fuse sent (sweep_to sc until) both sites (λ side n s. sym (sent-passes lawful me side i n frame (until side n) (record { tick = k; message = m }) s (le side n)))
     ∙ sym (each-fuse (sweep_to sc until) sent both sites (λ side n s. refl))
 
 -- the site after a change of node `i` of kind `me`
@@ -75,30 +75,30 @@ sent-ahead sc me j frame x side i s = by (same_side side (other me) && s.runs)
     by true = refl
     by false = refl
 
-message-back : (sc : Scenario) (me : Side) (i frame k : ℕ) (m : Option Message) (sites : Each Site) (side : Side) (n : ℕ) (y : Site)
+message-back : (sc : Scenario) (me : Side) (i frame k : ℕ) (m : Option Message) (sites : Each Site) (side : Side) (n : ℕ) {y : _}
     → slice_get (of_kind side (with_message sc me i frame k m sites)) n ≡ Some y → (x : Site) × ((slice_get (of_kind side sites) n ≡ Some x) × (y.ahead ≡ x.ahead))
-message-back sc me i frame k None sites side n y there = (y, (there, refl))
-message-back sc me i frame k (Some m) sites side n y there =
+message-back sc me i frame k None sites side n {y} there = (y, (there, refl))
+message-back sc me i frame k (Some m) sites side n {y} there =
     let x : Sending = record { tick = k; message = m } in
     let sent : Side → ℕ → Site → Site = sent_to sc me i frame x in
     let was = option_map-back (sent side n) (slice_get (of_kind side sites) n) y (sym (get-each sent sites side n) ∙ there) in
     (was.0, (was.1.0, ap (λ (s : Site). s.ahead) (sym was.1.1) ∙ sent-ahead sc me i frame x side n was.0))
 
 -- a message that goes out with the tick is not heard in a sweep through that tick
-message-unheard : (sc : Scenario) → IsLawful sc → (me side : Side) (i j frame k until : ℕ) (m : Option Message) (sites : Each Site) (s : Site) → slice_get (of_kind side sites) j ≡ Some s
+message-unheard : {sc : _} → IsLawful sc → (me side : Side) (i j frame k until : ℕ) (m : Option Message) (sites : Each Site) {s : _} → slice_get (of_kind side sites) j ≡ Some s
     → until ≤ time_of (clock_of sc me i) k + 1
     → (y : Site) × ((slice_get (of_kind side (with_message sc me i frame k m sites)) j ≡ Some y) × (heard sc side j until y ≡ heard sc side j until s))
-message-unheard sc lawful me side i j frame k until None sites s there le = (s, (there, refl))
-message-unheard sc lawful me side i j frame k until (Some m) sites s there le =
+message-unheard lawful me side i j frame k until None sites {s} there le = (s, (there, refl))
+message-unheard {sc} lawful me side i j frame k until (Some m) sites {s} there le =
     let x : Sending = record { tick = k; message = m } in
     let sent : Side → ℕ → Site → Site = sent_to sc me i frame x in
-    (sent side j s, (get-each sent sites side j ∙ ap (option_map (sent side j)) there, sent-unheard sc lawful me side i j frame until x s le))
+    (sent side j s, (get-each sent sites side j ∙ ap (option_map (sent side j)) there, sent-unheard lawful me side i j frame until x s le))
 
 -- each node after the two changes is one of the nodes before them
-node-back : (me : Side) (i : ℕ) (first next : Site → Site) (sites : Each Site) (side : Side) (n : ℕ) (y : Site)
+node-back : (me : Side) (i : ℕ) (first next : Site → Site) (sites : Each Site) (side : Side) (n : ℕ) {y : _}
     → slice_get (of_kind side (at_node me i next (at_node me i first sites))) n ≡ Some y
     → (s : Site) × ((slice_get (of_kind side sites) n ≡ Some s) × (((is_node me i side n ≡ true) × (y ≡ next (first s))) ⊎ ((is_node me i side n ≡ false) × (y ≡ s))))
-node-back me i first next sites side n y there =
+node-back me i first next sites side n {y} there =
     let was = option_map-back (one_changes next me i side n) (slice_get (of_kind side (at_node me i first sites)) n) y (sym (get-at me side i n next (at_node me i first sites)) ∙ there) in
     let before = option_map-back (one_changes first me i side n) (slice_get (of_kind side sites) n) was.0 (sym (get-at me side i n first sites) ∙ was.1.0) in
     (before.0, (before.1.0, by before.0 (is_node me i side n) refl (ap (one_changes next me i side n) before.1.1 ∙ was.1.1)))
@@ -137,10 +137,10 @@ goes-on sc lawful choices until w is event me i a first le = record { leads = le
     ahead = ahead_of sc until w
 
     goes : Goes sc ahead
-    goes = subst (Goes sc) is (goes-reached sc lawful choices (subst (NeedsEvent sc) (sym is) (record { going = event.going; needs = event.needs })))
+    goes = subst (Goes sc) is (goes-reached lawful choices (subst (NeedsEvent sc) (sym is) (record { going = event.going; needs = event.needs })))
 
     leads : LeadsToTick sc ahead me i a
-    leads = leads-to-tick sc ahead goes me i a (first-changed (sweep_to sc until) w ahead me i a refl (swept-ahead sc until) first)
+    leads = leads-to-tick goes (first-changed (sweep_to sc until) ahead refl (swept-ahead sc until) first)
 
     next : Side → ℕ → ℕ
     next = until_tick me i a.time
@@ -178,7 +178,7 @@ goes-on sc lawful choices until w is event me i a first le = record { leads = le
 
     ticks : TicksNow sc me i a z
     ticks =
-        ticks-now sc lawful choices n there (ap (after_takes sc n) is ∙ there-is) me i a z node-there
+        ticks-now lawful choices n (ap (after_takes sc n) is ∙ there-is) me i a z node-there
         (ap (λ (s : Site). s.ahead) (sweeps-keep sc me i (a.time + 1) first.node).is ∙ first.pends)
         (ap (λ y. slice_get (due_of sc y) 0) (sym there-is) ∙ leads.tick)
 
@@ -189,7 +189,7 @@ goes-on sc lawful choices until w is event me i a first le = record { leads = le
     act = after_act sc w.ports me i x
 
     acted : Later a.time (act z)
-    acted = act-later sc lawful w.ports me i a z ticks (all-every (λ c. a.time + 1 ≤ c.time) z.coming (sweeps-keep sc me i (a.time + 1) first.node).left)
+    acted = act-later lawful w.ports ticks (all-every (λ c. a.time + 1 ≤ c.time) z.coming (sweeps-keep sc me i (a.time + 1) first.node).left)
 
     -- the world behind, in which the node of the tick alone is swept
     alone : World
@@ -201,10 +201,10 @@ goes-on sc lawful choices until w is event me i a first le = record { leads = le
         ∙ ap (λ b. Some (elim b as (λ _. Site) [ true ↦ sweep first.node | false ↦ first.node ])) (node-itself me i)
 
     alone-is : happens sc alone d ≡ with_act sc alone me i a.tick x
-    alone-is = happens-is sc alone d z node-alone
+    alone-is = happens-is sc alone d node-alone
 
     there-happens : happens sc there d ≡ with_act sc there me i a.tick x
-    there-happens = happens-is sc there d z node-there
+    there-happens = happens-is sc there d node-there
 
     sites : (with_act sc there me i a.tick x).sites ≡ each_swept sc next (with_act sc alone me i a.tick x).sites
     sites =
@@ -216,7 +216,7 @@ goes-on sc lawful choices until w is event me i a first le = record { leads = le
         let same : first.node ≡ y = same_Some first.node y (sym first.there ∙ here) in
         subst (λ y. act (swept sc me i (next me i) y) ≡ swept sc me i (next me i) (act (sweep y))) same
         (subst (λ u. act (swept sc me i u first.node) ≡ swept sc me i u (act (sweep first.node))) (sym own) (sym (sweep-stays sc me i (a.time + 1) (act z) acted.coming)))))
-        ∙ message-passes sc lawful next me i frame a.tick x.message (at_node me i act (at_node me i sweep w.sites))
+        ∙ message-passes lawful next me i frame a.tick x.message (at_node me i act (at_node me i sweep w.sites))
         (λ side j. let most = until-most me side i j a.time in omega (arith, most, time))
 
     taken : happens sc there d ≡ record (ahead_of sc next (happens sc alone d)) { turn = turn }
@@ -230,7 +230,7 @@ goes-on sc lawful choices until w is event me i a first le = record { leads = le
         ∙ ap (λ y. settle sc ByAnEvent 2 (happens sc y d)) there-is
         ∙ ap (settle sc ByAnEvent 2) taken
         ∙ settle-turn sc ByAnEvent 2 (ahead_of sc next (happens sc alone d)) turn
-        ∙ settle-changed sc ByAnEvent 2 (sweep_to sc next) (happens sc alone d) (swept-told sc next)
+        ∙ settle-changed sc ByAnEvent 2 (happens sc alone d) (swept-told sc next)
 
     cs : List Choice
     cs = (takes-are sc choices (suc n)).0
@@ -247,7 +247,7 @@ goes-on sc lawful choices until w is event me i a first le = record { leads = le
         let most = until-most me side i j a.time in
         let swept_there : slice_get (of_kind side ahead.sites) j ≡ Some (sweep_to sc until side j s) =
         get-each (sweep_to sc until) w.sites side j ∙ ap (option_map (sweep_to sc until side j)) here in
-        let sent = message-unheard sc lawful me side i j x.core.state.frame a.tick (next side j) x.message (at_node me i act (at_node me i sweep w.sites)) moved moved-there (omega (arith, most, time)) in
+        let sent = message-unheard lawful me side i j x.core.state.frame a.tick (next side j) x.message (at_node me i act (at_node me i sweep w.sites)) moved-there (omega (arith, most, time)) in
         record {
           after = sent.0;
           there = ap (λ sites. slice_get (of_kind side sites) j) behind-sites ∙ sent.1.0;
@@ -274,7 +274,7 @@ goes-on sc lawful choices until w is event me i a first le = record { leads = le
             then (record { frame = (swept sc side j (next side j) s).core.state.frame; event = event_of sc w.ports me i z.core (Tick a.tick) }) ∷ []
             else [])
         tick-told side j s here =
-            told-one sc there d z (ap (λ y. slice_get (due_of sc y) 0) (sym there-is) ∙ leads.tick) node-there side j (sweep_to sc next side j s)
+            told-one sc there (ap (λ y. slice_get (due_of sc y) 0) (sym there-is) ∙ leads.tick) node-there side j
             (get-each (sweep_to sc next) w.sites side j ∙ ap (option_map (sweep_to sc next side j)) here)
 
         own-tells : heard sc me i (next me i) first.node ++ told_next sc me i there ≡ told_alone sc w me i a me i first.node ++ heard sc me i (next me i) (act z)
@@ -310,9 +310,9 @@ goes-on sc lawful choices until w is event me i a first le = record { leads = le
     later : (you : Side) (m : ℕ) (b : Timed) → IsFirstTick (tick_alone sc me i a w) you m b → (side : Side) (j : ℕ) → next side j ≤ until_tick you m b.time side j
     later you m b following =
         let frame : ℕ = x.core.state.frame in
-        let sent = message-back sc me i frame a.tick x.message (at_node me i act (at_node me i sweep w.sites)) you m following.node
+        let sent = message-back sc me i frame a.tick x.message (at_node me i act (at_node me i sweep w.sites)) you m
         (ap (λ sites. slice_get (of_kind you sites) m) (sym behind-sites) ∙ following.there) in
-        let was = node-back me i sweep act w.sites you m sent.0 sent.1.0 in
+        let was = node-back me i sweep act w.sites you m sent.1.0 in
         untils-rise me you i m a.time b.time (by was.0 was.1.0 (sym sent.1.1 ∙ following.pends) was.1.1)
       where
         by : (s : Site) → slice_get (of_kind you w.sites) m ≡ Some s → {y : Site} → y.ahead ≡ Some b

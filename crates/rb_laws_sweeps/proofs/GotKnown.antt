@@ -9,10 +9,10 @@ use Rattle.rb_laws_events.proofs.{DueEvents.{IsDue, IsReady, due-is}, OneEvent.h
 abbrev pub GotKnown : Scenario → Each Site → Type 0
 GotKnown sc sites = (me : Side) (i : ℕ) (s : Site) → slice_get (of_kind me sites) i ≡ Some s → Known sc.sizes me s.got
 
-each-got : (sc : Scenario) (f : Side → ℕ → Site → Site) (sites : Each Site)
+each-got : (sc : Scenario) (f : Side → ℕ → Site → Site) {sites : _}
     → ((me : Side) (i : ℕ) (s : Site) → slice_get (of_kind me sites) i ≡ Some s → Known sc.sizes me s.got → Known sc.sizes me (f me i s).got)
     → GotKnown sc sites → GotKnown sc (map_each f sites)
-each-got sc f sites go h me i s e =
+each-got sc f {sites} go h me i s e =
     let was = option_map-back (f me i) (slice_get (of_kind me sites) i) s (sym (get-each f sites me i) ∙ e) in
     subst (λ (x : Site). Known sc.sizes me x.got) was.1.1 (go me i was.0 was.1.0 (h me i was.0 was.1.0))
 
@@ -49,17 +49,17 @@ sent-got sc me j frame x side i s = by (same_side side (other me) && s.runs)
     by true = refl
     by false = refl
 
-message-got : (sc : Scenario) (me : Side) (j frame k : ℕ) (m : Option Message) (sites : Each Site) → GotKnown sc sites → GotKnown sc (with_message sc me j frame k m sites)
-message-got sc me j frame k None sites h = h
-message-got sc me j frame k (Some m) sites h =
-    each-got sc (sent_to sc me j frame (record { tick = k; message = m })) sites
+message-got : (sc : Scenario) (me : Side) (j frame k : ℕ) (m : Option Message) {sites : _} → GotKnown sc sites → GotKnown sc (with_message sc me j frame k m sites)
+message-got sc me j frame k None h = h
+message-got sc me j frame k (Some m) h =
+    each-got sc (sent_to sc me j frame (record { tick = k; message = m }))
     (λ side i s there known. subst (Known sc.sizes side) (sym (sent-got sc me j frame (record { tick = k; message = m }) side i s)) known) h
 
 -- a change of one node that keeps `Known` for what it got keeps `GotKnown`
-node-got : (sc : Scenario) (me : Side) (i : ℕ) (change : Site → Site) (sites : Each Site)
+node-got : (sc : Scenario) (me : Side) (i : ℕ) (change : Site → Site) {sites : _}
     → ((s : Site) → slice_get (of_kind me sites) i ≡ Some s → Known sc.sizes me s.got → Known sc.sizes me (change s).got) → GotKnown sc sites → GotKnown sc (at_node me i change sites)
-node-got sc me i change sites go h =
-    each-got sc (λ side n s. elim (is_node me i side n) as (λ _. Site) [ true ↦ change s | false ↦ s ]) sites (λ side n s there known. by side n s there known (is_node me i side n) refl) h
+node-got sc me i change {sites} go h =
+    each-got sc (λ side n s. elim (is_node me i side n) as (λ _. Site) [ true ↦ change s | false ↦ s ]) (λ side n s there known. by side n s there known (is_node me i side n) refl) h
   where
     by : (side : Side) (n : ℕ) (s : Site) → slice_get (of_kind side sites) n ≡ Some s → Known sc.sizes side s.got → (b : Bool) → is_node me i side n ≡ b
         → Known sc.sizes side (elim b as (λ _. Site) [ true ↦ change s | false ↦ s ]).got
@@ -71,37 +71,37 @@ node-got sc me i change sites go h =
 
 -- An event.
 
-pending-got : (sc : Scenario) (w : World) (me : Side) (i t : ℕ) (s : Site) (p : Pending) → slice_get (of_kind me w.sites) i ≡ Some s → IsReady t s p → NodesKnown sc w.sites → GotKnown sc w.sites
+pending-got : {sc : _} (w : World) (me : Side) (i t : ℕ) {s : _} (p : Pending) → slice_get (of_kind me w.sites) i ≡ Some s → IsReady t s p → NodesKnown sc w.sites → GotKnown sc w.sites
     → GotKnown sc (with_pending sc w me i s p).sites
 unfolding with_act after_arrival
-pending-got sc w me i t s (Tick k) there ready known h =
+pending-got {sc} w me i t {s} (Tick k) there ready known h =
     let x : Act = pass_and_tick sc w.ports me i k s.core in
-    message-got sc me i x.core.state.frame k x.message (at_node me i (after_act sc w.ports me i x) w.sites)
-    (node-got sc me i (after_act sc w.ports me i x) w.sites (λ s here. act-got sc w.ports me i x s) h)
-pending-got sc w me i t s (Arrival place c) there ready known h =
-    let its : c.from < count_of (other me) sc.sizes = every-stands (λ c. c.from < count_of (other me) sc.sizes) place c s.coming ready.0 (known.known me i s there) in
-    node-got sc me i (after_arrival sc me i place c) w.sites (λ s here got. known-append sc.sizes me s.got (c ∷ []) got (its, tt)) h
+    message-got sc me i x.core.state.frame k x.message
+    (node-got sc me i (after_act sc w.ports me i x) (λ s here. act-got sc w.ports me i x s) h)
+pending-got {sc} w me i t {s} (Arrival place c) there ready known h =
+    let its : c.from < count_of (other me) sc.sizes = every-stands (λ c. c.from < count_of (other me) sc.sizes) place s.coming ready.0 (known.known me i s there) in
+    node-got sc me i (after_arrival sc me i place c) (λ s here got. known-append sc.sizes me s.got (c ∷ []) got (its, tt)) h
 
-due-got : (sc : Scenario) (w : World) (d : Due) → IsDue w d → NodesKnown sc w.sites → GotKnown sc w.sites → GotKnown sc (take_if_due sc w (Some d)).sites
-due-got sc w d due known h =
-    subst (GotKnown sc) (sym (settle-sites sc ByAnEvent 2 (happens sc w d) ∙ ap (λ (x : World). x.sites) (happens-is sc w d due.s due.there)))
-    (pending-got sc w d.side d.node due.t due.s d.pending due.there due.ready known h)
+due-got : {sc w d : _} → IsDue w d → NodesKnown sc w.sites → GotKnown sc w.sites → GotKnown sc (take_if_due sc w (Some d)).sites
+due-got {sc} {w} {d} due known h =
+    subst (GotKnown sc) (sym (settle-sites sc ByAnEvent 2 (happens sc w d) ∙ ap (λ (x : World). x.sites) (happens-is sc w d due.there)))
+    (pending-got w d.side d.node due.t d.pending due.there due.ready known h)
 
 -- A choice.
 
-choose-got : (sc : Scenario) (w : World) (c : Choice) → NodesKnown sc w.sites → GotKnown sc w.sites → GotKnown sc (choose sc w c).sites
+choose-got : {sc : _} (w : World) (c : Choice) → NodesKnown sc w.sites → GotKnown sc w.sites → GotKnown sc (choose sc w c).sites
 unfolding take go_on
-choose-got sc w (Take i) known h = by (slice_get (due_of sc w) i) refl
+choose-got {sc} w (Take i) known h = by (slice_get (due_of sc w) i) refl
   where
     by : (o : Option Due) → slice_get (due_of sc w) i ≡ o → GotKnown sc (take_if_due sc w o).sites
     by None e = h
-    by (Some d) e = due-got sc w d (due-is sc w i d (record { known = known.known }) e) known h
-choose-got sc w GoOn known h = by w.book.ended
+    by (Some d) e = due-got (due-is i (record { known = known.known }) e) known h
+choose-got {sc} w GoOn known h = by w.book.ended
   where
     by : (b : Bool) → GotKnown sc (elim b as (λ _. World) [ true ↦ w | false ↦ settle sc ByItself 2 w ]).sites
     by true = h
     by false = subst (GotKnown sc) (sym (settle-sites sc ByItself 2 w)) h
-choose-got sc w (Hand biu state) known h = hand-leaves (λ x. GotKnown sc x.sites) sc w biu state (λ ports hands. h) h
+choose-got {sc} w (Hand biu state) known h = hand-leaves (λ x. GotKnown sc x.sites) sc w biu state (λ ports hands. h) h
 
 -- Worlds.
 
@@ -117,9 +117,9 @@ first-got sc me i s e =
     let none : (make me i).got ≡ [] = enter-got sc me i (span_from sc.sizes sc.plan me fresh.core.state fresh.core.had) fresh in
     subst (λ (x : Site). Known sc.sizes me x.got) same (subst (Known sc.sizes me) (sym none) tt)
 
-from-got : (sc : Scenario) (choices : List Choice) (w : World) → NodesKnown sc w.sites → GotKnown sc w.sites → GotKnown sc (fold (choose sc) w choices).sites
-from-got sc [] w known h = h
-from-got sc (c ∷ cs) w known h = from-got sc cs (choose sc w c) (choose-known sc w c known) (choose-got sc w c known h)
+from-got : {sc : _} (choices : List Choice) (w : World) → NodesKnown sc w.sites → GotKnown sc w.sites → GotKnown sc (fold (choose sc) w choices).sites
+from-got [] w known h = h
+from-got {sc} (c ∷ cs) w known h = from-got cs (choose sc w c) (choose-known w c known) (choose-got w c known h)
 
 pub worlds-got : (sc : Scenario) (choices : List Choice) → GotKnown sc (world_after sc choices).sites
-worlds-got sc choices = from-got sc choices (first_world sc) (first-known sc) (first-got sc)
+worlds-got sc choices = from-got choices (first_world sc) (first-known sc) (first-got sc)

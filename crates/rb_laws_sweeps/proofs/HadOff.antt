@@ -24,16 +24,16 @@ abbrev pub had_at : Scenario → ℕ → List HandIn → ℕ → (Side → ℕ �
 had_at sc q hands b sent sites = nodes_at sc q hands b sent sites × HadOff sc q hands b sites
 
 pub rooms-had : (sc : Scenario) (q : ℕ) (hands : List HandIn) (b : ℕ) (sent : Side → ℕ → ℕ → Bool) (sites : Each Site) → had_at sc q hands b sent sites
-    → (me : Side) (i : ℕ) (s : Site) → slice_get (of_kind me sites) i ≡ Some s → length (had_of sc.sizes me s) + length s.coming ≤ most_coming sc me
-rooms-had sc q hands b sent sites h me i s there =
+    → (me : Side) (i : ℕ) {s : _} → slice_get (of_kind me sites) i ≡ Some s → length (had_of sc.sizes me s) + length s.coming ≤ most_coming sc me
+rooms-had sc q hands b sent sites h me i {s} there =
     let room = h.1.rooms.room me i (with_had sc.sizes me i s) (get-each (with_had sc.sizes) sites me i ∙ ap (option_map (with_had sc.sizes me i)) there) in
     let long = length-append (had_of sc.sizes me s) s.coming in
     omega (arith, room, long)
 
 -- The first close.
 
-begins-had : (sc : Scenario) → IsListed sc → (q : ℕ) → FewAt sc q → (hands : List HandIn) (b now : ℕ) (at : Side → ℕ → ℕ) (sites : Each Site) (t : ℕ) → FirstCloses sc hands now at sites b t → HadOff sc q hands b sites
-begins-had sc listed q few hands b now at sites t h = record {
+begins-had : {sc : _} → IsListed sc → {q : ℕ} → FewAt sc q → {hands b now at sites t : _} → FirstCloses sc hands now at sites b t → HadOff sc q hands b sites
+begins-had {sc} listed few {hands} {now} {at} {sites} h = record {
   sends = λ _ _. 2;
   enters = λ _ _. 2;
   rooms = record {
@@ -53,7 +53,7 @@ begins-had sc listed q few hands b now at sites t h = record {
         → length (had_of sc.sizes me s) + length s.coming ≤ 2 * count_of (other me) sc.sizes + length sc.says
     here me i s there true e =
         let up : IsUp sc hands (sent_by sc hands at sites) now me i (at me i) s = h.stand.up me i s there e in
-        let few = had-where-it-stands sc listed hands (sent_by sc hands at sites) now me i (at me i) s up.st up.a up.stands in
+        let few = had-where-it-stands listed up.stands in
         let had : length (had_of sc.sizes me s) ≡ length (filter (is_known sc.sizes me) s.got) =
         ap (λ r. length (elim r as (λ _. List Coming) [ true ↦ filter (is_known sc.sizes me) s.got | false ↦ [] ])) e in
         omega (arith, few, had)
@@ -87,9 +87,9 @@ had-message sc me i frame k (Some m) sites =
     each-fuse sent (with_had sc.sizes) both sites (λ side n s. sym (had-sent sc me i frame x side n s))
     ∙ sym (each-fuse (with_had sc.sizes) sent both sites (λ side n s. refl))
 
-had-node : (sizes : Sizes) (me : Side) (i : ℕ) (change : Site → Site) (s : Site) (sites : Each Site) → slice_get (of_kind me sites) i ≡ Some s
+had-node : (sizes : Sizes) (me : Side) (i : ℕ) (change : Site → Site) {s : _} (sites : Each Site) → slice_get (of_kind me sites) i ≡ Some s
     → at_node me i (λ z. with_had sizes me i (change s)) (map_each (with_had sizes) sites) ≡ map_each (with_had sizes) (at_node me i change sites)
-had-node sizes me i change s sites there =
+had-node sizes me i change {s} sites there =
     let two : Side → ℕ → Site → Site = λ side n z. elim (is_node me i side n) as (λ _. Site) [ true ↦ with_had sizes me i (change s) | false ↦ z ] in
     let one : Side → ℕ → Site → Site = λ side n z. elim (is_node me i side n) as (λ _. Site) [ true ↦ change z | false ↦ z ] in
     let had : Side → ℕ → Site → Site = with_had sizes in
@@ -108,20 +108,20 @@ had-node sizes me i change s sites there =
         ∙ ap (λ k. with_had sizes k n (change z)) (sym is.0)
 
 -- `HadOff` is kept if one node changes and a message is on its way
-changes-had : (sc : Scenario) (q : ℕ) → FewAt sc q → (hands : List HandIn) (b : ℕ) (sites : Each Site) (me : Side) (i frame k : ℕ) (m : Option Message) (change : Site → Site) (s : Site) (r e : ℕ)
+changes-had : {sc q : _} → FewAt sc q → {hands b sites : _} (me : Side) (i frame k : ℕ) (m : Option Message) (change : Site → Site) {s : _} (r e : ℕ)
     → (h : HadOff sc q hands b sites) → slice_get (of_kind me sites) i ≡ Some s
     → length (with_had sc.sizes me i (change s)).coming + e * length sc.says ≤ length (with_had sc.sizes me i s).coming + h.enters me i * length sc.says
     → r + messages_in m ≤ h.sends me i → may_at sc q hands b me i r e (change s) → HadOff sc q hands b (with_message sc me i frame k m (at_node me i change sites))
-changes-had sc q few hands b sites me i frame k m change s r e h there room sent may = record {
+changes-had {sc} few {hands} {b} {sites} me i frame k m change {s} r e h there room sent may = record {
   sends = moved me i r h.sends;
   enters = moved me i e h.enters;
   rooms = subst (HaveRooms sc (most_coming sc) (moved me i r h.sends) (moved me i e h.enters))
-      (ap (with_message sc me i frame k m) (had-node sc.sizes me i change s sites there) ∙ had-message sc me i frame k m (at_node me i change sites))
-      (rooms-change sc (most_coming sc) h.sends h.enters (map_each (with_had sc.sizes) sites) me i frame k m (λ z. with_had sc.sizes me i (change s)) (with_had sc.sizes me i s) r e
+      (ap (with_message sc me i frame k m) (had-node sc.sizes me i change sites there) ∙ had-message sc me i frame k m (at_node me i change sites))
+      (rooms-change me i frame k m (λ z. with_had sc.sizes me i (change s)) r e
       (let within = slice_get_within (of_kind me sites) i s there in let long = h.counts me in omega (arith, within, long))
       (get-each (with_had sc.sizes) sites me i ∙ ap (option_map (with_had sc.sizes me i)) there) room sent h.rooms);
   counts = λ side. length-after sc me i frame k m change sites side ∙ h.counts side;
-  may = may-after sc q few hands b sites me i frame k m change s r e h.sends h.enters there h.may may;
+  may = may-after few hands b sites me i frame k m change r e h.sends h.enters there h.may may;
 }
 
 -- What came, after a tick and after an arrival.
@@ -179,35 +179,35 @@ arrived-had sc me i n c s h =
         omega (arith, last, both, one)
     by false = omega arith
 
-pub had-keeps : (sc : Scenario) → IsListed sc → IsLawful sc → (q : ℕ) → q < 3 → KeepsNodes sc q (had_at sc q)
-had-keeps sc listed lawful q small = record {
-  begins = λ hands b off now at sites t first. (its.begins hands b off now at sites t first, begins-had sc listed q few hands b now at sites t first);
+pub had-keeps : {sc : _} → IsListed sc → IsLawful sc → (q : ℕ) → q < 3 → KeepsNodes sc q (had_at sc q)
+had-keeps {sc} listed lawful q small = record {
+  begins = λ hands b off now at sites t first. (its.begins hands b off now at sites t first, begins-had listed few first);
   waits = λ hands b off sent sites h. its.waits hands b off sent sites h.0;
   told = λ hands b off sent ports sites h. its.told hands b off sent ports sites h.0;
   tick = λ hands b off sent ports sites h me i frame s a t there.
       let x : Act = pass_and_tick sc ports me i a.tick s.core in
       let z : Site = after_act sc ports me i x s in
-      let step = steps-at sc listed lawful q hands b off sent ports sites h.0 me i s a (h.1.sends me i) (h.1.enters me i) t (tick-small sc lawful q its hands b off sent ports sites h.0 me i s a t there) there (h.1.may me i s there) in
+      let step = steps-at listed lawful off sites h.0 (h.1.sends me i) (h.1.enters me i) t (tick-small lawful its off sites h.0 t there) there (h.1.may me i s there) in
       let room = step.room in
       let less = act-had-less sc ports me i x s in
       let new = length-append (had_of sc.sizes me z) z.coming in
       let old = length-append (had_of sc.sizes me s) s.coming in (
         its.tick hands b off sent ports sites h.0 me i frame s a t there,
-        changes-had sc q few hands b sites me i frame a.tick x.message (after_act sc ports me i x) s step.sends step.enters h.1 there (omega (arith, room, less, new, old)) step.sent step.may,
+        changes-had few me i frame a.tick x.message (after_act sc ports me i x) step.sends step.enters h.1 there (omega (arith, room, less, new, old)) step.sent step.may,
       );
   arrival = λ hands b off sent sites h me i n c s moves there stands due first.
       let none : Option Message = None in
       let less = arrived-had sc me i n c s stands in (
         its.arrival hands b off sent sites h.0 me i n c s moves there stands due first,
-        changes-had sc q few hands b sites me i 0 0 none (after_arrival sc me i n c) s (h.1.sends me i) (h.1.enters me i) h.1 there (omega (arith, less)) (omega arith)
-            (may-arrives sc q few hands b me i (h.1.sends me i) (h.1.enters me i) n c s moves (λ a e. (due a e).before_tick) (h.1.may me i s there)),
+        changes-had few me i 0 0 none (after_arrival sc me i n c) (h.1.sends me i) (h.1.enters me i) h.1 there (omega (arith, less)) (omega arith)
+            (may-arrives few hands b me i (h.1.sends me i) (h.1.enters me i) n c s moves (λ a e. (due a e).before_tick) (h.1.may me i s there)),
       );
   goes = λ hands b off sent sites h. its.goes hands b off sent sites h.0;
   ahead = λ hands b off sent sites h. its.ahead hands b off sent sites h.0;
 }
   where
     its : KeepsNodes sc q (nodes_at sc q)
-    its = keeps sc lawful q small
+    its = keeps lawful q small
 
     few : FewAt sc q
-    few = few-on sc listed lawful q small
+    few = few-on listed lawful q small

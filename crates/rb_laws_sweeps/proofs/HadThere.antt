@@ -2,7 +2,7 @@
 -- stand in the rounds.
 use Rattle.std.proofs.{Common.{◌≡◌, ℕ, zero, suc, ◌+◌, ◌*◌, ◌≤◌, ◌==◌, nat_lt, Bool, true, false, List, [], ◌∷◌, cond, filter, length, refl, ap, sym, subst, arith}, lemmas.Bool.ltb-true, lemmas.Bool.Decides.nat_tests}
 use Rattle.rb_base.specs.{Nodes.{Side, other}, Sizes.Sizes}
-use Rattle.rb_rules.specs.{Clock.time_of, Entries.{IsListed, is_said}, Goodness.{Scenario, clock_of}, Hearing.{Coming, Span, span_of}, NodeState.NodeState, Ports.HandIn, Rounds.{Moment, moment, window_in}, Slots.count_of, WorldStep.{Site, Timed, coming_from}}
+use Rattle.rb_rules.specs.{Clock.time_of, Entries.{IsListed, is_said}, Goodness.clock_of, Hearing.{Coming, Span, span_of}, Rounds.{Moment, moment, window_in}, Slots.count_of, WorldStep.{Site, coming_from}}
 use Rattle.rb_laws_events.proofs.{FewThere.{ahead-few, entries_of, heard-few, said-once}, Invariant.{NodeStands, ahead_so_far, heard_so_far, last_tick, next_stage}, PendingLists.Hears, SourceSums.{all-of-sources, coming_of_source, items-once, sum-larger, sum-le, sum-plus, sum-twos, sum_to}}
 
 -- the entry is from a node of the bus
@@ -42,9 +42,9 @@ sum-both : (f g : ℕ → ℕ) (n : ℕ) → sum_to (λ j. f j + g j) n ≡ sum_
 sum-both f g zero = omega arith
 sum-both f g (suc n) = let rest = sum-both f g n in omega (arith, rest)
 
-pub had-where-it-stands : (sc : Scenario) → IsListed sc → (hands : List HandIn) (sent : Side → ℕ → ℕ → Bool) (now : ℕ) (me : Side) (i p : ℕ) (s : Site) (st : NodeState) (a : Timed)
+pub had-where-it-stands : {sc : _} → IsListed sc → {hands sent now me i p s st a : _}
     → NodeStands sc hands sent now me i p s st a → length (filter (is_known sc.sizes me) s.got) + length s.coming ≤ 2 * count_of (other me) sc.sizes + length sc.says
-had-where-it-stands sc listed hands sent now me i p s st a h =
+had-where-it-stands {sc} listed {hands} {sent} {me} {i} {p} {s} {st} h =
     let m : Moment = moment sc hands p in
     let next : Moment = moment sc hands (next_stage sc.sizes m p) in
     let span : Span = span_of st (window_in sc m me st) in
@@ -56,7 +56,7 @@ had-where-it-stands sc listed hands sent now me i p s st a h =
     let hears : Hears j t s.got s.coming (heard j) (ahead j) = h.receives.hears j in
     let as_many = hears.as_many in
     let later = ap length hears.later in
-    let few = heard-few sc listed m me i span (λ j. sent (other me) j p) j in
+    let few = heard-few listed m me i span (λ j. sent (other me) j p) j in
     let one = ahead-few sc next me i (λ j. sent (other me) j (next_stage sc.sizes m p)) j in
     omega (arith, as_many, later, few, one) in
     let all = all-of-sources t n s.coming h.receives.known in

@@ -14,11 +14,11 @@ first-silent sc me i until s late = by (first_of s.coming) refl
     by : (o : Option Placed) → first_of s.coming ≡ o → heard_first sc me i until o s ≡ []
     by None h = refl
     by (Some p) h = ap (λ b. elim b as (λ _. List Told) [ true ↦ telling sc [] me i s (Arrival p.place p.coming) ∷ [] | false ↦ [] ])
-        (le-ltb p.coming.time until (every-stands (λ c. until ≤ c.time) p.place p.coming s.coming (first-stands s.coming p h) late))
+        (le-ltb p.coming.time until (every-stands (λ c. until ≤ c.time) p.place s.coming (first-stands s.coming p h) late))
 
-first-heard : (sc : Scenario) (me : Side) (i until : ℕ) (s : Site) (p : Placed) → first_of s.coming ≡ Some p → p.coming.time < until
+first-heard : (sc : Scenario) (me : Side) (i until : ℕ) (s : Site) {p : _} → first_of s.coming ≡ Some p → p.coming.time < until
     → heard_first sc me i until (first_of s.coming) s ≡ telling sc [] me i s (Arrival p.place p.coming) ∷ []
-first-heard sc me i until s p e lt =
+first-heard sc me i until s {p} e lt =
     ap (λ o. heard_first sc me i until o s) e
     ∙ ap (λ b. elim b as (λ _. List Told) [ true ↦ telling sc [] me i s (Arrival p.place p.coming) ∷ [] | false ↦ [] ]) (lt-ltb p.coming.time until lt)
 
@@ -40,8 +40,8 @@ pub hears-first : (sc : Scenario) (me : Side) (i until : ℕ) (s : Site) (p : Pl
 unfolding heard heard_by after_arrival
 hears-first sc me i until s p e lt =
     ap (λ n. heard_by sc me i until n s) (length-without p.place p.coming s.coming (first-stands s.coming p e))
-    ∙ ap (λ l. l ++ heard_by sc me i until (length (remove s.coming p.place)) (after_first sc me i until (first_of s.coming) s)) (first-heard sc me i until s p e lt)
-    ∙ ap (λ z. telling sc [] me i s (Arrival p.place p.coming) ∷ heard_by sc me i until (length (remove s.coming p.place)) z) (step-takes sc me i until s p e lt)
+    ∙ ap (λ l. l ++ heard_by sc me i until (length (remove s.coming p.place)) (after_first sc me i until (first_of s.coming) s)) (first-heard sc me i until s e lt)
+    ∙ ap (λ z. telling sc [] me i s (Arrival p.place p.coming) ∷ heard_by sc me i until (length (remove s.coming p.place)) z) (step-takes sc me i until s e lt)
 
 -- The laws.
 
@@ -79,15 +79,15 @@ push-unheard sc me i until ahead more s later =
     ∙ ap (λ z. t ∷ heard sc me i until z) (arrival-more sc me i p.place p.coming ahead more s (first-stands s.coming p e)) ∙ ap (λ l. t ∷ l) rest
     ∙ sym (hears-first sc me i until s p e lt)) s
 
-pub sent-unheard : (sc : Scenario) → IsLawful sc → (me side : Side) (j i frame until : ℕ) (x : Sending) (s : Site) → until ≤ time_of (clock_of sc me j) x.tick + 1
+pub sent-unheard : {sc : _} → IsLawful sc → (me side : Side) (j i frame until : ℕ) (x : Sending) (s : Site) → until ≤ time_of (clock_of sc me j) x.tick + 1
     → heard sc side i until (sent_to sc me j frame x side i s) ≡ heard sc side i until s
-sent-unheard sc lawful me side j i frame until x s le = by (same_side side (other me)) s.runs refl refl
+sent-unheard {sc} lawful me side j i frame until x s le = by (same_side side (other me)) s.runs refl refl
   where
     by : (kind r : Bool) → same_side side (other me) ≡ kind → s.runs ≡ r
         → heard sc side i until (sent_where sc me j frame x side i s (same_side side (other me) && s.runs)) ≡ heard sc side i until s
     by true true e f =
         let c : Coming = coming_of sc side i j frame x in
-        let later : until ≤ c.time = let low = message-later sc lawful me side j i frame x e in omega (arith, le, low) in
+        let later : until ≤ c.time = let low = message-later lawful me side j i frame x e in omega (arith, le, low) in
         let pass : (same_side side (other me) && s.runs) ≡ true = ap (λ k. k && s.runs) e ∙ f in
         ap (λ b. heard sc side i until (sent_where sc me j frame x side i s b)) pass ∙ push-unheard sc side i until s.ahead (c ∷ []) s (later, tt)
     by true false e f =

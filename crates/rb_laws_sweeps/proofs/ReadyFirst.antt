@@ -72,15 +72,15 @@ found-first k (c ∷ cs) p e =
 
 -- At a node.
 
-flat-head : {Y : Type 0} (f : ℕ → List Y) (a n j : ℕ) (d : Y) → j < n → ((k : ℕ) → k < j → f (a + k) ≡ []) → Begins d (f (a + j)) → Begins d (flat_map f (range_with_len a n))
-flat-head f a zero j d lt none is = absurd (omega (arith, lt))
-flat-head f a (suc n) zero d lt none is =
+flat-head : {Y : Type 0} (f : ℕ → List Y) (a n j : ℕ) {d : Y} → j < n → ((k : ℕ) → k < j → f (a + k) ≡ []) → Begins d (f (a + j)) → Begins d (flat_map f (range_with_len a n))
+flat-head f a zero j lt none is = absurd (omega (arith, lt))
+flat-head f a (suc n) zero lt none is =
     let z : a + 0 ≡ a = omega arith in
     (is.0 ++ flat_map f (range_with_len (a + 1) n), ap (λ l. l ++ flat_map f (range_with_len (a + 1) n)) (ap f (sym z) ∙ is.1))
-flat-head f a (suc n) (suc j) d lt none is =
+flat-head f a (suc n) (suc j) {d} lt none is =
     let z : a + 0 ≡ a = omega arith in
     let s : a + suc j ≡ a + 1 + j = omega arith in
-    let rest = flat-head f (a + 1) n j d (omega (arith, lt)) (λ k le. let s : a + 1 + k ≡ a + suc k = omega arith in ap f s ∙ none (suc k) (omega (arith, le))) (subst (λ m. Begins d (f m)) s is) in
+    let rest = flat-head f (a + 1) n j (omega (arith, lt)) (λ k le. let s : a + 1 + k ≡ a + suc k = omega arith in ap f s ∙ none (suc k) (omega (arith, le))) (subst (λ m. Begins d (f m)) s is) in
     (rest.0, ap (λ l. l ++ flat_map f (range_with_len (a + 1) n)) (ap f (sym z) ∙ none 0 (omega arith)) ∙ rest.1)
 
 flat-none : {Y : Type 0} (f : ℕ → List Y) (a n : ℕ) → ((k : ℕ) → f k ≡ []) → flat_map f (range_with_len a n) ≡ []
@@ -94,12 +94,12 @@ ReadyFirst sizes t me i s =
     ((p : Placed) × ((first_of s.coming ≡ Some p) × ((p.coming.time ≡ t) × Begins (record { side = me; node = i; pending = Arrival p.place p.coming }) (ready_at sizes t me i s))))
     ⊎ (Every (λ c. t + 1 ≤ c.time) s.coming × (ready_at sizes t me i s ≡ tick_at me i t s.ahead))
 
-pub ready-first : (sizes : Sizes) (t : ℕ) (me : Side) (i : ℕ) (s : Site) → Known sizes me s.coming → Every (λ c. t ≤ c.time) s.coming → ReadyFirst sizes t me i s
+pub ready-first : (sizes : Sizes) (t : ℕ) {me : _} (i : ℕ) (s : Site) → Known sizes me s.coming → Every (λ c. t ≤ c.time) s.coming → ReadyFirst sizes t me i s
 unfolding ready_at
-ready-first sizes t me i s known late = elim (which-first (t + 1) s.coming) [
+ready-first sizes t {me} i s known late = elim (which-first (t + 1) s.coming) [
   | inl one ↦
       let p : Placed = one.0 in
-      let low : t ≤ p.coming.time = every-stands (λ c. t ≤ c.time) p.place p.coming s.coming (first-stands s.coming p one.1.0) late in
+      let low : t ≤ p.coming.time = every-stands (λ c. t ≤ c.time) p.place s.coming (first-stands s.coming p one.1.0) late in
       let lt : p.coming.time < t + 1 = one.1.1 in
       let time : p.coming.time ≡ t = omega (arith, low, lt) in
       inl (p, (one.1.0, (time, arrives p one.1.0 time)))
@@ -116,7 +116,7 @@ ready-first sizes t me i s known late = elim (which-first (t + 1) s.coming) [
         → Begins (record { side = me; node = i; pending = Arrival p.place p.coming }) (unless_any (flat_map (arrivals_at me i t s) (numbers n)) (tick_at me i t s.ahead))
     arrives p e time =
         let j : ℕ = p.coming.from in
-        let counted : j < n = every-stands (λ c. c.from < n) p.place p.coming s.coming (first-stands s.coming p e) known in
+        let counted : j < n = every-stands (λ c. c.from < n) p.place s.coming (first-stands s.coming p e) known in
         let z : 0 + j ≡ j = omega arith in
         let y : 0 + p.place ≡ p.place = omega arith in
         let found = found-first 0 s.coming p e in
@@ -130,7 +130,7 @@ ready-first sizes t me i s known late = elim (which-first (t + 1) s.coming) [
         ∙ ap (map due)
         (none-found (is_at k p.coming.time) 0 s.coming
         (every-weaker (λ d. comes_first p.coming d ≡ true) (λ d. is_at k p.coming.time d ≡ false) (λ d f. lower-source p.coming d k f lt) s.coming (first-least s.coming p e))) in
-        let all = flat-head (arrivals_at me i t s) 0 n j (due (p.place, p.coming)) counted lower (subst (λ k. Begins (due (p.place, p.coming)) (arrivals_at me i t s k)) (sym z) here) in
+        let all = flat-head (arrivals_at me i t s) 0 n j counted lower (subst (λ k. Begins (due (p.place, p.coming)) (arrivals_at me i t s k)) (sym z) here) in
         (all.0, ap (λ l. unless_any l (tick_at me i t s.ahead)) all.1)
 
     quiet : Every (λ c. t + 1 ≤ c.time) s.coming → flat_map (arrivals_at me i t s) (numbers n) ≡ []
@@ -151,12 +151,12 @@ pub record FirstMade {X Y : Type 0} (k : ℕ) (make : ℕ → X → List Y) (xs 
 pub head-same : {X : Type 0} (x y : X) (xs ys : List X) → x ∷ xs ≡ y ∷ ys → x ≡ y
 head-same x y xs ys e = cc
 
-pub first-made : {X Y : Type 0} (k : ℕ) (make : ℕ → X → List Y) (xs : List X) (d : Y) → Begins d (flat_map (λ l. l) (map_from k make xs)) → FirstMade k make xs d
-first-made k make [] d is = absurd (no-head is.0 d is.1)
+pub first-made : {X Y : Type 0} (k : ℕ) (make : ℕ → X → List Y) (xs : List X) {d : Y} → Begins d (flat_map (λ l. l) (map_from k make xs)) → FirstMade k make xs d
+first-made k make [] {d} is = absurd (no-head is.0 d is.1)
   where
     no-head : {Y : Type 0} (rest : List Y) (d : Y) → [] ≡ d ∷ rest → ⊥
     no-head rest d e = cc
-first-made k make (x ∷ xs) d is = by (make k x) refl is (first-made (k + 1) make xs d)
+first-made k make (x ∷ xs) {d} is = by (make k x) refl is (first-made (k + 1) make xs)
   where
     z : k + 0 ≡ k
     z = omega arith

@@ -10,13 +10,13 @@ use Rattle.rb_laws_sweeps.proofs.Sweeps.{every-all, push-passes, sweeps-keep}
 -- A message.
 
 -- a message arrives later than it was sent
-pub message-later : (sc : Scenario) → IsLawful sc → (me side : Side) (j i frame : ℕ) (x : Sending) → same_side side (other me) ≡ true
+pub message-later : {sc : _} → IsLawful sc → (me side : Side) (j i frame : ℕ) (x : Sending) → same_side side (other me) ≡ true
     → time_of (clock_of sc me j) x.tick + 1 ≤ (coming_of sc side i j frame x).time
-message-later sc lawful me side j i frame x kind =
+message-later {sc} lawful me side j i frame x kind =
     let place : Place = record { frame = frame; slot = x.message.slot; stage = x.message.stage } in
     let twice : other side ≡ me = ap other (same_side-is side (other me) kind) ∙ other_twice me in
     let time : time_of (clock_of sc (other side) j) x.tick ≡ time_of (clock_of sc me j) x.tick = ap (λ side. time_of (clock_of sc side j) x.tick) twice in
-    let low : sc.plan.dmin ≤ delay_of sc.delays (name_of (other side) j) (name_of side i) place = way-least sc lawful (name_of (other side) j) (name_of side i) place in
+    let low : sc.plan.dmin ≤ delay_of sc.delays (name_of (other side) j) (name_of side i) place = way-least lawful (name_of (other side) j) (name_of side i) place in
     let some : 1 ≤ sc.plan.dmin = lawful.plan.dmin.0 in
     omega (arith, time, low, some)
 
@@ -24,9 +24,9 @@ message-later sc lawful me side j i frame x kind =
 abbrev pub sent_where : Scenario → Side → ℕ → ℕ → Sending → Side → ℕ → Site → Bool → Site
 sent_where sc me j frame x side i s b = elim b as (λ _. Site) [ true ↦ record s { coming = s.coming ++ coming_of sc side i j frame x ∷ [] } | false ↦ s ]
 
-pub sent-passes : (sc : Scenario) → IsLawful sc → (me side : Side) (j i frame until : ℕ) (x : Sending) (s : Site) → until ≤ time_of (clock_of sc me j) x.tick + 1
+pub sent-passes : {sc : _} → IsLawful sc → (me side : Side) (j i frame until : ℕ) (x : Sending) (s : Site) → until ≤ time_of (clock_of sc me j) x.tick + 1
     → swept sc side i until (sent_to sc me j frame x side i s) ≡ sent_to sc me j frame x side i (swept sc side i until s)
-sent-passes sc lawful me side j i frame until x s le = by (same_side side (other me)) s.runs refl refl ∙ ap (λ r. sent_where sc me j frame x side i z (same_side side (other me) && r)) (sym runs)
+sent-passes {sc} lawful me side j i frame until x s le = by (same_side side (other me)) s.runs refl refl ∙ ap (λ r. sent_where sc me j frame x side i z (same_side side (other me) && r)) (sym runs)
   where
     z : Site
     z = swept sc side i until s
@@ -44,7 +44,7 @@ sent-passes sc lawful me side j i frame until x s le = by (same_side side (other
         → swept sc side i until (sent_where sc me j frame x side i s (same_side side (other me) && s.runs)) ≡ sent_where sc me j frame x side i z (same_side side (other me) && s.runs)
     by true true e f =
         let c : Coming = coming_of sc side i j frame x in
-        let later : until ≤ c.time = let low = message-later sc lawful me side j i frame x e in omega (arith, le, low) in
+        let later : until ≤ c.time = let low = message-later lawful me side j i frame x e in omega (arith, le, low) in
         let pass : (same_side side (other me) && s.runs) ≡ true = ap (λ k. k && s.runs) e ∙ f in
         ap (λ b. swept sc side i until (sent_where sc me j frame x side i s b)) pass
         ∙ push-passes sc side i until s.ahead (c ∷ []) s (later, tt)
@@ -59,15 +59,15 @@ sent-passes sc lawful me side j i frame until x s le = by (same_side side (other
 
 -- What is said.
 
-pub node-clock : (sc : Scenario) → IsLawful sc → (me : Side) (i : ℕ) → i < count_of me sc.sizes → HasLengths (shortest_of sc.plan) (longest_of sc.plan) (clock_of sc me i)
-node-clock sc lawful me i counted =
+pub node-clock : {sc : _} → IsLawful sc → (me : Side) (i : ℕ) → i < count_of me sc.sizes → HasLengths (shortest_of sc.plan) (longest_of sc.plan) (clock_of sc me i)
+node-clock {sc} lawful me i counted =
     has_lengths (shortest_of sc.plan) (longest_of sc.plan) (clock_of sc me i)
     (lawful.clocks (clock_place sc.sizes me i) (record { start = 0; segments = [] }) (place-within sc.sizes me i (length sc.clocks) lawful.one_clock_each counted))
 
-pub node-moves : (sc : Scenario) → IsLawful sc → (me : Side) (i : ℕ) → i < count_of me sc.sizes → Moves (clock_of sc me i)
-node-moves sc lawful me i counted tick =
-    let low = (node-clock sc lawful me i counted tick).0 in
-    let some : 1 ≤ shortest_of sc.plan = shortest-some sc lawful in
+pub node-moves : {sc : _} → IsLawful sc → (me : Side) (i : ℕ) → i < count_of me sc.sizes → Moves (clock_of sc me i)
+node-moves {sc} lawful me i counted tick =
+    let low = (node-clock lawful me i counted tick).0 in
+    let some : 1 ≤ shortest_of sc.plan = shortest-some lawful in
     omega (arith, low, some)
 
 pub says-later : (sc : Scenario) (me : Side) (i k : ℕ) (span : Span) → span.first ≡ k + 1
@@ -78,7 +78,7 @@ says-later sc me i k span first =
 
 pub sent-later : WhatIsSentComesLaterInLawful
 sent-later sc lawful = record {
-  message = sent-passes sc lawful;
+  message = sent-passes lawful;
   said = λ me i k span counted first.
       every-all (λ c. time_of (clock_of sc me i) k + 1 ≤ c.time) (says_in sc me i span) (says-later sc me i k span first);
 }

@@ -39,18 +39,18 @@ told-good X sc frame slot tells g sites same =
     let told : Side → ℕ → Site → Option X = λ me i s. elim (is_good sc me i frame slot) as (λ _. Option X) [ true ↦ tells s | false ↦ None ] in
     each-fuse told g told sites (λ side j s. ap (λ o. elim (is_good sc side j frame slot) as (λ _. Option X) [ true ↦ o | false ↦ None ]) (same side j s))
 
-pub complete-same : (sc : Scenario) (g : Side → ℕ → Site → Site) (sites : Each Site) (m : Milestone) → KeepsTold g → is_complete sc (map_each g sites) m ≡ is_complete sc sites m
-complete-same sc g sites (Begin frame) keeps = all-told sc frame 0 (λ s. begun_for frame s.begun) g sites (λ side j s. ap (begun_for frame) (keeps.begun side j s))
-complete-same sc g sites (Stage place) keeps = all-told sc place.frame place.slot (λ s. row_for place s.row) g sites (λ side j s. ap (row_for place) (keeps.row side j s))
-complete-same sc g sites End keeps = refl
+pub complete-same : (sc : Scenario) {g : _} (sites : Each Site) (m : Milestone) → KeepsTold g → is_complete sc (map_each g sites) m ≡ is_complete sc sites m
+complete-same sc {g} sites (Begin frame) keeps = all-told sc frame 0 (λ s. begun_for frame s.begun) g sites (λ side j s. ap (begun_for frame) (keeps.begun side j s))
+complete-same sc {g} sites (Stage place) keeps = all-told sc place.frame place.slot (λ s. row_for place s.row) g sites (λ side j s. ap (row_for place) (keeps.row side j s))
+complete-same sc sites End keeps = refl
 
-book-same : (sc : Scenario) (g : Side → ℕ → Site → Site) (sites : Each Site) (b : Book) (m : Milestone) → KeepsTold g → book_with sc (map_each g sites) b m ≡ book_with sc sites b m
-book-same sc g sites b (Begin frame) keeps =
+book-same : (sc : Scenario) {g : _} (sites : Each Site) (b : Book) (m : Milestone) → KeepsTold g → book_with sc (map_each g sites) b m ≡ book_with sc sites b m
+book-same sc {g} sites b (Begin frame) keeps =
     ap (λ told. with_frame sc frame (present (in_order told)) b)
     (told-good Begun sc frame 0 (λ s. begun_for frame s.begun) g sites (λ side j s. ap (begun_for frame) (keeps.begun side j s)))
-book-same sc g sites b (Stage place) keeps =
+book-same sc {g} sites b (Stage place) keeps =
     ap (λ rows. with_stage sc place rows b) (told-good Row sc place.frame place.slot (λ s. row_for place s.row) g sites (λ side j s. ap (row_for place) (keeps.row side j s)))
-book-same sc g sites b End keeps = refl
+book-same sc sites b End keeps = refl
 
 -- Worlds.
 
@@ -58,24 +58,24 @@ book-same sc g sites b End keeps = refl
 abbrev pub changed : (Side → ℕ → Site → Site) → World → World
 changed g w = record w { sites = map_each g w.sites }
 
-next-changed : (sc : Scenario) (way : Way) (g : Side → ℕ → Site → Site) (w : World) → KeepsTold g → settle_next sc way (changed g w) ≡ changed g (settle_next sc way w)
-next-changed sc way g w keeps =
+next-changed : (sc : Scenario) (way : Way) {g : _} (w : World) → KeepsTold g → settle_next sc way (changed g w) ≡ changed g (settle_next sc way w)
+next-changed sc way {g} w keeps =
     ap (λ c. elim (comes_so sc way w.book.upcoming && c) as (λ _. World) [
       | true ↦ record (changed g w) { book = book_with sc (map_each g w.sites) w.book w.book.upcoming }
       | false ↦ changed g w
-    ]) (complete-same sc g w.sites w.book.upcoming keeps)
+    ]) (complete-same sc w.sites w.book.upcoming keeps)
     ∙ by (comes_so sc way w.book.upcoming && is_complete sc w.sites w.book.upcoming)
   where
     by : (b : Bool) → (elim b as (λ _. World) [ true ↦ record (changed g w) { book = book_with sc (map_each g w.sites) w.book w.book.upcoming } | false ↦ changed g w ])
         ≡ changed g (elim b as (λ _. World) [ true ↦ record w { book = book_with sc w.sites w.book w.book.upcoming } | false ↦ w ])
-    by true = ap (λ b. record (changed g w) { book = b }) (book-same sc g w.sites w.book w.book.upcoming keeps)
+    by true = ap (λ b. record (changed g w) { book = b }) (book-same sc w.sites w.book w.book.upcoming keeps)
     by false = refl
 
-pub settle-changed : (sc : Scenario) (way : Way) (n : ℕ) (g : Side → ℕ → Site → Site) (w : World) → KeepsTold g → settle sc way n (changed g w) ≡ changed g (settle sc way n w)
-settle-changed sc way zero g w keeps = refl
-settle-changed sc way (suc n) g w keeps =
-    ap (λ next. settle_rest sc way n next (record_since (changed g w) next)) (next-changed sc way g w keeps)
-    ∙ by (record_since w (settle_next sc way w)) (settle-changed sc way n g (settle_next sc way w) keeps)
+pub settle-changed : (sc : Scenario) (way : Way) (n : ℕ) {g : _} (w : World) → KeepsTold g → settle sc way n (changed g w) ≡ changed g (settle sc way n w)
+settle-changed sc way zero w keeps = refl
+settle-changed sc way (suc n) {g} w keeps =
+    ap (λ next. settle_rest sc way n next (record_since (changed g w) next)) (next-changed sc way w keeps)
+    ∙ by (record_since w (settle_next sc way w)) (settle-changed sc way n (settle_next sc way w) keeps)
   where
     by : (o : Option Record) → settle sc way n (changed g (settle_next sc way w)) ≡ changed g (settle sc way n (settle_next sc way w))
         → settle_rest sc way n (changed g (settle_next sc way w)) o ≡ changed g (settle_rest sc way n (settle_next sc way w) o)

@@ -15,16 +15,16 @@ RunsOrEmpty s = s.runs ≡ false → (s.ahead ≡ None) × (s.coming ≡ [])
 abbrev pub AllRunOrEmpty : Each Site → Type 0
 AllRunOrEmpty sites = (me : Side) (i : ℕ) (s : Site) → slice_get (of_kind me sites) i ≡ Some s → RunsOrEmpty s
 
-each-empty : (f : Side → ℕ → Site → Site) (sites : Each Site) → ((me : Side) (i : ℕ) (s : Site) → slice_get (of_kind me sites) i ≡ Some s → RunsOrEmpty s → RunsOrEmpty (f me i s))
+each-empty : (f : Side → ℕ → Site → Site) {sites : _} → ((me : Side) (i : ℕ) (s : Site) → slice_get (of_kind me sites) i ≡ Some s → RunsOrEmpty s → RunsOrEmpty (f me i s))
     → AllRunOrEmpty sites → AllRunOrEmpty (map_each f sites)
-each-empty f sites go h me i s e =
+each-empty f {sites} go h me i s e =
     let was = option_map-back (f me i) (slice_get (of_kind me sites) i) s (sym (get-each f sites me i) ∙ e) in
     subst RunsOrEmpty was.1.1 (go me i was.0 was.1.0 (h me i was.0 was.1.0))
 
-node-empty : (me : Side) (i : ℕ) (change : Site → Site) (sites : Each Site) → ((s : Site) → slice_get (of_kind me sites) i ≡ Some s → RunsOrEmpty (change s)) → AllRunOrEmpty sites
+node-empty : (me : Side) (i : ℕ) (change : Site → Site) {sites : _} → ((s : Site) → slice_get (of_kind me sites) i ≡ Some s → RunsOrEmpty (change s)) → AllRunOrEmpty sites
     → AllRunOrEmpty (at_node me i change sites)
-node-empty me i change sites go h =
-    each-empty (λ side n s. elim (is_node me i side n) as (λ _. Site) [ true ↦ change s | false ↦ s ]) sites (λ side n s there was. by side n s there was (is_node me i side n) refl) h
+node-empty me i change {sites} go h =
+    each-empty (λ side n s. elim (is_node me i side n) as (λ _. Site) [ true ↦ change s | false ↦ s ]) (λ side n s there was. by side n s there was (is_node me i side n) refl) h
   where
     by : (side : Side) (n : ℕ) (s : Site) → slice_get (of_kind side sites) n ≡ Some s → RunsOrEmpty s → (b : Bool) → is_node me i side n ≡ b
         → RunsOrEmpty (elim b as (λ _. Site) [ true ↦ change s | false ↦ s ])
@@ -66,19 +66,19 @@ sent-empty sc me j frame x side i s h = by (same_side side (other me)) s.runs re
     by true false e = h
     by false r e = h
 
-message-empty : (sc : Scenario) (me : Side) (j frame k : ℕ) (m : Option Message) (sites : Each Site) → AllRunOrEmpty sites → AllRunOrEmpty (with_message sc me j frame k m sites)
-message-empty sc me j frame k None sites h = h
-message-empty sc me j frame k (Some m) sites h =
-    each-empty (sent_to sc me j frame (record { tick = k; message = m })) sites (λ side i s there was. sent-empty sc me j frame (record { tick = k; message = m }) side i s was) h
+message-empty : (sc : Scenario) (me : Side) (j frame k : ℕ) (m : Option Message) {sites : _} → AllRunOrEmpty sites → AllRunOrEmpty (with_message sc me j frame k m sites)
+message-empty sc me j frame k None h = h
+message-empty sc me j frame k (Some m) h =
+    each-empty (sent_to sc me j frame (record { tick = k; message = m })) (λ side i s there was. sent-empty sc me j frame (record { tick = k; message = m }) side i s was) h
 
 -- An event: its node runs.
 
-none-some : {P : Type 0} (o : Option Timed) (a : Timed) → o ≡ None → o ≡ Some a → P
-none-some None a e f = absurd (no a f)
+none-some : {P : Type 0} (o : Option Timed) {a : _} → o ≡ None → o ≡ Some a → P
+none-some None {a} e f = absurd (no a f)
   where
     no : (a : Timed) → None ≡ Some a → ⊥
     no a e = cc
-none-some (Some b) a e f = absurd (no b e)
+none-some (Some b) {a} e f = absurd (no b e)
   where
     no : (a : Timed) → Some a ≡ None → ⊥
     no a e = cc
@@ -90,43 +90,43 @@ none-stands (x ∷ xs) e n c s = absurd (no x xs e)
     no : (x : Coming) (xs : List Coming) → x ∷ xs ≡ [] → ⊥
     no x xs e = cc
 
-runs-ahead : (s : Site) (a : Timed) → RunsOrEmpty s → s.ahead ≡ Some a → s.runs ≡ true
-runs-ahead s a h pends = by s.runs refl
+runs-ahead : (s : Site) {a : _} → RunsOrEmpty s → s.ahead ≡ Some a → s.runs ≡ true
+runs-ahead s h pends = by s.runs refl
   where
     by : (b : Bool) → s.runs ≡ b → b ≡ true
     by true e = refl
-    by false e = none-some s.ahead a (h e).0 pends
+    by false e = none-some s.ahead (h e).0 pends
 
-pending-empty : (sc : Scenario) (w : World) (me : Side) (i t : ℕ) (s : Site) (p : Pending) → slice_get (of_kind me w.sites) i ≡ Some s → IsReady t s p → AllRunOrEmpty w.sites
+pending-empty : (sc : Scenario) (w : World) (me : Side) (i t : ℕ) {s : _} (p : Pending) → slice_get (of_kind me w.sites) i ≡ Some s → IsReady t s p → AllRunOrEmpty w.sites
     → AllRunOrEmpty (with_pending sc w me i s p).sites
 unfolding with_act after_arrival
-pending-empty sc w me i t s (Tick k) there ready h =
+pending-empty sc w me i t {s} (Tick k) there ready h =
     let x : Act = pass_and_tick sc w.ports me i k s.core in
-    message-empty sc me i x.core.state.frame k x.message (at_node me i (after_act sc w.ports me i x) w.sites)
-    (node-empty me i (after_act sc w.ports me i x) w.sites
-    (λ z here. act-empty sc w.ports me i x z (ap (λ (s : Site). s.runs) (same_Some z s (sym here ∙ there)) ∙ runs-ahead s ready.0 (h me i s there) ready.1.0)) h)
-pending-empty sc w me i t s (Arrival place c) there ready h =
-    node-empty me i (after_arrival sc me i place c) w.sites
+    message-empty sc me i x.core.state.frame k x.message
+    (node-empty me i (after_act sc w.ports me i x)
+    (λ z here. act-empty sc w.ports me i x z (ap (λ (s : Site). s.runs) (same_Some z s (sym here ∙ there)) ∙ runs-ahead s (h me i s there) ready.1.0)) h)
+pending-empty sc w me i t {s} (Arrival place c) there ready h =
+    node-empty me i (after_arrival sc me i place c)
     (λ z here e. none-stands s.coming (h me i s there (ap (λ (s : Site). s.runs) (same_Some s z (sym there ∙ here)) ∙ e)).1 place c ready.0) h
 
-due-empty : (sc : Scenario) (w : World) (d : Due) → IsDue w d → AllRunOrEmpty w.sites → AllRunOrEmpty (take_if_due sc w (Some d)).sites
-due-empty sc w d due h =
-    subst AllRunOrEmpty (sym (settle-sites sc ByAnEvent 2 (happens sc w d) ∙ ap (λ (x : World). x.sites) (happens-is sc w d due.s due.there)))
-    (pending-empty sc w d.side d.node due.t due.s d.pending due.there due.ready h)
+due-empty : (sc : Scenario) {w d : _} → IsDue w d → AllRunOrEmpty w.sites → AllRunOrEmpty (take_if_due sc w (Some d)).sites
+due-empty sc {w} {d} due h =
+    subst AllRunOrEmpty (sym (settle-sites sc ByAnEvent 2 (happens sc w d) ∙ ap (λ (x : World). x.sites) (happens-is sc w d due.there)))
+    (pending-empty sc w d.side d.node due.t d.pending due.there due.ready h)
 
-choose-empty : (sc : Scenario) (w : World) (c : Choice) → NodesKnown sc w.sites → AllRunOrEmpty w.sites → AllRunOrEmpty (choose sc w c).sites
+choose-empty : {sc : _} (w : World) (c : Choice) → NodesKnown sc w.sites → AllRunOrEmpty w.sites → AllRunOrEmpty (choose sc w c).sites
 unfolding take go_on
-choose-empty sc w (Take i) known h = by (slice_get (due_of sc w) i) refl
+choose-empty {sc} w (Take i) known h = by (slice_get (due_of sc w) i) refl
   where
     by : (o : Option Due) → slice_get (due_of sc w) i ≡ o → AllRunOrEmpty (take_if_due sc w o).sites
     by None e = h
-    by (Some d) e = due-empty sc w d (due-is sc w i d (record { known = known.known }) e) h
-choose-empty sc w GoOn known h = by w.book.ended
+    by (Some d) e = due-empty sc (due-is i (record { known = known.known }) e) h
+choose-empty {sc} w GoOn known h = by w.book.ended
   where
     by : (b : Bool) → AllRunOrEmpty (elim b as (λ _. World) [ true ↦ w | false ↦ settle sc ByItself 2 w ]).sites
     by true = h
     by false = subst AllRunOrEmpty (sym (settle-sites sc ByItself 2 w)) h
-choose-empty sc w (Hand biu state) known h = hand-leaves (λ x. AllRunOrEmpty x.sites) sc w biu state (λ ports hands. h) h
+choose-empty {sc} w (Hand biu state) known h = hand-leaves (λ x. AllRunOrEmpty x.sites) sc w biu state (λ ports hands. h) h
 
 first-empty : (sc : Scenario) → AllRunOrEmpty (first_world sc).sites
 unfolding first_world proceed
@@ -138,9 +138,9 @@ first-empty sc me i s e =
     let fresh : Site = fresh_site sc.sizes me in
     subst RunsOrEmpty (same_Some (make me i) s (sym made ∙ e)) (enter-empty sc me i (span_from sc.sizes sc.plan me fresh.core.state fresh.core.had) fresh refl)
 
-from-empty : (sc : Scenario) (choices : List Choice) (w : World) → NodesKnown sc w.sites → AllRunOrEmpty w.sites → AllRunOrEmpty (fold (choose sc) w choices).sites
-from-empty sc [] w known h = h
-from-empty sc (c ∷ cs) w known h = from-empty sc cs (choose sc w c) (choose-known sc w c known) (choose-empty sc w c known h)
+from-empty : {sc : _} (choices : List Choice) (w : World) → NodesKnown sc w.sites → AllRunOrEmpty w.sites → AllRunOrEmpty (fold (choose sc) w choices).sites
+from-empty [] w known h = h
+from-empty {sc} (c ∷ cs) w known h = from-empty cs (choose sc w c) (choose-known w c known) (choose-empty w c known h)
 
 -- A tick alone.
 
@@ -180,22 +180,22 @@ alone-empty sc w me i a first h = subst AllRunOrEmpty (sym sites) done
     x = pass_and_tick sc w.ports me i a.tick z.core
 
     sites : (tick_alone sc me i a w).sites ≡ (with_act sc alone me i a.tick x).sites
-    sites = settle-sites sc ByAnEvent 2 (happens sc alone d) ∙ ap (λ (y : World). y.sites) (happens-is sc alone d z node-alone)
+    sites = settle-sites sc ByAnEvent 2 (happens sc alone d) ∙ ap (λ (y : World). y.sites) (happens-is sc alone d node-alone)
 
     swept-all : AllRunOrEmpty alone.sites
-    swept-all = node-empty me i sweep w.sites (λ s there. sweep-empty sc me i (a.time + 1) s (h me i s there)) h
+    swept-all = node-empty me i sweep (λ s there. sweep-empty sc me i (a.time + 1) s (h me i s there)) h
 
     runs : z.runs ≡ true
-    runs = runs-ahead z a (swept-all me i z node-alone) (ap (λ (s : Site). s.ahead) (sweeps-keep sc me i (a.time + 1) first.node).is ∙ first.pends)
+    runs = runs-ahead z (swept-all me i z node-alone) (ap (λ (s : Site). s.ahead) (sweeps-keep sc me i (a.time + 1) first.node).is ∙ first.pends)
 
     done : AllRunOrEmpty (with_act sc alone me i a.tick x).sites
     done =
-        message-empty sc me i x.core.state.frame a.tick x.message (at_node me i (after_act sc w.ports me i x) alone.sites)
-        (node-empty me i (after_act sc w.ports me i x) alone.sites
+        message-empty sc me i x.core.state.frame a.tick x.message
+        (node-empty me i (after_act sc w.ports me i x)
         (λ y here. act-empty sc w.ports me i x y (ap (λ (s : Site). s.runs) (same_Some y z (sym here ∙ node-alone)) ∙ runs)) swept-all)
 
 pub stopped-stay-empty : StoppedStayEmptyInEach
 stopped-stay-empty sc = record {
-  reached = λ choices. from-empty sc choices (first_world sc) (first-known sc) (first-empty sc);
+  reached = λ choices. from-empty choices (first_world sc) (first-known sc) (first-empty sc);
   kept = alone-empty sc;
 }

@@ -20,11 +20,11 @@ step-stays sc me i until s late = by (first_of s.coming) refl
     by : (o : Option Placed) → first_of s.coming ≡ o → after_first sc me i until o s ≡ s
     by None h = refl
     by (Some p) h = ap (λ b. elim b as (λ _. Site) [ true ↦ after_arrival sc me i p.place p.coming s | false ↦ s ])
-        (le-ltb p.coming.time until (every-stands (λ c. until ≤ c.time) p.place p.coming s.coming (first-stands s.coming p h) late))
+        (le-ltb p.coming.time until (every-stands (λ c. until ≤ c.time) p.place s.coming (first-stands s.coming p h) late))
 
-pub step-takes : (sc : Scenario) (me : Side) (i until : ℕ) (s : Site) (p : Placed) → first_of s.coming ≡ Some p → p.coming.time < until
+pub step-takes : (sc : Scenario) (me : Side) (i until : ℕ) (s : Site) {p : _} → first_of s.coming ≡ Some p → p.coming.time < until
     → after_first sc me i until (first_of s.coming) s ≡ after_arrival sc me i p.place p.coming s
-step-takes sc me i until s p e lt =
+step-takes sc me i until s {p} e lt =
     ap (λ o. after_first sc me i until o s) e
     ∙ ap (λ b. elim b as (λ _. Site) [ true ↦ after_arrival sc me i p.place p.coming s | false ↦ s ]) (lt-ltb p.coming.time until lt)
 
@@ -44,12 +44,12 @@ pub sweep-takes : (sc : Scenario) (me : Side) (i until : ℕ) (s : Site) (p : Pl
 unfolding swept swept_by after_arrival
 sweep-takes sc me i until s p e lt =
     ap (λ n. swept_by sc me i until n s) (length-without p.place p.coming s.coming (first-stands s.coming p e))
-    ∙ ap (swept_by sc me i until (length (remove s.coming p.place))) (step-takes sc me i until s p e lt)
+    ∙ ap (swept_by sc me i until (length (remove s.coming p.place))) (step-takes sc me i until s e lt)
 
-arrival-length : (sc : Scenario) (me : Side) (i : ℕ) (s : Site) (p : Placed) → first_of s.coming ≡ Some p
+arrival-length : (sc : Scenario) (me : Side) (i : ℕ) (s : Site) {p : _} → first_of s.coming ≡ Some p
     → length s.coming ≡ suc (length (after_arrival sc me i p.place p.coming s).coming)
 unfolding after_arrival
-arrival-length sc me i s p e = length-without p.place p.coming s.coming (first-stands s.coming p e)
+arrival-length sc me i s {p} e = length-without p.place p.coming s.coming (first-stands s.coming p e)
 
 -- `P` holds for each site if it holds when nothing comes before the time, and before an arrival
 -- whenever it holds after it
@@ -58,12 +58,12 @@ pub sweep-by : (sc : Scenario) (me : Side) (i until : ℕ) (P : Site → Type 0)
     → (n : ℕ) (s : Site) → length s.coming ≤ n → P s
 sweep-by sc me i until P stays takes zero s few = elim (which-first until s.coming) [
   | inr late ↦ stays s late
-  | inl one ↦ let long = arrival-length sc me i s one.0 one.1.0 in absurd (omega (arith, few, long))
+  | inl one ↦ let long = arrival-length sc me i s one.1.0 in absurd (omega (arith, few, long))
 ]
 sweep-by sc me i until P stays takes (suc n) s few = elim (which-first until s.coming) [
   | inr late ↦ stays s late
   | inl one ↦
-      let long = arrival-length sc me i s one.0 one.1.0 in
+      let long = arrival-length sc me i s one.1.0 in
       takes s one.0 one.1.0 one.1.1
       (sweep-by sc me i until P stays takes n (after_arrival sc me i one.0.place one.0.coming s) (omega (arith, few, long)))
 ]
@@ -86,9 +86,9 @@ sweeps-compose sc me i s until later le =
     (λ s late. ap (swept sc me i later) (sweep-stays sc me i until s late))
     (λ s p e lt rest. ap (swept sc me i later) (sweep-takes sc me i until s p e lt) ∙ rest ∙ sym (sweep-takes sc me i later s p e (omega (arith, lt, le)))) s
 
-arrival-from : (sc : Scenario) (me : Side) (i until place : ℕ) (c : Coming) (s z : Site) → SweepsFrom sc me i until (after_arrival sc me i place c s) z → SweepsFrom sc me i until s z
+arrival-from : {sc me i until : _} (place : ℕ) (c : Coming) (s : Site) {z : _} → SweepsFrom sc me i until (after_arrival sc me i place c s) z → SweepsFrom sc me i until s z
 unfolding after_arrival
-arrival-from sc me i until place c s z h =
+arrival-from {sc} {me} {i} place c s h =
     let passed : Core = pass_to (stamp_of (clock_of sc me i) c.time) s.core in
     record { is = h.is; state = h.state ∙ (arrive-same sc.sizes me passed c.from c.bytes).0; left = h.left }
 
@@ -97,7 +97,7 @@ sweeps-keep sc me i until s =
     sweep-of sc me i until (λ s. SweepsFrom sc me i until s (swept sc me i until s))
     (λ s late. subst (SweepsFrom sc me i until s) (sym (sweep-stays sc me i until s late)) (record { is = refl; state = refl; left = every-all (λ c. until ≤ c.time) s.coming late }))
     (λ s p e lt rest. subst (SweepsFrom sc me i until s) (sym (sweep-takes sc me i until s p e lt))
-    (arrival-from sc me i until p.place p.coming s (swept sc me i until (after_arrival sc me i p.place p.coming s)) rest)) s
+    (arrival-from p.place p.coming s rest)) s
 
 -- what comes later may be added before an arrival or after it
 pub arrival-more : (sc : Scenario) (me : Side) (i place : ℕ) (c : Coming) (ahead : Option Timed) (more : List Coming) (s : Site) → StandsAt place c s.coming

@@ -41,23 +41,23 @@ pub shown-node : (sc : Scenario) (ports : List PortState) (me : Side) (i : ℕ) 
 shown-node sc ports me i c (Tick k) = refl
 shown-node sc ports me i c (Arrival place a) = refl
 
-shown : (sc : Scenario) (w : World) (d : Due) (x : Site) → slice_get (due_of sc w) 0 ≡ Some d → slice_get (of_kind d.side w.sites) d.node ≡ Some x
+shown : (sc : Scenario) (w : World) {d x : _} → slice_get (due_of sc w) 0 ≡ Some d → slice_get (of_kind d.side w.sites) d.node ≡ Some x
     → event_at sc w 0 ≡ Some (event_of sc w.ports d.side d.node x.core d.pending)
 unfolding event_at
-shown sc w d x due there =
+shown sc w {d} due there =
     let show : Due → Option Event = λ d. option_map (λ (s : Site). event_of sc w.ports d.side d.node s.core d.pending) (slice_get (of_kind d.side w.sites) d.node) in
     ap (option_and_then show) due ∙ ap (option_map (λ (s : Site). event_of sc w.ports d.side d.node s.core d.pending)) there
 
 -- node `j` is told of the first due event if this happens at it
-pub told-one : (sc : Scenario) (w : World) (d : Due) (x : Site) → slice_get (due_of sc w) 0 ≡ Some d → slice_get (of_kind d.side w.sites) d.node ≡ Some x
-    → (side : Side) (j : ℕ) (s : Site) → slice_get (of_kind side w.sites) j ≡ Some s
+pub told-one : (sc : Scenario) (w : World) {d x : _} → slice_get (due_of sc w) 0 ≡ Some d → slice_get (of_kind d.side w.sites) d.node ≡ Some x
+    → (side : Side) (j : ℕ) {s : _} → slice_get (of_kind side w.sites) j ≡ Some s
     → told_next sc side j w
     ≡ (if same_node (name_of d.side d.node) (name_of side j) then (record { frame = s.core.state.frame; event = event_of sc w.ports d.side d.node x.core d.pending }) ∷ [] else [])
 unfolding told_next
-told-one sc w d x due at side j s there =
+told-one sc w {d} {x} due at side j {s} there =
     let e : Event = event_of sc w.ports d.side d.node x.core d.pending in
     ap (λ o. if_told (name_of side j) o (event_at sc w 0)) there
-    ∙ ap (if_told (name_of side j) (Some s)) (shown sc w d x due at)
+    ∙ ap (if_told (name_of side j) (Some s)) (shown sc w due at)
     ∙ ap (λ n. if same_node n (name_of side j) then told s e ∷ [] else []) (shown-node sc w.ports d.side d.node x.core d.pending)
   where
     told : Site → Event → Told

@@ -9,9 +9,9 @@ use Rattle.rb_laws_sweeps.proofs.{AfterTick.takes-are, BehindFew.behind-few, Goe
 pub ticks-behind-fit : TicksBehindFit
 unfolding with_act
 ticks-behind-fit sc lawful listed choices until w is stopped event me i a first le s there = record {
-  own = own-few sc me i x.core.state.frame a.tick x.message (after_act sc w.ports me i x) alone.sites z fits node-alone;
+  own = own-few sc me i x.core.state.frame a.tick x.message (after_act sc w.ports me i x) alone.sites fits node-alone;
   message = λ m e j receiver here runs.
-      message-few sc me i x.core.state.frame a.tick x.message m (after_act sc w.ports me i x) alone.sites fits e j receiver
+      message-few sc me i x.core.state.frame a.tick (after_act sc w.ports me i x) alone.sites fits e j
       (get-at me (other me) i j sweep w.sites ∙ ap (option_map (λ s. elim (is_node me i (other me) j) as (λ _. Site) [ true ↦ sweep s | false ↦ s ])) here
       ∙ ap (λ b. Some (elim b as (λ _. Site) [ true ↦ sweep receiver | false ↦ receiver ])) (not-other me i j)) runs;
 }
@@ -40,7 +40,7 @@ ticks-behind-fit sc lawful listed choices until w is stopped event me i a first 
     x = pass_and_tick sc w.ports me i a.tick z.core
 
     sites : (tick_alone sc me i a w).sites ≡ (with_act sc alone me i a.tick x).sites
-    sites = settle-sites sc ByAnEvent 2 (happens sc alone d) ∙ ap (λ (y : World). y.sites) (happens-is sc alone d z node-alone)
+    sites = settle-sites sc ByAnEvent 2 (happens sc alone d) ∙ ap (λ (y : World). y.sites) (happens-is sc alone d node-alone)
 
     cs : List Choice
     cs = (takes-are sc choices (suc goes.leads.takes)).0

@@ -5,7 +5,7 @@ use Rattle.std.proofs.{Common.{◌≡◌, ℕ, zero, suc, ◌+◌, ◌*◌, ◌�
 use Rattle.rb_base.specs.{Nodes.Side, Sizes.Sizes}
 use Rattle.rb_rules.specs.{declared.plan.Plan.Plan, Book.{each_of, of_kind}, Goodness.Scenario, Lawful.IsLawful, Moments.IsRunning, NodeState.{NodeState, first_state}, Plan.tail_start_of, Ports.HandIn, Rounds.{Moment, begin_frame, first_moment, moment, next_frame, windows_in}, Slots.count_of}
 use Rattle.rb_rules.proofs.WindowNumbers.{get-made}
-use Rattle.rb_laws_agreement.proofs.{Agreement.{running_before, step_is}, FrameAgrees.{TurnedFrom, begin-frame, turned_from}, FrameBegins.not-over, FrameTimes.turned-epoch, Goodnesses.good_counts, Invariant.{Agree, IsGoodNode, Shared, slot_numbered}, NextMoments.{CameFrom, came_from, next}, SlotRuns.next-frame}
+use Rattle.rb_laws_agreement.proofs.{Agreement.{running_before, step_is}, FrameAgrees.{TurnedFrom, begin-frame, turned_from}, FrameBegins.not-over, FrameTimes.turned-epoch, Goodnesses.good_counts, Invariant.{Agree, IsGoodNode, slot_numbered}, NextMoments.{CameFrom, came_from, next}, SlotRuns.next-frame}
 use Rattle.rb_laws_synchrony.proofs.{SyncSteps.epoch_after, Synchronous.{KnowNext, KnowsEpoch}, Synchrony.{IsSynchronous, synchrony}}
 
 -- a number of ticks that is greater than those of a frame
@@ -27,18 +27,18 @@ first-begins sc hands me i st h =
     let e : 0 ≡ st.epoch = ap (λ x. x.epoch) same in
     omega (arith, e)
 
-next-begins : (sc : Scenario) (hands : List HandIn) (n : ℕ) (m : Moment) (s : Shared) → Agree sc hands n m s → BeginByThen sc m → BeginByThen sc (next sc m)
-next-begins sc hands n m s agree before me i now h =
-    let from : CameFrom sc m me i now = came_from sc hands n m s agree me i now h in
+next-begins : {sc hands n m s : _} → Agree sc hands n m s → BeginByThen sc m → BeginByThen sc (next sc m)
+next-begins {sc} {m} agree before me i now h =
+    let from : CameFrom sc m me i now = came_from agree h in
     let e : now.epoch ≡ from.st.epoch = ap (λ x. x.epoch) (sym from.is) ∙ epoch_after sc m me i from.st in
     subst (λ f. now.epoch ≤ f * frame_ticks sc.sizes sc.plan) (sym (next-frame sc m)) (omega (arith, e, before me i from.st from.was))
 
-turn-begins : (sc : Scenario) (hands : List HandIn) (n : ℕ) (m : Moment) (s : Shared) → Agree sc hands n m s → KnowNext sc m → BeginByThen sc m → BeginByThen sc (next_frame sc hands m)
+turn-begins : {sc hands n m s : _} → Agree sc hands n m s → KnowNext sc m → BeginByThen sc m → BeginByThen sc (next_frame sc hands m)
 unfolding begin_frame
-turn-begins sc hands n m s agree known before me i now h =
-    let from : TurnedFrom sc m me i now = turned_from sc hands n m s agree me i now h in
+turn-begins {sc} {m} agree known before me i now h =
+    let from : TurnedFrom sc m me i now = turned_from agree h in
     let k : KnowsEpoch sc me i from.st known.0 = known.1 me i from.st from.was in
-    let e : k.takes.epoch ≡ now.epoch = sym (turned-epoch sc.sizes sc.plan me from.st k.takes.epoch k.takes.known) ∙ ap (λ x. x.epoch) from.is in
+    let e : k.takes.epoch ≡ now.epoch = sym (turned-epoch sc.sizes sc.plan me from.st k.takes.known) ∙ ap (λ x. x.epoch) from.is in
     one-more m.frame (frame_ticks sc.sizes sc.plan) from.st.epoch now.epoch (before me i from.st from.was)
     (later from.st.epoch (tail_start_of sc.sizes sc.plan) (max sc.plan.z (sc.plan.v + sc.plan.c)) k.takes.epoch now.epoch k.takes.most e)
   where
@@ -48,18 +48,18 @@ turn-begins sc hands n m s agree known before me i now h =
     one-more : (frame ticks old now : ℕ) → old ≤ frame * ticks → now ≤ old + ticks → now ≤ (frame + 1) * ticks
     one-more frame ticks old now a b = omega (arith, a, b)
 
-pub begin_by_then : (sc : Scenario) (hands : List HandIn) → IsLawful sc → (n : ℕ) → IsRunning (moment sc hands n) → BeginByThen sc (moment sc hands n)
-begin_by_then sc hands law zero running = first-begins sc hands
-begin_by_then sc hands law (suc n) running =
+pub begin_by_then : {sc : _} (hands : List HandIn) → IsLawful sc → (n : ℕ) → IsRunning (moment sc hands n) → BeginByThen sc (moment sc hands n)
+begin_by_then {sc} hands law zero running = first-begins sc hands
+begin_by_then {sc} hands law (suc n) running =
     let m : Moment = moment sc hands n in
     let open_before : IsRunning m = running_before sc hands m running in
-    let x : IsSynchronous sc hands n = synchrony sc hands law n open_before in
-    let before : BeginByThen sc m = begin_by_then sc hands law n open_before in
+    let x : IsSynchronous sc hands n = synchrony hands law n open_before in
+    let before : BeginByThen sc m = begin_by_then hands law n open_before in
     elim (step_is sc hands m running) [
-      | inl window ↦ subst (BeginByThen sc) (sym window.1) (next-begins sc hands n m x.shared x.agree before)
+      | inl window ↦ subst (BeginByThen sc) (sym window.1) (next-begins x.agree before)
       | inr turn ↦
           let over : windows_in sc.sizes ≤ m.window = turn.0 in
-          subst (BeginByThen sc) (sym turn.1) (turn-begins sc hands n m x.shared x.agree (x.near.third (omega arith)) before)
+          subst (BeginByThen sc) (sym turn.1) (turn-begins x.agree (x.near.third (omega arith)) before)
     ]
 
 -- ---- the frames of the run

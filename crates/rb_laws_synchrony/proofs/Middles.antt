@@ -40,8 +40,8 @@ pub record HasStamp (low high : ℕ) (o : Option ℕ) : Type 0 where
   pub is : o ≡ Some stamp
   pub between : IsBetween low high stamp
 
-not_passed : (p : ℕ → Bool) (low high : ℕ) (o : Option ℕ) → ((y : ℕ) → IsBetween low high y → p y ≡ true → ⊥) → HasStamp low high o → passes p o ≡ true → ⊥
-not_passed p low high o fails has pass = fails has.stamp has.between (sym (ap (passes p) has.is) ∙ pass)
+not_passed : (p : ℕ → Bool) {low high o : _} → ((y : ℕ) → IsBetween low high y → p y ≡ true → ⊥) → HasStamp low high o → passes p o ≡ true → ⊥
+not_passed p fails has pass = fails has.stamp has.between (sym (ap (passes p) has.is) ∙ pass)
 
 -- only sources that are not good can have a number below those of all good ones
 few_up_to : (f : ℕ → Option ℕ) (good : ℕ → Bool) (low high m : ℕ) → ((j : ℕ) → good j ≡ true → HasStamp low high (f j)) → m < low → (js : List ℕ)
@@ -51,13 +51,13 @@ few_up_to f good low high m has less js =
   where
     go : (j : ℕ) (b : Bool) → good j ≡ b → (o : Option ℕ) → f j ≡ o → passes (λ x. nat_le x m) o ≡ true → (not b && is_some o) ≡ true
     go j true is o e pass =
-        absurd (not_passed (λ x. nat_le x m) low high o (λ y in_range le. omega (arith, less, in_range.least, leb-true y m le)) (subst (HasStamp low high) e (has j is)) pass)
+        absurd (not_passed (λ x. nat_le x m) (λ y in_range le. omega (arith, less, in_range.least, leb-true y m le)) (subst (HasStamp low high) e (has j is)) pass)
     go j false is None e pass = pass
     go j false is (Some x) e pass = refl
 
-pub middle_within : (f : ℕ → Option ℕ) (good : ℕ → Bool) (low high m : ℕ) (js : List ℕ) → ((j : ℕ) → good j ≡ true → HasStamp low high (f j))
+pub middle_within : (f : ℕ → Option ℕ) (good : ℕ → Bool) (low high : ℕ) {m : ℕ} (js : List ℕ) → ((j : ℕ) → good j ≡ true → HasStamp low high (f j))
     → count_if (λ j. not (good j) && is_some (f j)) js < count_if good js → IsMiddle m (present (map f js)) → IsBetween low high m
-middle_within f good low high m js has more is =
+middle_within f good low high {m} js has more is =
     let there : (j : ℕ) → good j ≡ true → is_some (f j) ≡ true = λ j g. ap is_some (has j g).is in
     let all : length (present (map f js)) ≡ count_if (λ j. is_some (f j)) js = length_present f js in
     let parts : count_if good js + count_if (λ j. not (good j) && is_some (f j)) js ≤ count_if (λ j. is_some (f j)) js =
@@ -121,10 +121,10 @@ near_present e x y f g from (suc n) near =
     (near from (omega arith)) (near_present e x y f g (from + 1) n (λ j lt. near j (omega arith)))
 
 -- the times of the two middles are near
-pub middle_times_near : (e : ℕ) (x y : ℕ → ℕ) (f g : ℕ → Option ℕ) (m n : ℕ) → IsMonotone x → IsMonotone y
+pub middle_times_near : (e : ℕ) {x y : _} (f g : ℕ → Option ℕ) {m n : ℕ} → IsMonotone x → IsMonotone y
     → ((j : ℕ) → j < 16 → BothNear e x y (f j) (g j)) → IsMiddle m (present (map f (numbers 16))) → IsMiddle n (present (map g (numbers 16)))
     → AreNear e (x m) (y n)
-middle_times_near e x y f g m n rises_x rises_y near is_m is_n =
+middle_times_near e {x} {y} f g {m} {n} rises_x rises_y near is_m is_n =
     middles_near e (map x (present (map f (numbers 16)))) (map y (present (map g (numbers 16)))) (x m) (y n)
     (near_present e x y f g 0 16 (λ j lt. near j (omega arith)))
     (middle-map x rises_x m (present (map f (numbers 16))) is_m) (middle-map y rises_y n (present (map g (numbers 16))) is_n)
@@ -157,10 +157,10 @@ new_least good time spread n near is first = record {
   held = inr (n, is, refl);
 }
 
-next_least : (good : ℕ → Bool) (time : ℕ → ℕ) (spread n : ℕ) → Near good time spread → HasLeast good time spread n → (b : Bool) → good n ≡ b
+next_least : {good time spread n : _} → Near good time spread → HasLeast good time spread n → {b : _} → good n ≡ b
     → HasLeast good time spread (suc n)
 unfolding Near
-next_least good time spread n near h false is = record {
+next_least {good} {n} near h {b = false} is = record {
   least = h.least;
   at = λ i lt g. elim (last_or_before i n lt) [
     | inl before ↦ h.at i before g
@@ -171,7 +171,7 @@ next_least good time spread n near h false is = record {
     | inr some ↦ inr some
   ];
 }
-next_least good time spread n near h true is =
+next_least {good} {time} {spread} {n} near h {b = true} is =
     elim h.held [
       | inl none ↦ new_least good time spread n near is (λ i lt g. let both : true ≡ false = sym g ∙ none i lt in absurd (cc))
       | inr some ↦
@@ -195,4 +195,4 @@ pub least_of : (good : ℕ → Bool) (time : ℕ → ℕ) (spread : ℕ) → ((i
     → (n : ℕ) → HasLeast good time spread n
 unfolding Near
 least_of good time spread near zero = record { least = 0; at = λ i lt g. absurd (omega arith); held = inl (λ i lt. absurd (omega arith)) }
-least_of good time spread near (suc n) = next_least good time spread n near (least_of good time spread near n) (good n) refl
+least_of good time spread near (suc n) = next_least near (least_of good time spread near n) refl

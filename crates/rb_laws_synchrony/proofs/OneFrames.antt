@@ -31,8 +31,8 @@ from-3 x low = from-2 x low + x.plan.dmin + x.plan.v * shortest_of x.plan
 abbrev to-3 : Frame → ℕ → ℕ
 to-3 x low = to-2 x low + x.plan.dmax + tick_of x.plan + x.plan.v * tick_of x.plan
 
-some-offset : (x : Frame) (low : ℕ) → IsFrame x low → 1 ≤ offset_of x
-some-offset x low is = f0-some x.sizes.bius x.sizes.rmus x.sizes.data_slots x.plan.l is.shape.some_biu is.plan.l.0
+some-offset : {x low : _} → IsFrame x low → 1 ≤ offset_of x
+some-offset {x} is = f0-some x.sizes.bius x.sizes.rmus x.sizes.data_slots x.plan.l is.shape.some_biu is.plan.l.0
 
 less-of : (a b c : ℕ) → a + b ≤ c → a ≤ c
 less-of a b c h = omega arith
@@ -42,14 +42,14 @@ less-of a b c h = omega arith
 abbrev FirstStage : Frame → ℕ → Type 0
 FirstStage x low = IsStageOf x low 0 Rmu (offset_of x) x.plan.l (from-1 x low) (to-1 x low)
 
-first-calls : (x : Frame) (low : ℕ) → IsFrame x low → (j : ℕ) → x.good Biu j ≡ true → Calls x 0 Biu j (from-1 x low) (to-1 x low) (offset_of x) x.plan.l
+first-calls : {x low : _} → IsFrame x low → (j : ℕ) → x.good Biu j ≡ true → Calls x 0 Biu j (from-1 x low) (to-1 x low) (offset_of x) x.plan.l
 unfolding state_through
-first-calls x low is j good =
-    let inside : x.plan.h < x.plan.l = (fits-of x low is).in_l in
+first-calls {x} is j good =
+    let inside : x.plan.h < x.plan.l = (fits-of is).in_l in
     record {
       tick = (x.before Biu j).epoch + offset_of x + x.plan.h;
       at = refl;
-      between = offset-at x low is Biu j good (offset_of x + x.plan.h) ((x.before Biu j).epoch + offset_of x + x.plan.h) (group (x.before Biu j).epoch (offset_of x) x.plan.h);
+      between = offset-at is Biu j good (offset_of x + x.plan.h) (group (x.before Biu j).epoch (offset_of x) x.plan.h);
       from_first = within (x.before Biu j).epoch (offset_of x) x.plan.h;
       inside = before (x.before Biu j).epoch (offset_of x) x.plan.h x.plan.l inside;
     }
@@ -63,10 +63,10 @@ first-calls x low is j good =
     before : (a b c d : ℕ) → c < d → a + b + c < a + (b + d)
     before a b c d less = omega arith
 
-first-stage : (x : Frame) (low : ℕ) → IsFrame x low → KeepsPremise x → FirstStage x low
+first-stage : {x low : _} → IsFrame x low → KeepsPremise x → FirstStage x low
 unfolding state_through
-first-stage x low is premise =
-    let fit : frame_fits x = fits-of x low is in
+first-stage {x} {low} is premise =
+    let fit : frame_fits x = fits-of is in
     let f : ℕ = offset_of x in
     let u : ℕ = shortest_of x.plan in
     let d : ℕ = drift_of x.plan in
@@ -77,49 +77,49 @@ first-stage x low is premise =
       listening = refl;
       deaf = refl;
       window = λ kind i. sync-numbered x.sizes x.plan kind (x.before kind i) 0;
-      some_first = some-offset x low is;
+      some_first = some-offset is;
       some = is.plan.l.0;
       early = exact_early low x.plan.p f f x.plan.h u d x.plan.dmin (omega arith) fit.before_1;
       late = exact_late low x.plan.p f f x.plan.h x.plan.l (f + x.plan.l - 1) u d x.plan.dmax (omega arith) (last_plus f x.plan.l is.plan.l.0) fit.after_1;
       eligible = is.eligible;
-      calls = first-calls x low is;
+      calls = first-calls is;
     }
 
 abbrev FirstKept : Frame → ℕ → ℕ → Type 0
 FirstKept x low i = Keeps x 0 Rmu i (offset_of x) x.plan.l (from-1 x low) (to-1 x low)
 
-first-kept : (x : Frame) (low : ℕ) → FirstStage x low → (i : ℕ) → x.good Rmu i ≡ true → FirstKept x low i
-first-kept x low s i good = keeps x low 0 Rmu (offset_of x) x.plan.l (from-1 x low) (to-1 x low) s i good
+first-kept : {x low : _} → FirstStage x low → (i : ℕ) → x.good Rmu i ≡ true → FirstKept x low i
+first-kept s i good = keeps s i good
 
 -- The second stage.
 
 abbrev SecondStage : Frame → ℕ → Type 0
 SecondStage x low = IsStageOf x low 1 Biu (offset_of x + x.plan.l) x.plan.v (from-2 x low) (to-2 x low)
 
-second-calls : (x : Frame) (low : ℕ) → FirstStage x low → (j : ℕ) → x.good Rmu j ≡ true
+second-calls : {x low : _} → FirstStage x low → (j : ℕ) → x.good Rmu j ≡ true
     → Calls x 1 Rmu j (from-2 x low) (to-2 x low) (offset_of x + x.plan.l) x.plan.v
 unfolding state_through
-second-calls x low s j good =
-    let fit : frame_fits x = fits-of x low s.is in
+second-calls {x} {low} s j good =
+    let fit : frame_fits x = fits-of s.is in
     let f : ℕ = offset_of x in
     let u : ℕ = shortest_of x.plan in
     let d : ℕ = drift_of x.plan in
-    let k : FirstKept x low j = first-kept x low s j good in
+    let k : FirstKept x low j = first-kept s j good in
     let e : ℕ = (x.before Rmu j).epoch in
-    let some : 1 ≤ f + x.plan.v = some_more f x.plan.v (some-offset x low s.is) in
+    let some : 1 ≤ f + x.plan.v = some_more f x.plan.v (some-offset s.is) in
     let bound : to-1 x low + x.plan.dmax ≤ low + (f + x.plan.v - 1) * u =
     less-of (to-1 x low + x.plan.dmax) (u + d) (low + (f + x.plan.v - 1) * u)
     (second_own low x.plan.p f x.plan.h x.plan.l x.plan.v (f + x.plan.v - 1) u d x.plan.dmax (last_plus f x.plan.v s.is.plan.v.0) fit.after_2) in
     let own : k.tick ≤ e + (f + x.plan.v - 1) =
     k.in_time (e + (f + x.plan.v - 1))
     (le_trans (to-1 x low + x.plan.dmax) (low + (f + x.plan.v - 1) * u) (time_of (x.clock Rmu j) (e + (f + x.plan.v - 1))) bound
-    (offset-at x low s.is Rmu j good (f + x.plan.v - 1) (e + (f + x.plan.v - 1)) refl).least) in
+    (offset-at s.is Rmu j good (f + x.plan.v - 1) refl).least) in
     let from = k.from_first in
     record {
       tick = k.tick + x.plan.l;
       at = ap (option_map (λ k1. k1 + x.plan.l)) k.is;
-      between = ticks_on u d (x.clock Rmu j) (clock-of x low s.is Rmu j good) (from-1 x low + x.plan.dmin) (to-1 x low + x.plan.dmax + tick_of x.plan)
-          k.tick x.plan.l (k.tick + x.plan.l) refl k.between;
+      between = ticks_on (clock-of s.is Rmu j good)
+          k.tick x.plan.l refl k.between;
       from_first = later e f x.plan.l k.tick from;
       inside = inside e f x.plan.l x.plan.v k.tick some own;
     }
@@ -130,9 +130,9 @@ second-calls x low s j good =
     inside : (e f l v k : ℕ) → 1 ≤ f + v → k ≤ e + (f + v - 1) → k + l < e + (f + l + v)
     inside e f l v k some h = omega arith
 
-second-stage : (x : Frame) (low : ℕ) → FirstStage x low → SecondStage x low
-second-stage x low s =
-    let fit : frame_fits x = fits-of x low s.is in
+second-stage : {x low : _} → FirstStage x low → SecondStage x low
+second-stage {x} {low} s =
+    let fit : frame_fits x = fits-of s.is in
     let f : ℕ = offset_of x in
     let u : ℕ = shortest_of x.plan in
     let d : ℕ = drift_of x.plan in
@@ -143,37 +143,37 @@ second-stage x low s =
       listening = refl;
       deaf = refl;
       window = λ kind i. sync-numbered x.sizes x.plan kind (x.before kind i) 1;
-      some_first = some_more f x.plan.l (some-offset x low s.is);
+      some_first = some_more f x.plan.l (some-offset s.is);
       some = s.is.plan.v.0;
       early = second_early low x.plan.p f x.plan.h x.plan.l u d x.plan.dmin fit.before_2;
       late = second_late low x.plan.p f x.plan.h x.plan.l x.plan.v (f + x.plan.l + x.plan.v - 1) u d x.plan.dmax
           (last_plus (f + x.plan.l) x.plan.v s.is.plan.v.0) fit.after_2;
-      eligible = stay-eligible x low 0 Rmu f x.plan.l (from-1 x low) (to-1 x low) s;
-      calls = second-calls x low s;
+      eligible = stay-eligible s;
+      calls = second-calls s;
     }
 
 abbrev SecondKept : Frame → ℕ → ℕ → Type 0
 SecondKept x low i = Keeps x 1 Biu i (offset_of x + x.plan.l) x.plan.v (from-2 x low) (to-2 x low)
 
-second-kept : (x : Frame) (low : ℕ) → SecondStage x low → (i : ℕ) → x.good Biu i ≡ true → SecondKept x low i
-second-kept x low s i good = keeps x low 1 Biu (offset_of x + x.plan.l) x.plan.v (from-2 x low) (to-2 x low) s i good
+second-kept : {x low : _} → SecondStage x low → (i : ℕ) → x.good Biu i ≡ true → SecondKept x low i
+second-kept s i good = keeps s i good
 
 -- The third stage.
 
 abbrev ThirdStage : Frame → ℕ → Type 0
 ThirdStage x low = IsStageOf x low 2 Rmu (offset_of x + x.plan.l + x.plan.v) x.plan.z (from-3 x low) (to-3 x low)
 
-third-calls : (x : Frame) (low : ℕ) → SecondStage x low → (j : ℕ) → x.good Biu j ≡ true
+third-calls : {x low : _} → SecondStage x low → (j : ℕ) → x.good Biu j ≡ true
     → Calls x 2 Biu j (from-3 x low) (to-3 x low) (offset_of x + x.plan.l + x.plan.v) x.plan.z
 unfolding state_through
-third-calls x low s j good =
-    let fit : frame_fits x = fits-of x low s.is in
+third-calls {x} {low} s j good =
+    let fit : frame_fits x = fits-of s.is in
     let f : ℕ = offset_of x in
     let u : ℕ = shortest_of x.plan in
     let d : ℕ = drift_of x.plan in
-    let k : SecondKept x low j = second-kept x low s j good in
+    let k : SecondKept x low j = second-kept s j good in
     let e : ℕ = (x.before Biu j).epoch in
-    let some : 1 ≤ f + x.plan.l + x.plan.z = some_more (f + x.plan.l) x.plan.z (some_more f x.plan.l (some-offset x low s.is)) in
+    let some : 1 ≤ f + x.plan.l + x.plan.z = some_more (f + x.plan.l) x.plan.z (some_more f x.plan.l (some-offset s.is)) in
     let bound : to-2 x low + x.plan.dmax ≤ low + (f + x.plan.l + x.plan.z - 1) * u =
     less-of (to-2 x low + x.plan.dmax) (u + d) (low + (f + x.plan.l + x.plan.z - 1) * u)
     (third_own low x.plan.p f x.plan.h x.plan.l x.plan.v x.plan.z (f + x.plan.l + x.plan.z - 1) u d x.plan.dmax
@@ -181,13 +181,13 @@ third-calls x low s j good =
     let own : k.tick ≤ e + (f + x.plan.l + x.plan.z - 1) =
     k.in_time (e + (f + x.plan.l + x.plan.z - 1))
     (le_trans (to-2 x low + x.plan.dmax) (low + (f + x.plan.l + x.plan.z - 1) * u) (time_of (x.clock Biu j) (e + (f + x.plan.l + x.plan.z - 1))) bound
-    (offset-at x low s.is Biu j good (f + x.plan.l + x.plan.z - 1) (e + (f + x.plan.l + x.plan.z - 1)) refl).least) in
+    (offset-at s.is Biu j good (f + x.plan.l + x.plan.z - 1) refl).least) in
     let from = k.from_first in
     record {
       tick = k.tick + x.plan.v;
       at = ap (option_map (λ k2. k2 + x.plan.v)) k.is;
-      between = ticks_on u d (x.clock Biu j) (clock-of x low s.is Biu j good) (from-2 x low + x.plan.dmin) (to-2 x low + x.plan.dmax + tick_of x.plan)
-          k.tick x.plan.v (k.tick + x.plan.v) refl k.between;
+      between = ticks_on (clock-of s.is Biu j good)
+          k.tick x.plan.v refl k.between;
       from_first = later e (f + x.plan.l) x.plan.v k.tick from;
       inside = inside e (f + x.plan.l) x.plan.v x.plan.z k.tick some own;
     }
@@ -198,9 +198,9 @@ third-calls x low s j good =
     inside : (e f l v k : ℕ) → 1 ≤ f + v → k ≤ e + (f + v - 1) → k + l < e + (f + l + v)
     inside e f l v k some h = omega arith
 
-third-stage : (x : Frame) (low : ℕ) → SecondStage x low → ThirdStage x low
-third-stage x low s =
-    let fit : frame_fits x = fits-of x low s.is in
+third-stage : {x low : _} → SecondStage x low → ThirdStage x low
+third-stage {x} {low} s =
+    let fit : frame_fits x = fits-of s.is in
     let f : ℕ = offset_of x in
     let u : ℕ = shortest_of x.plan in
     let d : ℕ = drift_of x.plan in
@@ -211,60 +211,59 @@ third-stage x low s =
       listening = refl;
       deaf = refl;
       window = λ kind i. sync-numbered x.sizes x.plan kind (x.before kind i) 2;
-      some_first = some_more (f + x.plan.l) x.plan.v (some_more f x.plan.l (some-offset x low s.is));
+      some_first = some_more (f + x.plan.l) x.plan.v (some_more f x.plan.l (some-offset s.is));
       some = s.is.plan.z.0;
       early = third_early low x.plan.p f x.plan.h x.plan.l x.plan.v u d x.plan.dmin fit.before_3;
       late = third_late low x.plan.p f x.plan.h x.plan.l x.plan.v x.plan.z (f + x.plan.l + x.plan.v + x.plan.z - 1) u d x.plan.dmax
           (last_plus (f + x.plan.l + x.plan.v) x.plan.z s.is.plan.z.0) fit.after_3;
-      eligible = stay-eligible x low 1 Biu (f + x.plan.l) x.plan.v (from-2 x low) (to-2 x low) s;
-      calls = third-calls x low s;
+      eligible = stay-eligible s;
+      calls = third-calls s;
     }
 
 -- How near they are.
 
-first-near : (x : Frame) (low : ℕ) (s : FirstStage x low) → NoneCallsUnlike x Biu → (a b : ℕ) (good_a : x.good Rmu a ≡ true) (good_b : x.good Rmu b ≡ true)
-    → AreNear (near_1 x.plan) (time_of (x.clock Rmu a) (first-kept x low s a good_a).tick) (time_of (x.clock Rmu b) (first-kept x low s b good_b).tick)
+first-near : {x low : _} (s : FirstStage x low) → NoneCallsUnlike x Biu → (a b : ℕ) (good_a : x.good Rmu a ≡ true) (good_b : x.good Rmu b ≡ true)
+    → AreNear (near_1 x.plan) (time_of (x.clock Rmu a) (first-kept s a good_a).tick) (time_of (x.clock Rmu b) (first-kept s b good_b).tick)
 unfolding first-kept
-first-near x low s none =
-    middles-near x low 0 Rmu (offset_of x) x.plan.l (from-1 x low) (to-1 x low) s
+first-near s none =
+    middles-near s
     (λ a b j good_a good_b below faulty. none 0 a b j (omega arith) refl good_a good_b below faulty)
 
 -- the middles of the second stage are near whichever kind has no asymmetric node
-second-near : (x : Frame) (low : ℕ) (s : FirstStage x low) → NoneCallsUnlike x Biu ⊎ NoneCallsUnlike x Rmu
+second-near : {x low : _} (s : FirstStage x low) → NoneCallsUnlike x Biu ⊎ NoneCallsUnlike x Rmu
     → (a b : ℕ) (good_a : x.good Biu a ≡ true) (good_b : x.good Biu b ≡ true)
-    → AreNear (near_2 x.plan) (time_of (x.clock Biu a) (second-kept x low (second-stage x low s) a good_a).tick)
-    (time_of (x.clock Biu b) (second-kept x low (second-stage x low s) b good_b).tick)
+    → AreNear (near_2 x.plan) (time_of (x.clock Biu a) (second-kept (second-stage s) a good_a).tick)
+    (time_of (x.clock Biu b) (second-kept (second-stage s) b good_b).tick)
 unfolding first-kept second-kept second-stage second-calls
-second-near x low s (inr none) a b good_a good_b =
-    let t : SecondStage x low = second-stage x low s in
-    weaker (near_1 x.plan) (near_2 x.plan) (time_of (x.clock Biu a) (second-kept x low t a good_a).tick) (time_of (x.clock Biu b) (second-kept x low t b good_b).tick) (omega arith)
-    (middles-near x low 1 Biu (offset_of x + x.plan.l) x.plan.v (from-2 x low) (to-2 x low) t
+second-near {x} {low} s (inr none) a b good_a good_b =
+    let t : SecondStage x low = second-stage s in
+    weaker (near_2 x.plan) (omega arith)
+    (middles-near t
     (λ a b j good_a good_b below faulty. none 1 a b j (omega arith) refl good_a good_b below faulty) a b good_a good_b)
-second-near x low s (inl none) a b good_a good_b =
-    let t : SecondStage x low = second-stage x low s in
+second-near {x} {low} s (inl none) a b good_a good_b =
+    let t : SecondStage x low = second-stage s in
     let u : ℕ = shortest_of x.plan in
     let d : ℕ = drift_of x.plan in
     let spread : ℕ = near_1 x.plan + d * x.plan.l in
     let calls : Lie x low 1 Biu (offset_of x + x.plan.l) x.plan.v (from-2 x low) (to-2 x low) t spread =
-    lie-within x low 1 Biu (offset_of x + x.plan.l) x.plan.v (from-2 x low) (to-2 x low) t spread (λ i j good_i good_j.
-    near_on u d (x.clock Rmu i) (x.clock Rmu j) (clock-of x low s.is Rmu i good_i) (clock-of x low s.is Rmu j good_j) (near_1 x.plan)
-    (first-kept x low s i good_i).tick (first-kept x low s j good_j).tick x.plan.l (t.calls i good_i).tick (t.calls j good_j).tick refl refl
-    (first-near x low s none i j good_i good_j)) in
-    near-between (near_2 x.plan) spread (eps_of x.plan) (tick_of x.plan) calls.least x.plan.dmin x.plan.dmax
-    (time_of (x.clock Biu a) (second-kept x low t a good_a).tick) (time_of (x.clock Biu b) (second-kept x low t b good_b).tick) refl (fits-of x low s.is).delays
-    (closer-still x low 1 Biu (offset_of x + x.plan.l) x.plan.v (from-2 x low) (to-2 x low) t calls.least (calls.least + spread) calls.lie a good_a)
-    (closer-still x low 1 Biu (offset_of x + x.plan.l) x.plan.v (from-2 x low) (to-2 x low) t calls.least (calls.least + spread) calls.lie b good_b)
+    lie-within t spread (λ i j good_i good_j.
+    near_on (clock-of s.is Rmu i good_i) (clock-of s.is Rmu j good_j)
+    (first-kept s i good_i).tick (first-kept s j good_j).tick x.plan.l refl refl
+    (first-near s none i j good_i good_j)) in
+    near-between spread (eps_of x.plan) (tick_of x.plan) calls.least x.plan.dmin refl (fits-of s.is).delays
+    (closer-still calls.lie a good_a)
+    (closer-still calls.lie b good_b)
 
-third-near : (x : Frame) (low : ℕ) (s : FirstStage x low)
-    → Lie x low 2 Rmu (offset_of x + x.plan.l + x.plan.v) x.plan.z (from-3 x low) (to-3 x low) (third-stage x low (second-stage x low s)) (near_3 x.plan)
+third-near : {x low : _} (s : FirstStage x low)
+    → Lie x low 2 Rmu (offset_of x + x.plan.l + x.plan.v) x.plan.z (from-3 x low) (to-3 x low) (third-stage (second-stage s)) (near_3 x.plan)
 unfolding second-kept second-stage third-stage third-calls
-third-near x low s =
-    let t : SecondStage x low = second-stage x low s in
-    let r : ThirdStage x low = third-stage x low t in
-    lie-within x low 2 Rmu (offset_of x + x.plan.l + x.plan.v) x.plan.z (from-3 x low) (to-3 x low) r (near_3 x.plan) (λ i j good_i good_j.
-    near_on (shortest_of x.plan) (drift_of x.plan) (x.clock Biu i) (x.clock Biu j) (clock-of x low s.is Biu i good_i) (clock-of x low s.is Biu j good_j) (near_2 x.plan)
-    (second-kept x low t i good_i).tick (second-kept x low t j good_j).tick x.plan.v (r.calls i good_i).tick (r.calls j good_j).tick refl refl
-    (second-near x low s s.premise.one_kind i j good_i good_j))
+third-near {x} {low} s =
+    let t : SecondStage x low = second-stage s in
+    let r : ThirdStage x low = third-stage t in
+    lie-within r (near_3 x.plan) (λ i j good_i good_j.
+    near_on (clock-of s.is Biu i good_i) (clock-of s.is Biu j good_j)
+    (second-kept t i good_i).tick (second-kept t j good_j).tick x.plan.v refl refl
+    (second-near s s.premise.one_kind i j good_i good_j))
 
 -- The next frame.
 
@@ -282,21 +281,20 @@ second-stays : (x : Frame) (i : ℕ) → (state_through x 3 Biu i).k2 ≡ (state
 unfolding state_through close_sync sync_outcome_of
 second-stays x i = refl
 
-begin-next : (x : Frame) (low : ℕ) (s : FirstStage x low) (me : Side) (i : ℕ) → x.good me i ≡ true → BeginsNext x me i (later-of x (third-near x low s).least)
+begin-next : {x low : _} (s : FirstStage x low) (me : Side) (i : ℕ) → x.good me i ≡ true → BeginsNext x me i (later-of x (third-near s).least)
 unfolding later-of state_through second-kept third-stage third-calls
-begin-next x low s Biu i good =
-    let t : SecondStage x low = second-stage x low s in
-    let r : ThirdStage x low = third-stage x low t in
-    let fit : frame_fits x = fits-of x low s.is in
+begin-next {x} {low} s Biu i good =
+    let t : SecondStage x low = second-stage s in
+    let r : ThirdStage x low = third-stage t in
+    let fit : frame_fits x = fits-of s.is in
     let u : ℕ = shortest_of x.plan in
     let d : ℕ = drift_of x.plan in
-    let k : SecondKept x low i = second-kept x low t i good in
-    let near = third-near x low s in
+    let k : SecondKept x low i = second-kept t i good in
+    let near = third-near s in
     let e : (state_through x 3 Biu i).epoch ≡ (x.before Biu i).epoch = epoch-is x 3 Biu i in
     let bounds = biu-takes (x.before Biu i).epoch k.tick (offset_of x) x.plan.l x.plan.v x.plan.z x.plan.c k.from_first k.inside in
-    let between = biu_begins x.plan u d (offset_of x) near.least (time_of (x.clock Biu i) (k.tick + x.plan.v + x.plan.z + x.plan.c)) fit
-    (ticks_on u d (x.clock Biu i) (clock-of x low s.is Biu i good) near.least (near.least + near_3 x.plan) (k.tick + x.plan.v) (x.plan.z + x.plan.c)
-    (k.tick + x.plan.v + x.plan.z + x.plan.c) (ticks-as k.tick x.plan.v x.plan.z x.plan.c) (near.lie.at i good)) in
+    let between = biu_begins near.least fit
+    (ticks_on (clock-of s.is Biu i good) (k.tick + x.plan.v) (x.plan.z + x.plan.c) (ticks-as k.tick x.plan.v x.plan.z x.plan.c) (near.lie.at i good)) in
     record {
       takes = record {
         epoch = k.tick + x.plan.v + x.plan.z + x.plan.c;
@@ -310,23 +308,22 @@ begin-next x low s Biu i good =
   where
     ticks-as : (k v z c : ℕ) → k + v + z + c ≡ k + v + (z + c)
     ticks-as k v z c = omega arith
-begin-next x low s Rmu i good =
-    let t : SecondStage x low = second-stage x low s in
-    let r : ThirdStage x low = third-stage x low t in
-    let fit : frame_fits x = fits-of x low s.is in
+begin-next {x} {low} s Rmu i good =
+    let t : SecondStage x low = second-stage s in
+    let r : ThirdStage x low = third-stage t in
+    let fit : frame_fits x = fits-of s.is in
     let f : ℕ = offset_of x in
     let u : ℕ = shortest_of x.plan in
     let d : ℕ = drift_of x.plan in
     let k : Keeps x 2 Rmu i (f + x.plan.l + x.plan.v) x.plan.z (from-3 x low) (to-3 x low) =
-    keeps x low 2 Rmu (f + x.plan.l + x.plan.v) x.plan.z (from-3 x low) (to-3 x low) r i good in
-    let near = third-near x low s in
+    keeps r i good in
+    let near = third-near s in
     let e : (state_through x 3 Rmu i).epoch ≡ (x.before Rmu i).epoch = epoch-is x 3 Rmu i in
     let bounds = rmu-takes (x.before Rmu i).epoch k.tick f x.plan.l x.plan.v x.plan.z x.plan.c k.from_first k.inside in
     let closer : IsBetween (near.least + x.plan.dmin) (near.least + near_3 x.plan + x.plan.dmax + tick_of x.plan) (time_of (x.clock Rmu i) k.tick) =
-    closer-still x low 2 Rmu (f + x.plan.l + x.plan.v) x.plan.z (from-3 x low) (to-3 x low) r near.least (near.least + near_3 x.plan) near.lie i good in
-    let between = rmu_begins x.plan u d f near.least (time_of (x.clock Rmu i) (k.tick + x.plan.z)) fit
-    (ticks_on u d (x.clock Rmu i) (clock-of x low s.is Rmu i good) (near.least + x.plan.dmin) (near.least + near_3 x.plan + x.plan.dmax + tick_of x.plan) k.tick x.plan.z
-    (k.tick + x.plan.z) refl closer) in
+    closer-still near.lie i good in
+    let between = rmu_begins near.least fit
+    (ticks_on (clock-of s.is Rmu i good) k.tick x.plan.z refl closer) in
     record {
       takes = record {
         epoch = k.tick + x.plan.z;
@@ -341,9 +338,9 @@ begin-next x low s Rmu i good =
 -- The windows.
 
 -- a message that is sent at an offset of an exact window
-timely-below : (x : Frame) (low : ℕ) → IsFrame x low → (n : ℕ) → n < 3 * sync_slot_of x.sizes → (me : Side) (i j : ℕ) → x.good me i ≡ true → x.good (other me) j ≡ true
+timely-below : {x low : _} → IsFrame x low → (n : ℕ) → n < 3 * sync_slot_of x.sizes → (me : Side) (i j : ℕ) → x.good me i ≡ true → x.good (other me) j ≡ true
     → IsTimelyMessage x n me i j
-timely-below x low is n below me i j here good =
+timely-below {x} {low} is n below me i j here good =
     record {
       tick = tick;
       sent = ap (λ (w : Window). send_tick_of x.sizes x.plan st w.slot w.stage) (window me i) ∙ at;
@@ -370,10 +367,10 @@ timely-below x low is n below me i j here good =
     st = state_in x n (other me) j
 
     fit : frame_fits x
-    fit = fits-of x low is
+    fit = fits-of is
 
     clock : Steady (shortest_of x.plan) (drift_of x.plan) (x.clock me i)
-    clock = clock-of x low is me i here
+    clock = clock-of is me i here
 
     window : (kind : Side) (i : ℕ) → window_in x n kind i ≡ exact_window x.plan n
     window kind i = exact-numbered x.sizes x.plan kind (x.before kind i) n below
@@ -392,13 +389,13 @@ timely-below x low is n below me i j here good =
     a_le = mul-le-mul_right x.plan.l (omega arith)
 
     begin : IsBetween (low + a * shortest_of x.plan) (low + x.plan.p + a * tick_of x.plan) (time_of (x.clock me i) ((x.before me i).epoch + a))
-    begin = offset-at x low is me i here a ((x.before me i).epoch + a) refl
+    begin = offset-at is me i here a refl
 
     end : IsBetween (low + (a + x.plan.l - 1) * shortest_of x.plan) (low + x.plan.p + (a + x.plan.l - 1) * tick_of x.plan) (time_of (x.clock me i) ((x.before me i).epoch + (a + x.plan.l - 1)))
-    end = offset-at x low is me i here (a + x.plan.l - 1) ((x.before me i).epoch + (a + x.plan.l - 1)) refl
+    end = offset-at is me i here (a + x.plan.l - 1) refl
 
     sent : IsBetween (low + (a + x.plan.h) * shortest_of x.plan) (low + x.plan.p + (a + x.plan.h) * tick_of x.plan) (time_of (x.clock (other me) j) tick)
-    sent = offset-at x low is (other me) j good (a + x.plan.h) tick refl
+    sent = offset-at is (other me) j good (a + x.plan.h) refl
 
     early : low + x.plan.p + a * tick_of x.plan ≤ low + (a + x.plan.h) * shortest_of x.plan + x.plan.dmin
     early = exact_early low x.plan.p a (offset_of x) x.plan.h (shortest_of x.plan) (drift_of x.plan) x.plan.dmin a_le fit.before_1
@@ -414,9 +411,9 @@ timely-below x low is n below me i j here good =
     inside e a h l less = omega arith
 
 -- a call in a stage of the sync slot is timely
-timely-stage : (x : Frame) (low q : ℕ) (me : Side) (first ticks from to : ℕ) → IsStageOf x low q me first ticks from to → (i j : ℕ) → x.good me i ≡ true
+timely-stage : {x low q me first ticks from to : _} → IsStageOf x low q me first ticks from to → (i j : ℕ) → x.good me i ≡ true
     → x.good (other me) j ≡ true → IsTimelyMessage x (sync_window x q) me i j
-timely-stage x low q me first ticks from to s i j here good =
+timely-stage {x} {q} {me} {first} {ticks} {from} {to} s i j here good =
     let call : Calls x q (other me) j from to first ticks = s.calls j good in
     let from_first = call.from_first in
     let inside = call.inside in
@@ -430,10 +427,10 @@ timely-stage x low q me first ticks from to s i j here good =
       sent = ap (λ (w : Window). send_tick_of x.sizes x.plan (state_in x (sync_window x q) (other me) j) w.slot w.stage) (s.window me i)
           ∙ ap (λ n. send_tick_of x.sizes x.plan (state_through x n (other me) j) slot (q + 1)) same ∙ sends ∙ call.at;
       own = (
-        subst (λ k. k ≤ call.tick) (sym (first-is x low q me first ticks from to s (other me) j)) from_first,
-        subst (λ k. call.tick ≤ k) (sym (last-is x low q me first ticks from to s (other me) j)) (omega (arith, inside, some)),
+        subst (λ k. k ≤ call.tick) (sym (first-is s (other me) j)) from_first,
+        subst (λ k. call.tick ≤ k) (sym (last-is me s (other me) j)) (omega (arith, inside, some)),
       );
-      heard = in-window x low q me first ticks from to s i j here good;
+      heard = in-window s i j here good;
     }
   where
     number : (slot q : ℕ) → 3 * slot + q - 3 * slot ≡ q
@@ -446,47 +443,47 @@ listens-in x q me i first ticks e listening =
     sym (ap (λ (w : Window). listens me (role_of x.sizes w.slot) w.stage) e ∙ ap (λ role. listens me role (q + 1)) (sync_role x.sizes)) ∙ listening
 
 -- a message in a window of the sync slot is timely
-timely-in-sync : (x : Frame) (low : ℕ) → FirstStage x low → (q : ℕ) → q < 3 → (me : Side) (i j : ℕ) → x.good me i ≡ true → x.good (other me) j ≡ true
+timely-in-sync : {x low : _} → FirstStage x low → (q : ℕ) → q < 3 → (me : Side) (i j : ℕ) → x.good me i ≡ true → x.good (other me) j ≡ true
     → listens me (role_of x.sizes (window_in x (sync_window x q) me i).slot) (window_in x (sync_window x q) me i).stage ≡ true
     → IsTimelyMessage x (sync_window x q) me i j
-timely-in-sync x low s zero small Rmu i j here good listening = timely-stage x low 0 Rmu (offset_of x) x.plan.l (from-1 x low) (to-1 x low) s i j here good
-timely-in-sync x low s zero small Biu i j here good listening =
+timely-in-sync s zero small Rmu i j here good listening = timely-stage s i j here good
+timely-in-sync {x} s zero small Biu i j here good listening =
     let h : listens Biu Sync (0 + 1) ≡ true = listens-in x 0 Biu i (offset_of x) x.plan.l (s.window Biu i) listening in
     absurd (cc)
-timely-in-sync x low s (suc zero) small Biu i j here good listening =
-    timely-stage x low 1 Biu (offset_of x + x.plan.l) x.plan.v (from-2 x low) (to-2 x low) (second-stage x low s) i j here good
-timely-in-sync x low s (suc zero) small Rmu i j here good listening =
-    let h : listens Rmu Sync (1 + 1) ≡ true = listens-in x 1 Rmu i (offset_of x + x.plan.l) x.plan.v ((second-stage x low s).window Rmu i) listening in
+timely-in-sync s (suc zero) small Biu i j here good listening =
+    timely-stage (second-stage s) i j here good
+timely-in-sync {x} s (suc zero) small Rmu i j here good listening =
+    let h : listens Rmu Sync (1 + 1) ≡ true = listens-in x 1 Rmu i (offset_of x + x.plan.l) x.plan.v ((second-stage s).window Rmu i) listening in
     absurd (cc)
-timely-in-sync x low s (suc (suc zero)) small Rmu i j here good listening =
-    timely-stage x low 2 Rmu (offset_of x + x.plan.l + x.plan.v) x.plan.z (from-3 x low) (to-3 x low) (third-stage x low (second-stage x low s)) i j here good
-timely-in-sync x low s (suc (suc zero)) small Biu i j here good listening =
-    let r : ThirdStage x low = third-stage x low (second-stage x low s) in
+timely-in-sync s (suc (suc zero)) small Rmu i j here good listening =
+    timely-stage (third-stage (second-stage s)) i j here good
+timely-in-sync {x} {low} s (suc (suc zero)) small Biu i j here good listening =
+    let r : ThirdStage x low = third-stage (second-stage s) in
     let h : listens Biu Sync (2 + 1) ≡ true = listens-in x 2 Biu i (offset_of x + x.plan.l + x.plan.v) x.plan.z (r.window Biu i) listening in
     absurd (cc)
-timely-in-sync x low s (suc (suc (suc n))) small me i j here good listening = absurd (omega (arith, small))
+timely-in-sync s (suc (suc (suc n))) small me i j here good listening = absurd (omega (arith, small))
 
-each-timely : (x : Frame) (low : ℕ) → FirstStage x low → EachMessageIsTimely x
-each-timely x low s n bound me i j here good listening =
+each-timely : {x low : _} → FirstStage x low → EachMessageIsTimely x
+each-timely {x} s n bound me i j here good listening =
     elim (cases_lt n (3 * sync_slot_of x.sizes)) [
-      | inl below ↦ timely-below x low s.is n below me i j here good
+      | inl below ↦ timely-below s.is n below me i j here good
       | inr late ↦
           let q : ℕ = n - 3 * sync_slot_of x.sizes in
           let e : sync_window x q ≡ n = omega (arith, late) in
           let P : ℕ → Type 0 = λ n. listens me (role_of x.sizes (window_in x n me i).slot) (window_in x n me i).stage ≡ true → IsTimelyMessage x n me i j in
-          subst P e (timely-in-sync x low s q (omega (arith, late, bound)) me i j here good) listening
+          subst P e (timely-in-sync s q (omega (arith, late, bound)) me i j here good) listening
     ]
 
 -- The frame.
 
 pub keeps-time : OneFrameKeepsTime
 keeps-time x low is premise =
-    let s : FirstStage x low = first-stage x low is premise in
-    let t : SecondStage x low = second-stage x low s in
-    let r : ThirdStage x low = third-stage x low t in
+    let s : FirstStage x low = first-stage is premise in
+    let t : SecondStage x low = second-stage s in
+    let r : ThirdStage x low = third-stage t in
     record {
-      timely = each-timely x low s;
-      later = later-of x (third-near x low s).least;
-      next = begin-next x low s;
-      eligible = stay-eligible x low 2 Rmu (offset_of x + x.plan.l + x.plan.v) x.plan.z (from-3 x low) (to-3 x low) r;
+      timely = each-timely s;
+      later = later-of x (third-near s).least;
+      next = begin-next s;
+      eligible = stay-eligible r;
     }

@@ -9,11 +9,11 @@ use Rattle.rb_laws_synchrony.proofs.Middles.{BothNear, HasStamp, middle_times_ne
 
 -- The clock.
 
-lengths : (plan : Plan) (good : ℕ → Bool) (low high : ℕ) (x : Listener) → HearsGoodCalls plan good low high x → HasLengths (shortest_of plan) (longest_of plan) x.clock
-lengths plan good low high x c = has_lengths (shortest_of plan) (longest_of plan) x.clock c.clock
+lengths : {plan good low high x : _} → HearsGoodCalls plan good low high x → HasLengths (shortest_of plan) (longest_of plan) x.clock
+lengths {plan} {x} c = has_lengths (shortest_of plan) (longest_of plan) x.clock c.clock
 
-moves : (plan : Plan) (good : ℕ → Bool) (low high : ℕ) (x : Listener) → HearsGoodCalls plan good low high x → Moves x.clock
-moves plan good low high x c = clock_moves (shortest_of plan) (longest_of plan) x.clock c.ticks c.clock
+moves : {plan good low high x : _} → HearsGoodCalls plan good low high x → Moves x.clock
+moves {plan} {x} c = clock_moves (shortest_of plan) (longest_of plan) x.clock c.ticks c.clock
 
 -- a stamp past tick 0 is no earlier than its time, and no more than a tick later
 pub record IsNear (plan : Plan) (clock : Timeline) (time stamp : ℕ) : Type 0 where
@@ -21,18 +21,18 @@ pub record IsNear (plan : Plan) (clock : Timeline) (time stamp : ℕ) : Type 0 w
   pub near : 1 ≤ stamp → time_of clock stamp ≤ time + longest_of plan
   pub some : clock.start < time → 1 ≤ stamp
 
-is-near : (plan : Plan) (clock : Timeline) → HasLengths (shortest_of plan) (longest_of plan) clock
-    → (time stamp : ℕ) → IsStamp clock time stamp → IsNear plan clock time stamp
-is-near plan clock within time zero is = record { reached = is.reached; near = λ some. absurd (omega arith); some = λ begun. let reached : time ≤ clock.start = is.reached in absurd (omega arith) }
-is-near plan clock within time (suc tick) is = record {
+is-near : (plan : Plan) {clock : _} → HasLengths (shortest_of plan) (longest_of plan) clock
+    → {time : ℕ} (stamp : ℕ) → IsStamp clock time stamp → IsNear plan clock time stamp
+is-near plan {clock} within {time} zero is = record { reached = is.reached; near = λ some. absurd (omega arith); some = λ begun. let reached : time ≤ clock.start = is.reached in absurd (omega arith) }
+is-near plan {clock} within {time} (suc tick) is = record {
   reached = is.reached;
   near = λ some. omega (arith, stamp_near clock (longest_of plan) (λ k. (within k).1) time tick is);
   some = λ begun. omega arith;
 }
 
-stamp-near : (plan : Plan) (good : ℕ → Bool) (low high : ℕ) (x : Listener) → HearsGoodCalls plan good low high x → (time : ℕ) → IsNear plan x.clock time (stamp_of x.clock time)
-stamp-near plan good low high x c time =
-    is-near plan x.clock (lengths plan good low high x c) time (stamp_of x.clock time) (stamp_of-is x.clock (moves plan good low high x c) time)
+stamp-near : {plan good low high x : _} → HearsGoodCalls plan good low high x → (time : ℕ) → IsNear plan x.clock time (stamp_of x.clock time)
+stamp-near {plan} {x} c time =
+    is-near plan (lengths c) (stamp_of x.clock time) (stamp_of-is x.clock (moves c) time)
 
 -- The middle.
 
@@ -56,19 +56,19 @@ kept-is x listening low high =
     (third x.stage low high)
 
 -- a good source is expected and eligible, so its call is taken
-expected : (plan : Plan) (good : ℕ → Bool) (low high : ℕ) (x : Listener) → HearsGoodCalls plan good low high x → (j : ℕ) → good j ≡ true → expects_call x.me x.state x.stage j ≡ true
-expected plan good low high x c j g =
+expected : {plan good low high x : _} → HearsGoodCalls plan good low high x → (j : ℕ) → good j ≡ true → expects_call x.me x.state x.stage j ≡ true
+expected {x} c j g =
     and_from (listens x.me Sync x.stage) (has x.state.far.trusted j) c.listening
     (and_first (has x.state.far.trusted j) (not (has x.state.far.direct j)) (c.eligible j g))
 
-stamped : (plan : Plan) (good : ℕ → Bool) (low high : ℕ) (x : Listener) → HearsGoodCalls plan good low high x → (j : ℕ) → good j ≡ true
+stamped : {plan good low high x : _} → HearsGoodCalls plan good low high x → (j : ℕ) → good j ≡ true
     → HasStamp (stamp_of x.clock low) (stamp_of x.clock high) (stamp_taken x j)
-stamped plan good low high x c j g =
+stamped {low} {high} {x} c j g =
     let call : IsCalledBetween x.clock low high (x.came j) = c.called j g in
-    let moving : Moves x.clock = moves plan good low high x c in
+    let moving : Moves x.clock = moves c in
     record {
       stamp = stamp_of x.clock call.time;
-      is = expected_is_taken stamp_in x.state.far (expects_call x.me x.state x.stage) x.came j (expected plan good low high x c j g) (c.eligible j g) ∙ ap stamp_in call.came;
+      is = expected_is_taken stamp_in x.state.far (expects_call x.me x.state x.stage) x.came j (expected c j g) (c.eligible j g) ∙ ap stamp_in call.came;
       between = record {
         least = stamps_rise x.clock low call.time (stamp_of x.clock low) (stamp_of x.clock call.time) (stamp_of-is x.clock moving low) (stamp_of-is x.clock moving call.time) call.not_early;
         most = stamps_rise x.clock call.time high (stamp_of x.clock call.time) (stamp_of x.clock high) (stamp_of-is x.clock moving call.time) (stamp_of-is x.clock moving high) call.not_late;
@@ -82,33 +82,33 @@ pub record FindsMiddle (x : Listener) (low high : ℕ) : Type 0 where
   pub is : IsMiddle tick (present (map (stamp_taken x) (numbers 16)))
   pub between : IsBetween (stamp_of x.clock low) (stamp_of x.clock high) tick
 
-pub finds : (plan : Plan) (good : ℕ → Bool) (low high : ℕ) (x : Listener) → HearsGoodCalls plan good low high x → FindsMiddle x low high
-finds plan good low high x c =
-    let some = some_middle (stamp_taken x) good (numbers 16) (λ j g. ap is_some (stamped plan good low high x c j g).is) c.most in
+pub finds : {plan good low high x : _} → HearsGoodCalls plan good low high x → FindsMiddle x low high
+finds {good} {low} {high} {x} c =
+    let some = some_middle (stamp_taken x) good (numbers 16) (λ j g. ap is_some (stamped c j g).is) c.most in
     record {
       tick = some.0;
       kept = kept-is x c.listening c.a_stage.0 c.a_stage.1 ∙ ap (λ o. Some (unwrap_or o x.first)) some.1;
       is = some.2;
-      between = middle_within (stamp_taken x) good (stamp_of x.clock low) (stamp_of x.clock high) some.0 (numbers 16) (stamped plan good low high x c) c.most some.2;
+      between = middle_within (stamp_taken x) good (stamp_of x.clock low) (stamp_of x.clock high) (numbers 16) (stamped c) c.most some.2;
     }
 
 -- no good source is accused
-spares : (plan : Plan) (good : ℕ → Bool) (low high : ℕ) (x : Listener) → HearsGoodCalls plan good low high x → (j : ℕ) → good j ≡ true
+spares : {plan good low high x : _} → HearsGoodCalls plan good low high x → (j : ℕ) → good j ≡ true
     → has (state_after x).far.direct j ≡ false
 unfolding close_sync sync_outcome_of
-spares plan good low high x c j g =
+spares {low} {high} {x} c j g =
     let call : IsCalledBetween x.clock low high (x.came j) = c.called j g in
     let right : does_wrong (expects_call x.me x.state x.stage j) (x.came j) ≡ false =
-    ap (λ b. does_wrong b (x.came j)) (expected plan good low high x c j g) ∙ ap (does_wrong true) call.came in
+    ap (λ b. does_wrong b (x.came j)) (expected c j g) ∙ ap (does_wrong true) call.came in
     others_stay (has_evidence x.state.far (expects_call x.me x.state x.stage) x.came) x.state.far j (c.numbered j g)
     (right_is_no_evidence x.state.far (expects_call x.me x.state x.stage) x.came j right)
     ∙ not-true (has x.state.far.direct j) (and_second (has x.state.far.trusted j) (not (has x.state.far.direct j)) (c.eligible j g))
 
 pub middles-lie-among : MiddlesLieAmongGoodCalls
 middles-lie-among plan good low high x c =
-    let found : FindsMiddle x low high = finds plan good low high x c in
-    let from : IsNear plan x.clock low (stamp_of x.clock low) = stamp-near plan good low high x c low in
-    let to : IsNear plan x.clock high (stamp_of x.clock high) = stamp-near plan good low high x c high in
+    let found : FindsMiddle x low high = finds c in
+    let from : IsNear plan x.clock low (stamp_of x.clock low) = stamp-near c low in
+    let to : IsNear plan x.clock high (stamp_of x.clock high) = stamp-near c high in
     let first : 1 ≤ stamp_of x.clock low = from.some c.begun in
     let least : stamp_of x.clock low ≤ found.tick = found.between.least in
     let most : found.tick ≤ stamp_of x.clock high = found.between.most in
@@ -118,7 +118,7 @@ middles-lie-among plan good low high x c =
       kept = found.kept;
       not_early = omega (arith, from.reached, times_rise_to x.clock (stamp_of x.clock low) found.tick least);
       not_late = omega (arith, to.near last, times_rise_to x.clock found.tick (stamp_of x.clock high) most);
-      accuses_none = spares plan good low high x c;
+      accuses_none = spares c;
     }
 
 -- Two middles.
@@ -126,9 +126,9 @@ middles-lie-among plan good low high x c =
 near-pair : (eps g a b s t : ℕ) → a ≤ s → s ≤ a + g → b ≤ t → t ≤ b + g → a ≤ b + eps → b ≤ a + eps → AreNear (eps + g) s t
 near-pair eps g a b s t p q r u v w = record { above = omega arith; under = omega arith }
 
-both-near : (plan : Plan) (good : ℕ → Bool) (low high : ℕ) (x y : Listener) → HearNear plan good low high x y → (j : ℕ) → j < 16
+both-near : {plan good low high x y : _} → HearNear plan good low high x y → (j : ℕ) → j < 16
     → BothNear (plan.dmax - plan.dmin + longest_of plan) (time_of x.clock) (time_of y.clock) (stamp_taken x j) (stamp_taken y j)
-both-near plan good low high x y c j below = go (c.near j below)
+both-near {plan} {x} {y} c j below = go (c.near j below)
   where
     go : TakeNear (plan.dmax - plan.dmin) x y j
         → BothNear (plan.dmax - plan.dmin + longest_of plan) (time_of x.clock) (time_of y.clock) (stamp_taken x j) (stamp_taken y j)
@@ -136,8 +136,8 @@ both-near plan good low high x y c j below = go (c.near j below)
         subst (λ o. BothNear (plan.dmax - plan.dmin + longest_of plan) (time_of x.clock) (time_of y.clock) o (stamp_taken y j)) (sym none.0)
         (subst (λ o. BothNear (plan.dmax - plan.dmin + longest_of plan) (time_of x.clock) (time_of y.clock) None o) (sym none.1) tt)
     go (inr n) =
-        let mine : IsNear plan x.clock n.mine (stamp_of x.clock n.mine) = stamp-near plan good low high x c.mine n.mine in
-        let yours : IsNear plan y.clock n.yours (stamp_of y.clock n.yours) = stamp-near plan good low high y c.yours n.yours in
+        let mine : IsNear plan x.clock n.mine (stamp_of x.clock n.mine) = stamp-near c.mine n.mine in
+        let yours : IsNear plan y.clock n.yours (stamp_of y.clock n.yours) = stamp-near c.yours n.yours in
         subst (λ o. BothNear (plan.dmax - plan.dmin + longest_of plan) (time_of x.clock) (time_of y.clock) o (stamp_taken y j)) (sym n.mine_taken)
         (subst (λ o. BothNear (plan.dmax - plan.dmin + longest_of plan) (time_of x.clock) (time_of y.clock) (Some (stamp_of x.clock n.mine)) o) (sym n.yours_taken)
         (near-pair (plan.dmax - plan.dmin) (longest_of plan) n.mine n.yours (time_of x.clock (stamp_of x.clock n.mine)) (time_of y.clock (stamp_of y.clock n.yours))
@@ -145,14 +145,14 @@ both-near plan good low high x y c j below = go (c.near j below)
 
 pub middles-are-near : MiddlesAreNear
 middles-are-near plan good low high x y c k l is_k is_l =
-    let mine : FindsMiddle x low high = finds plan good low high x c.mine in
-    let yours : FindsMiddle y low high = finds plan good low high y c.yours in
+    let mine : FindsMiddle x low high = finds c.mine in
+    let yours : FindsMiddle y low high = finds c.yours in
     let same_k : mine.tick ≡ k = same_Some mine.tick k (sym mine.kept ∙ is_k) in
     let same_l : yours.tick ≡ l = same_Some yours.tick l (sym yours.kept ∙ is_l) in
     let near : AreNear (plan.dmax - plan.dmin + longest_of plan) (time_of x.clock k) (time_of y.clock l) =
-    middle_times_near (plan.dmax - plan.dmin + longest_of plan) (time_of x.clock) (time_of y.clock) (stamp_taken x) (stamp_taken y) k l
+    middle_times_near (plan.dmax - plan.dmin + longest_of plan) (stamp_taken x) (stamp_taken y)
     (record { keeps = λ a b le. times_rise_to x.clock a b le }) (record { keeps = λ a b le. times_rise_to y.clock a b le })
-    (both-near plan good low high x y c)
+    (both-near c)
     (subst (λ m. IsMiddle m (present (map (stamp_taken x) (numbers 16)))) same_k mine.is)
     (subst (λ m. IsMiddle m (present (map (stamp_taken y) (numbers 16)))) same_l yours.is) in
     (near.above, near.under)

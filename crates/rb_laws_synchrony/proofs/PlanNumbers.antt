@@ -61,8 +61,8 @@ pub record FourBounds (a x y v w p : ℕ) : Type 0 where
 four-bounds : (a x y v w p : ℕ) → a + max x y - min v w ≤ p → FourBounds a x y v w p
 four-bounds a x y v w p h = record { xv = omega arith; xw = omega arith; yv = omega arith; yw = omega arith }
 
-pub fits : (sizes : Sizes) (plan : Plan) → IsPlan plan → IsFeasible sizes plan → Fits plan (shortest_of plan) (drift_of plan) (f0_of sizes plan)
-fits sizes plan is feasible =
+pub fits : (sizes : Sizes) {plan : _} → IsPlan plan → IsFeasible sizes plan → Fits plan (shortest_of plan) (drift_of plan) (f0_of sizes plan)
+fits sizes {plan} is feasible =
     let none : Sides = record { left = pos 0; right = pos 0 } in
     let inside : SendsInside plan = sends_inside_all sizes plan is feasible in
     let u : ℕ = shortest_of plan in

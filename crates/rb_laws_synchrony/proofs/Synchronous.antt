@@ -2,7 +2,7 @@
 -- the frame, and in the sync slot how near the middles are that they keep.
 use Rattle.std.proofs.Common.{◌≡◌, ℕ, ◌+◌, ◌*◌, ◌≤◌, ◌<◌, Option, Some, ap, arith}
 use Rattle.rb_base.specs.{Nodes.Side, Nodes.Side.{Biu, Rmu}, Sizes.sync_slot_of}
-use Rattle.rb_rules.specs.{declared.plan.Plan.Plan, Clock.{Timeline, time_of}, Goodness.{Scenario, clock_of}, NodeState.NodeState, Plan.{f0_of, shortest_of}, Rounds.Moment, StandsFor.FrameTakes}
+use Rattle.rb_rules.specs.{declared.plan.Plan.Plan, Clock.time_of, Goodness.{Scenario, clock_of}, NodeState.NodeState, Plan.{f0_of, shortest_of}, Rounds.Moment, StandsFor.FrameTakes}
 use Rattle.rb_rules.proofs.Middles.{AreNear, IsBetween}
 use Rattle.rb_laws_agreement.proofs.Invariant.{IsGoodNode, Shared}
 use Rattle.rb_laws_synchrony.proofs.{PlanNumbers.{drift_of, eps_of}, StageMiddles.{NoneUnlike, tick_of}, Times.{Steady, steady}}
@@ -102,9 +102,9 @@ pub record Synchronous (sc : Scenario) (m : Moment) (s : Shared) (low : ℕ) : T
 -- ---- offsets
 
 -- the time of an offset if the frame's first tick comes from `low` on and within p
-pub at_offset : (u d : ℕ) (clock : Timeline) → Steady u d clock → (low p epoch offset tick : ℕ) → tick ≡ epoch + offset
+pub at_offset : {u d clock : _} → Steady u d clock → {low : ℕ} (p epoch offset : ℕ) {tick : ℕ} → tick ≡ epoch + offset
     → IsBetween low (low + p) (time_of clock epoch) → IsBetween (low + offset * u) (low + p + offset * (u + d)) (time_of clock tick)
-at_offset u d clock steady low p epoch offset tick e between =
+at_offset {clock} steady p epoch offset {tick} e between =
     let same : time_of clock tick ≡ time_of clock (epoch + offset) = ap (time_of clock) e in
     record {
       least = omega (arith, same, between.least, steady.not_early epoch offset);
@@ -112,9 +112,9 @@ at_offset u d clock steady low p epoch offset tick e between =
     }
 
 -- the tick `n` ticks after one between two times comes `n` shortest to `n` longest ticks later
-pub ticks_on : (u d : ℕ) (clock : Timeline) → Steady u d clock → (low high tick n later : ℕ) → later ≡ tick + n
+pub ticks_on : {u d clock : _} → Steady u d clock → {low high : ℕ} (tick n : ℕ) {later : ℕ} → later ≡ tick + n
     → IsBetween low high (time_of clock tick) → IsBetween (low + n * u) (high + n * (u + d)) (time_of clock later)
-ticks_on u d clock steady low high tick n later e between =
+ticks_on {clock} steady tick n {later} e between =
     let same : time_of clock later ≡ time_of clock (tick + n) = ap (time_of clock) e in
     record {
       least = omega (arith, same, between.least, steady.not_early tick n);
@@ -122,9 +122,9 @@ ticks_on u d clock steady low high tick n later e between =
     }
 
 -- ticks that come `n` ticks after ticks of near times have near times
-pub near_on : (u d : ℕ) (a b : Timeline) → Steady u d a → Steady u d b → (near k l n kn ln : ℕ) → kn ≡ k + n → ln ≡ l + n
+pub near_on : {u d a b : _} → Steady u d a → Steady u d b → {near : ℕ} (k l n : ℕ) {kn ln : ℕ} → kn ≡ k + n → ln ≡ l + n
     → AreNear near (time_of a k) (time_of b l) → AreNear (near + d * n) (time_of a kn) (time_of b ln)
-near_on u d a b steady_a steady_b near k l n kn ln e f close =
+near_on {a} {b} steady_a steady_b k l n {kn} {ln} e f close =
     let x : time_of a kn ≡ time_of a (k + n) = ap (time_of a) e in
     let y : time_of b ln ≡ time_of b (l + n) = ap (time_of b) f in
     record {

@@ -2,7 +2,7 @@
 use Rattle.std.proofs.{Common.{◌≡◌, ℕ, zero, suc, ◌+◌, ◌*◌, ◌<◌, ◌≤◌, Bool, true, false, List, [], ◌∷◌, length, inl, inr, if◌then◌else◌, subst, arith}, lemmas.Bool.cases_lt, lemmas.List.Elements.{All-head, All-tail}}
 use Rattle.std.specs.Prelude.{All}
 use Rattle.rb_base.specs.{Nodes.Side, declared.node.NodeName.NodeName, declared.values.Place.Place}
-use Rattle.rb_rules.specs.{declared.link.Rule.Rule, declared.plan.Plan.Plan, Clock.{Timeline, IsStamp, stamp_of, time_of}, Goodness.{Scenario, clock_of, clock_place, is_good}, Lawful.{IsDelay, IsLawful}, Links.{applies, delay_after, delay_of}, Plan.{f0_of, longest_of, shortest_of}}
+use Rattle.rb_rules.specs.{declared.link.Rule.Rule, Clock.{Timeline, IsStamp, stamp_of, time_of}, Goodness.{Scenario, clock_of, clock_place, is_good}, Lawful.{IsDelay, IsLawful}, Links.{applies, delay_after, delay_of}, Plan.{f0_of, longest_of, shortest_of}}
 use Rattle.rb_rules.proofs.{Drift.{HasLengths, drift, has_lengths, stamp_near, times_rise_strictly}, Slots.place-within, Stamps.{Moves, stamp_of-is, stamp_le}}
 use Rattle.rb_laws_agreement.proofs.Goodnesses.{good_counts}
 use Rattle.rb_laws_synchrony.proofs.PlanNumbers.{Fits, drift_of, fits}
@@ -16,9 +16,9 @@ pub record Steady (u d : ℕ) (clock : Timeline) : Type 0 where
   pub not_late : (tick n : ℕ) → time_of clock (tick + n) ≤ time_of clock tick + n * (u + d)
   pub stamped : (time tick : ℕ) → IsStamp clock time (suc tick) → time_of clock (suc tick) < time + (u + d)
 
-pub steady-clock : (plan : Plan) (f : ℕ) (clock : Timeline) → Fits plan (shortest_of plan) (drift_of plan) f → HasLengths (shortest_of plan) (longest_of plan) clock
+pub steady-clock : {plan f clock : _} → Fits plan (shortest_of plan) (drift_of plan) f → HasLengths (shortest_of plan) (longest_of plan) clock
     → Steady (shortest_of plan) (drift_of plan) clock
-steady-clock plan f clock fit lengths =
+steady-clock {plan} {clock} fit lengths =
     let u : ℕ = shortest_of plan in
     let d : ℕ = drift_of plan in
     let some : 1 ≤ u = fit.some in
@@ -35,14 +35,14 @@ steady-clock plan f clock fit lengths =
 abbrev pub plan_fits : Scenario → Type 0
 plan_fits sc = Fits sc.plan (shortest_of sc.plan) (drift_of sc.plan) (f0_of sc.sizes sc.plan)
 
-pub lawful_fits : (sc : Scenario) → IsLawful sc → plan_fits sc
-lawful_fits sc law = fits sc.sizes sc.plan law.plan law.feasible
+pub lawful_fits : {sc : _} → IsLawful sc → plan_fits sc
+lawful_fits {sc} law = fits sc.sizes law.plan law.feasible
 
 -- the clock of a good node is steady
-pub steady : (sc : Scenario) → IsLawful sc → (me : Side) (i frame slot : ℕ) → is_good sc me i frame slot ≡ true
+pub steady : {sc : _} → IsLawful sc → (me : Side) (i frame slot : ℕ) → is_good sc me i frame slot ≡ true
     → Steady (shortest_of sc.plan) (drift_of sc.plan) (clock_of sc me i)
-steady sc law me i frame slot good =
-    steady-clock sc.plan (f0_of sc.sizes sc.plan) (clock_of sc me i) (lawful_fits sc law)
+steady {sc} law me i frame slot good =
+    steady-clock (lawful_fits law)
     (has_lengths (shortest_of sc.plan) (longest_of sc.plan) (clock_of sc me i)
     (law.clocks (clock_place sc.sizes me i) (record { start = 0; segments = [] })
     (place-within sc.sizes me i (length sc.clocks) law.one_clock_each (good_counts sc me i frame slot good))))
@@ -69,8 +69,8 @@ pub record IsStampTime (clock : Timeline) (g time stamp : ℕ) : Type 0 where
   pub reached : time ≤ time_of clock stamp
   pub near : 1 ≤ stamp → time_of clock stamp ≤ time + g
 
-pub stamp_time : (u d : ℕ) (clock : Timeline) → Steady u d clock → (time : ℕ) → IsStampTime clock (u + d) time (stamp_of clock time)
-stamp_time u d clock steady time = go (stamp_of clock time) (stamp_of-is clock steady.moves time)
+pub stamp_time : {u d clock : _} → Steady u d clock → (time : ℕ) → IsStampTime clock (u + d) time (stamp_of clock time)
+stamp_time {u} {d} {clock} steady time = go (stamp_of clock time) (stamp_of-is clock steady.moves time)
   where
     go : (stamp : ℕ) → IsStamp clock time stamp → IsStampTime clock (u + d) time stamp
     go zero is = record { reached = is.reached; near = λ some. absurd (omega arith) }
@@ -79,18 +79,18 @@ stamp_time u d clock steady time = go (stamp_of clock time) (stamp_of-is clock s
 -- ---- delays
 
 -- each delay is within the plan's bounds
-after-within : (sc : Scenario) (plan : Plan) (rules : List Rule) (delay : ℕ) (from to : NodeName) (place : Place) → IsDelay plan delay
+after-within : (sc : Scenario) {plan : _} (rules : List Rule) {delay : ℕ} (from to : NodeName) (place : Place) → IsDelay plan delay
     → All (λ r. IsDelay plan r.delay) rules → IsDelay plan (delay_after delay rules from to place)
-after-within sc plan [] delay from to place is all = is
-after-within sc plan (r ∷ rs) delay from to place is all =
-    after-within sc plan rs (if applies r from to place then r.delay else delay) from to place (go (applies r from to place))
+after-within sc [] from to place is all = is
+after-within sc {plan} (r ∷ rs) {delay} from to place is all =
+    after-within sc rs from to place (go (applies r from to place))
     (All-tail (λ r. IsDelay plan r.delay) r rs all)
   where
     go : (b : Bool) → IsDelay plan (if b then r.delay else delay)
     go true = All-head (λ r. IsDelay plan r.delay) r rs all
     go false = is
 
-pub delay_within : (sc : Scenario) → IsLawful sc → (from to : NodeName) (place : Place) → IsDelay sc.plan (delay_of sc.delays from to place)
+pub delay_within : {sc : _} → IsLawful sc → (from to : NodeName) (place : Place) → IsDelay sc.plan (delay_of sc.delays from to place)
 unfolding delay_of
-delay_within sc law from to place =
-    after-within sc sc.plan sc.delays.rules sc.delays.base from to place law.base_delay (λ k d lt. (law.rules k d lt).delay)
+delay_within {sc} law from to place =
+    after-within sc sc.delays.rules from to place law.base_delay (λ k d lt. (law.rules k d lt).delay)

@@ -40,7 +40,7 @@ end-over : (sc : Scenario) (w : World) → w.book.ended ≡ false → (next_worl
 end-over sc w going = ap (λ e. (elim e as (λ _. Book) [ true ↦ w.book | false ↦ record w.book { given = w.book.given ++ Record.Ended ∷ []; ended = true } ]).ended) going
 
 rest-over : (sc : Scenario) (n : ℕ) (y : World) (o : Option Record) → y.book.ended ≡ true → (settle_rest sc ByItself n y o).book.ended ≡ true
-rest-over sc n y None e = ap (λ (x : World). x.book.ended) (settle-still sc ByItself n y (ended-still sc ByItself y e)) ∙ e
+rest-over sc n y None e = ap (λ (x : World). x.book.ended) (settle-still sc ByItself n (ended-still sc ByItself y e)) ∙ e
 rest-over sc n y (Some r) e = e
 
 settle-over : (sc : Scenario) (n : ℕ) (w y : World) → settle_next sc ByItself w ≡ y → y.book.ended ≡ true → (settle sc ByItself (suc n) w).book.ended ≡ true
@@ -66,7 +66,7 @@ begin-settles sc n w frame shape going up nobody =
     let begun : List Begun = present (in_order (told_by_good sc frame 0 (λ s. begun_for frame s.begun) w.sites)) in
     let given : FrameGiven sc frame begun w.book y.book = frame-given sc frame begun w.book going in
     let none : record_since w y ≡ None =
-    none-past w.book.given y.book.given (given.given ∙ ap (λ bs. w.book.given ++ frame_records frame bs) (none-begun sc frame w.sites shape nobody) ∙ append-nil w.book.given) in
+    none-past w.book.given (given.given ∙ ap (λ bs. w.book.given ++ frame_records frame bs) (none-begun sc frame w.sites shape nobody) ∙ append-nil w.book.given) in
     ap (λ next. (settle_rest sc ByItself (suc n) next (record_since w next)).book.ended) next ∙ ap (λ o. (settle_rest sc ByItself (suc n) y o).book.ended) none
     ∙ by y given.going given.next (frame == sc.frames) refl
   where

@@ -167,4 +167,4 @@ abbrev pub AreSound : Each Site → Type 0
 AreSound sites = (me : Side) (i : ℕ) (s : Site) → slice_get (of_kind me sites) i ≡ Some s → IsSound s
 
 pub run-sound : (sc : Scenario) (n : ℕ) → IsLawful sc → IsListed sc → AreSound (first_run sc n).sites
-run-sound sc n lawful listed me i s there = record { sized = run-sized sc n listed me i s there; idle = rests sc n me i s there }
+run-sound sc n lawful listed me i s there = record { sized = run-sized n listed me i s there; idle = rests sc n me i s there }

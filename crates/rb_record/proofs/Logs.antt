@@ -28,7 +28,7 @@ happens-by sc ports me i t s (Tick k) lawful ready is known = by (wants_in sc me
   where
     by : (slot : Option ℕ) → MayHappen (count_of (other me) sc.sizes) (kind.Tick (word_of sc ports i slot) (is_some slot))
     by None = refl
-    by (Some slot) = word_fits sc ports i slot (role_of sc.sizes slot) lawful
+    by (Some slot) = word_fits ports i slot (role_of sc.sizes slot) lawful
 happens-by sc ports me i t s (Arrival place c) lawful ready is known =
     let size = sized-at place c s.coming ready.0 is.sized in (known-at sc.sizes me place c s.coming ready.0 known, size.0, size.1)
 

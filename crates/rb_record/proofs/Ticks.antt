@@ -117,8 +117,8 @@ at-site sc w e name is same =
 pub tick-fits : (sc : Scenario) (w : World) (d : Due) → IsLawful sc → IsReached sc w → slice_get (due_of sc w) 0 ≡ Some d → (due : IsDue w d) → (a : Timed) → due.s.ahead ≡ Some a → a.time ≡ due.t
     → (due.s.core.had ≤ a.tick) × (a.tick < 2 ^ 31)
 tick-fits sc w d lawful reached found due a ahead time =
-    let going = due-going sc w 0 d found in
-    let fits : HasTicksLeft sc w = ticks-left sc lawful w (subst (AnyWorld sc (nodes_at sc)) (sym reached.is) (any sc lawful reached.choices)) going.0 in
+    let going = due-going sc w 0 found in
+    let fits : HasTicksLeft sc w = ticks-left lawful (subst (AnyWorld sc (nodes_at sc)) (sym reached.is) (any lawful reached.choices)) going.0 in
     fits.left d.side d.node due.s a due.there ahead (subst (λ t. AllPend t w.sites) (sym time) (all-pend w due.t due.first))
 
 -- an arrival that is due is stamped with one
@@ -129,7 +129,7 @@ arrival-fits sc w d lawful reached found due runs time is =
     let counts : length (of_kind d.side w.sites) ≡ count_of d.side sc.sizes =
     subst (λ (x : World). length (of_kind d.side x.sites) ≡ count_of d.side sc.sizes) (sym reached.is) ((worlds-known sc reached.choices).counts d.side) in
     let lt : d.node < length (of_kind d.side w.sites) = slice_get_within (of_kind d.side w.sites) d.node due.s due.there in
-    let moves = node-moves sc lawful d.side d.node (omega (arith, counts, lt)) in
+    let moves = node-moves lawful d.side d.node (omega (arith, counts, lt)) in
     let later = h.later in
     let small = h.small in
     let le = stamp_le (clock_of sc d.side d.node) time (stamp_of (clock_of sc d.side d.node) time) h.k (stamp_of-is (clock_of sc d.side d.node) moves time) (omega (arith, later, is)) in

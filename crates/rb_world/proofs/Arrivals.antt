@@ -83,8 +83,8 @@ times-at w t me i s first there = by me there
     nodes = every-unflat (λ u. t ≤ u) times_of (in_order w.sites) first
 
     by : (me : Side) → slice_get (of_kind me w.sites) i ≡ Some s → Every (λ u. t ≤ u) (times_of s)
-    by Biu there = every-at (λ s. Every (λ u. t ≤ u) (times_of s)) w.sites.bius i s there (every-front (λ s. Every (λ u. t ≤ u) (times_of s)) w.sites.bius w.sites.rmus nodes)
-    by Rmu there = every-at (λ s. Every (λ u. t ≤ u) (times_of s)) w.sites.rmus i s there (every-back (λ s. Every (λ u. t ≤ u) (times_of s)) w.sites.bius w.sites.rmus nodes)
+    by Biu there = every-at (λ s. Every (λ u. t ≤ u) (times_of s)) w.sites.bius i there (every-front (λ s. Every (λ u. t ≤ u) (times_of s)) w.sites.bius w.sites.rmus nodes)
+    by Rmu there = every-at (λ s. Every (λ u. t ≤ u) (times_of s)) w.sites.rmus i there (every-back (λ s. Every (λ u. t ≤ u) (times_of s)) w.sites.bius w.sites.rmus nodes)
 
 tick-time : (t : ℕ) (o : Option Timed) (coming : List Coming) (a : Timed) → o ≡ Some a → Every (λ u. t ≤ u) (option_to_list (option_map (λ (a : Timed). a.time) o) ++ map (λ (c : Coming). c.time) coming) → t ≤ a.time
 tick-time t None coming a e all = absurd (let never : ◌≡◌ {A = Option Timed} None (Some a) = e in cc)
@@ -100,7 +100,7 @@ arrival-ready sc kept scene time name event w place d me i x may shown named =
     let found = has-item (of_kind me kept) i inside.1 in
     let node : IsNode sc me i found.item s = (may.nodes me).each i found.item s found.is due.there in
     let runs : s.runs ≡ true = is-up s node.awaits k.place due.ready.0 s.runs refl in
-    let moves : Moves (clock_of sc me i) = node-moves sc may.lawful me i inside.0 in
+    let moves : Moves (clock_of sc me i) = node-moves may.lawful me i inside.0 in
     let at : x.time ≡ due.t = due.ready.1 in
     let tick : HasTick sc due.t me i =
     reached-in-time sc w may.lawful may.reached place (record { side = me; node = i; pending = Arrival k.place x }) (may.found ∙ ap (λ d. Some d) k.is) due runs in
@@ -113,7 +113,7 @@ arrival-ready sc kept scene time name event w place d me i x may shown named =
       kept_there = found.is;
       within = inside.0;
       node = node;
-      source = every-stands (λ (c : Coming). c.from < count_of (other me) sc.sizes) k.place x s.coming due.ready.0
+      source = every-stands (λ (c : Coming). c.from < count_of (other me) sc.sizes) k.place s.coming due.ready.0
           ((worlds-known sc may.reached.choices).known me i s (subst (λ (v : World). slice_get (of_kind me v.sites) i ≡ Some s) may.reached.is due.there));
       runs = runs;
       moves = moves;

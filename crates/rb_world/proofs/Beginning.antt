@@ -20,7 +20,7 @@ first-here sc lawful me =
     let st : NodeState = first_state sc.sizes me in
     let zero_first : first_of sc.sizes sc.plan me st 0 ≡ 0 * sc.plan.l = first-same sc.sizes sc.plan me st 0 (omega arith) in
     let at : IsTickIn sc.sizes sc.plan me st 0 0 = record { from = omega arith; to = omega arith } in
-    here-is sc.sizes sc.plan me st 0 0 (has-room sc lawful).ticks (omega arith) at ∙ exact-numbered sc.sizes sc.plan me st 0 (omega arith)
+    here-is me st (has-room lawful).ticks (omega arith) at ∙ exact-numbered sc.sizes sc.plan me st 0 (omega arith)
 
 first-fits : (sc : Scenario) → IsLawful sc → (me : Side) → SpanFits (span_of (first_state sc.sizes me) (exact_window sc.plan 0))
 first-fits sc lawful me = record { stage = omega arith; first = omega arith }

@@ -160,7 +160,7 @@ may-tick-behind sc kept scene until w v me i a site lanes h sweeps =
     let there : slice_get (of_kind me x.sites) i ≡ Some (bare sc me i a s) = changed-there me i (bare sc me i a) v s h.first.there in
     let same : moved me i (without_waiting (Tick a.tick)) (alone sc me i a v) ≡ x =
     ap (λ (sites : Each Site). record v { sites = sites }) (at-twice me i (without_waiting (Tick a.tick)) (swept sc me i (a.time + 1)) v.sites) in
-    let had = act-had sc v.ports me i a z now in
+    let had = act-had v.ports now in
     let small = now.small in
     subst (λ (y : World). MayTick sc me i a.tick site after y (bare sc me i a s)) (sym same) (record {
       at = record {
@@ -339,13 +339,13 @@ behind-tick sc kept scene until w v me i a h side j y there =
     behind-sites =
         let d : Due = record { side = me; node = i; pending = Tick a.tick } in
         settle-sites sc ByAnEvent 2 (happens sc (alone sc me i a v) d)
-        ∙ ap (λ (y : World). y.sites) (happens-is sc (alone sc me i a v) d z (changed-there me i (swept sc me i (a.time + 1)) v s h.first.there))
+        ∙ ap (λ (y : World). y.sites) (happens-is sc (alone sc me i a v) d (changed-there me i (swept sc me i (a.time + 1)) v s h.first.there))
 
     now : TicksNow sc me i a z
     now = ticks-there sc kept scene until w v me i a h (node-of sc kept scene until w v h.trails me i s h.first.there).within
 
     acted : Later a.time (after_act sc v.ports me i x z)
-    acted = act-later sc h.trails.lawful v.ports me i a z now (all-every (λ c. a.time + 1 ≤ c.time) z.coming (sweeps-keep sc me i (a.time + 1) s).left)
+    acted = act-later h.trails.lawful v.ports now (all-every (λ c. a.time + 1 ≤ c.time) z.coming (sweeps-keep sc me i (a.time + 1) s).left)
 
     own : (q : Site) → y.ahead ≡ q.ahead → q ≡ after_act sc v.ports me i x z → IsBehind sc me i (until_tick me i a.time me i) y
     own q ahead is =

@@ -15,10 +15,10 @@ abbrev Ends : List Record → Book → Type 0
 Ends given x = x.ended ≡ is_last (slice_get x.given (length given))
 
 one-last : (given : List Record) (r : Record) → is_last (slice_get (given ++ r ∷ []) (length given)) ≡ is_last (Some r)
-one-last given r = ap is_last (last-one given (given ++ r ∷ []) r refl)
+one-last given r = ap is_last (last-one given r refl)
 
 none-last : (given : List Record) → is_last (slice_get (given ++ []) (length given)) ≡ false
-none-last given = ap is_last (none-past given (given ++ []) (append-nil given))
+none-last given = ap is_last (none-past given (append-nil given))
 
 guarded-ends : (b x : Book) (e : Bool) → e ≡ false → Ends b.given x → Ends b.given (elim e as (λ _. Book) [ true ↦ b | false ↦ x ])
 guarded-ends b x true running h = not-both true refl running
@@ -68,7 +68,7 @@ next-ends sc way w going = by (comes_so sc way w.book.upcoming && is_complete sc
   where
     by : (b : Bool) → Ends w.book.given (elim b as (λ _. World) [ true ↦ record w { book = book_with sc w.sites w.book w.book.upcoming } | false ↦ w ]).book
     by true = book-ends sc w.sites w.book w.book.upcoming going
-    by false = going ∙ sym (ap is_last (none-past w.book.given w.book.given refl))
+    by false = going ∙ sym (ap is_last (none-past w.book.given refl))
 
 -- the run has ended if and only if the last turn is the last record of a run
 abbrev pub EndsWell : World → Type 0

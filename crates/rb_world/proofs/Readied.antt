@@ -38,7 +38,7 @@ got-known sc me i until s =
     subst (λ (z : Site). All (Known sc me) z.got) (sym (sweep-takes sc me i until s p e lt))
     (rest (every-without (Known sc me) p.place s.coming coming)
     (All-append (Known sc me) s.got (p.coming ∷ []) got
-    (All-cons (Known sc me) p.coming [] (every-stands (Known sc me) p.place p.coming s.coming (first-stands s.coming p e) coming) (All-nil (Known sc me)))))) s
+    (All-cons (Known sc me) p.coming [] (every-stands (Known sc me) p.place s.coming (first-stands s.coming p e) coming) (All-nil (Known sc me)))))) s
 
 -- What is kept of it stands for the node as it was swept, but with other stamps.
 
@@ -105,7 +105,7 @@ readied sc kept scene until w v me i a before site lanes h there up ends =
       from,
       let time = its.time in
           let at : c.time ≤ time_of (clock_of sc me i) a.tick = omega (arith, due, time) in
-          let stamp = stamp_to (clock_of sc me i) (node-moves sc h.trails.lawful me i n.within) c.time a.tick at in
+          let stamp = stamp_to (clock_of sc me i) (node-moves h.trails.lawful me i n.within) c.time a.tick at in
           let tick = its.small in
           omega (arith, stamp, tick),
     )) s.coming coming) in

@@ -42,7 +42,7 @@ tick-of sc kept scene time name event w place d me i word wanted may shown named
 -- the event that is due in a world that some choices lead to
 pub due-reached : (sc : Scenario) (w : World) (place : ℕ) (d : Due) → IsReached sc w → slice_get (due_of sc w) place ≡ Some d → IsDue w d
 due-reached sc w place d reached found =
-    due-is sc w place d (record { known = subst (λ (v : World). (me : Side) (i : ℕ) (s : Site) → slice_get (of_kind me v.sites) i ≡ Some s → Every (λ c. c.from < count_of (other me) sc.sizes) s.coming) (sym reached.is) (worlds-known sc reached.choices).known }) found
+    due-is place (record { known = subst (λ (v : World). (me : Side) (i : ℕ) (s : Site) → slice_get (of_kind me v.sites) i ≡ Some s → Every (λ c. c.from < count_of (other me) sc.sizes) s.coming) (sym reached.is) (worlds-known sc reached.choices).known }) found
 
 -- the node of a pending tick runs, and the tick is its next busy one
 pub next-due : (sc : Scenario) (me : Side) (i k : ℕ) (s : Site) (a : Timed) → Awaits sc me i s → s.ahead ≡ Some a → a.tick ≡ k → (s.runs ≡ true) × (next_tick sc.sizes sc.plan me i s.core ≡ Some k)

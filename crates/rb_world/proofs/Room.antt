@@ -21,8 +21,8 @@ unfolding pass_and_tick
 taken-had sc lawful choices me i k s x takes =
     let w : World = world_after sc choices in
     let d : Due = record { side = me; node = i; pending = Tick k } in
-    let due : IsDue w d = events-due sc choices takes.place d takes.is_due in
-    let left : HasTicksLeft sc w = ticks-left sc lawful w (any sc lawful choices) (due-going sc w takes.place d takes.is_due).0 in
+    let due : IsDue w d = events-due sc choices takes.place takes.is_due in
+    let left : HasTicksLeft sc w = ticks-left lawful (any lawful choices) (due-going sc w takes.place takes.is_due).0 in
     let ready = due.ready in
     let a = ready.0 in
     let room = left.left me i due.s a due.there ready.1.0 (subst (λ t. AllPend t w.sites) (sym ready.1.1.1.0) (all-pend w due.t due.first)) in

@@ -16,7 +16,7 @@ use Rattle.rb_laws_sweeps.proofs.{ReadyFirst.{Begins, ReadyFirst, ready-first}, 
 from-times : (until : ℕ) (s : Site) → Every (λ u. until ≤ u) (times_of s) → NoneBefore until s
 from-times until s all = record {
   coming = every-all (λ c. until ≤ c.time) s.coming (all-after until s.ahead s.coming all);
-  tick = λ a e. tick-after until s.ahead a s.coming e all;
+  tick = λ a e. tick-after until s.ahead s.coming e all;
 }
 
 every-later : (t until : ℕ) (us : List ℕ) → until ≤ t → Every (λ u. t ≤ u) us → Every (λ u. until ≤ u) us
@@ -141,7 +141,7 @@ what-next sizes me i lane s t name event few holds head shown = by (slice_get (r
     by None e = absurd (let never : ◌≡◌ {A = Option Event} None (Some event) = sym (ap (option_map (event_with name)) e) ∙ shown in cc)
     by (Some c) e =
         which c e (same_Some (event_with name c) event (sym (ap (option_map (event_with name)) e) ∙ shown))
-        (ready-first sizes t me i s (all-every (λ c. c.from < count_of (other me) sizes) s.coming holds.senders) (all-after t s.ahead s.coming all))
+        (ready-first sizes t i s (all-every (λ c. c.from < count_of (other me) sizes) s.coming holds.senders) (all-after t s.ahead s.coming all))
 
 -- Something is ready if a time is the least.
 
@@ -191,4 +191,4 @@ some-ready sizes me i lane s t few holds head = by (ready_of lane) refl
     by (c ∷ cs) e = omega arith
     by [] e =
         absurd (none (ready-there sizes me i lane s t few holds head ∙ ap (map (due_with me i s)) e)
-        (ready-first sizes t me i s (all-every (λ c. c.from < count_of (other me) sizes) s.coming holds.senders) (all-after t s.ahead s.coming all)))
+        (ready-first sizes t i s (all-every (λ c. c.from < count_of (other me) sizes) s.coming holds.senders) (all-after t s.ahead s.coming all)))

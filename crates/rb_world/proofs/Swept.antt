@@ -81,7 +81,7 @@ come-node sc me i until place site new s c h number stands =
     let passed : Core = pass_to stamp s.core in
     let next : next_tick sc.sizes sc.plan me i (arrive sc.sizes me passed c.from c.bytes) ≡ next_tick sc.sizes sc.plan me i s.core =
     arrive-next sc.sizes sc.plan me i passed c.from c.bytes
-    ∙ passed-same sc me i stamp s.core (λ k e. stamp_to (clock_of sc me i) (node-moves sc h.lawful me i h.within) c.time k (comes-before sc me i until place site s c h k e)) in
+    ∙ passed-same sc me i stamp s.core (λ k e. stamp_to (clock_of sc me i) (node-moves h.lawful me i h.within) c.time k (comes-before sc me i until place site s c h k e)) in
     record {
       number = number;
       site = stands;

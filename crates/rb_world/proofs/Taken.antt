@@ -70,7 +70,7 @@ arrival-taken sizes me i until lanes new sites s time event c h is = elim (which
         is = next.is ∙ ap Some placed;
         before = subst (λ (x : Coming). x.time < until) same (omega (arith, at, before));
         sender = subst (λ (x : Coming). x.from < count_of (other me) sizes) same
-            (every-stands (λ x. x.from < count_of (other me) sizes) p.place p.coming s.coming (first-stands s.coming p next.is) (all-every (λ x. x.from < count_of (other me) sizes) s.coming held.senders));
+            (every-stands (λ x. x.from < count_of (other me) sizes) p.place s.coming (first-stands s.coming p next.is) (all-every (λ x. x.from < count_of (other me) sizes) s.coming held.senders));
         holds = left sizes me i until lanes new sites s time event (without_waiting (Arrival p.place c)) h next.left;
       }
   | inr next ↦ absurd (let never : ◌≡◌ {A = Option Coming} None (Some c) = sym next.shown ∙ is in cc)

@@ -57,7 +57,7 @@ may-tick-with sc kept scene until w v me i a core site lanes h r =
     let x : World = moved me i change v in
     let around : Surrounds sc after x = pends-more sc scene lanes v me i change (with-pends sc me i a core) h.trails.surrounds held r.rooms in
     let there : slice_get (of_kind me x.sites) i ≡ Some (change s) = changed-there me i change v s h.first.there in
-    let had = act-had sc v.ports me i a z now in
+    let had = act-had v.ports now in
     let small = now.small in
     record {
       at = record {

@@ -55,7 +55,7 @@ wants-sent : (sizes : Sizes) (plan : Plan) (i : ℕ) (st : NodeState) (slot stag
 wants-sent sizes plan i st slot stage word s e = by ((s.message.stage == 1) && nat_lt s.message.slot (first_diagnosis_of Biu sizes)) refl
   where
     place : HasPlace s.message slot stage
-    place = sent-place sizes plan Rmu i st slot stage word s e
+    place = sent-place sizes plan Rmu i st slot stage word e
 
     by : (b : Bool) → ((s.message.stage == 1) && nat_lt s.message.slot (first_diagnosis_of Biu sizes)) ≡ b
         → (elim b as (λ _. Option ℕ) [ true ↦ Some s.message.slot | false ↦ None ]) ≡ None

@@ -11,7 +11,7 @@ returns c = λ sc hands lawful n together. (next sc hands lawful n together, ove
         → (moment sc hands n).window + 1 < stages_in sc.sizes → CloseInOrder sc (moment sc hands n) (moment sc hands (n + 1))
     next sc hands lawful n together below =
         let e : suc n ≡ n + 1 = omega arith in
-        subst (λ k. CloseInOrder sc (moment sc hands n) (moment sc hands k)) e (next-in-order sc hands lawful n together below)
+        subst (λ k. CloseInOrder sc (moment sc hands n) (moment sc hands k)) e (next-in-order hands lawful n together below)
 
     over : (sc : Scenario) (hands : List HandIn) → IsLawful sc → (n : ℕ) → HaveBegunTogether sc (moment sc hands n)
         → (moment sc hands n).window + 1 ≡ stages_in sc.sizes → HaveBegunAFrame sc (moment sc hands n) (moment sc hands (n + 3))
@@ -19,4 +19,4 @@ returns c = λ sc hands lawful n together. (next sc hands lawful n together, ove
     over sc hands lawful n together last =
         let e : suc (suc (suc n)) ≡ n + 3 = omega arith in
         subst (λ k. HaveBegunAFrame sc (moment sc hands n) (moment sc hands k) → CloseInOrder sc (moment sc hands n) (moment sc hands k)) e
-        (turn-in-order sc hands lawful n together last)
+        (turn-in-order hands lawful n together last)
